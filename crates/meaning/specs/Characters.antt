@@ -38,7 +38,7 @@ pub record Frame : Type 0 where
   pub longer : Bool
   pub parity : Bool
 
-unfoldable pub closed : Line → Frame
+unfoldable pub closed : Line → Frame  -- 01, "An open frame is closed"
 closed l = record { bytes = l .kept; sum = l .sum; longer = l .longer; parity = l .parity }
 
 -- 01, "Characters become frames": the frame of characters that came without a parity fault
