@@ -92,6 +92,8 @@ class Session:
         self.queued = 0
         # Ticks since the last character.
         self.waited = 0
+        # Whether the request at hand should be wrong in more than one way.
+        self.troubled = False
 
     # Aim.
 
@@ -103,7 +105,7 @@ class Session:
 
     def code(self, number, right=0.88):
         """A code's value, or now and then another one."""
-        if self.chance(right):
+        if self.chance(0.4 if self.troubled else right):
             return self.codes[number]
         return self.rng.choice((self.rng.choice(self.codes), 0x55, 0x00,
                                 self.codes[number] ^ 1, self.rng.randrange(256)))
@@ -118,6 +120,8 @@ class Session:
     def place(self, field):
         """Offset and count within a field, at its end, and now and then beyond."""
         rng = self.rng
+        if self.troubled:
+            return rng.choice((0, 15, 16, 128, 255)), rng.choice((0, 1, 17, 128, 129, 255))
         size = 16 * blocks(self.fields[field]) if field < len(self.fields) else 16
         offset = rng.randrange(size)
         choice = rng.random()
@@ -141,7 +145,7 @@ class Session:
 
     def position(self):
         limit = 1 << self.bits
-        choice = self.rng.random()
+        choice = self.rng.uniform(0.7, 1) if self.troubled else self.rng.random()
         if choice < 0.75:
             return self.rng.randrange(limit)
         if choice < 0.85:
@@ -297,10 +301,10 @@ class Session:
 
     def note_fault(self):
         choice = self.rng.random()
-        if choice < 0.06:
+        if choice < 0.08:
             code = self.rng.choice((0x22, 0x24))
             self.locked = True
-        elif choice < 0.14:
+        elif choice < 0.16:
             code = 0x00
         elif self.wide_faults:
             code = self.rng.randrange(256)
@@ -409,6 +413,9 @@ class Session:
             command = 0x50
         if command in (0x4A, 0x4B, 0x4C) and not self.fields and self.chance(0.8):
             command = 0x4D
+        if self.locked and self.chance(0.25):
+            command = rng.choice((0x42, 0x43, 0x53))
+        self.troubled = self.chance(0.06)
         data = self.request_data(command)
         if self.chance(0.015):
             command = rng.choice(UNKNOWN)
@@ -423,6 +430,8 @@ class Session:
             choice = rng.random()
             if choice < 0.25:
                 parity_at = rng.randrange(len(bytes_sent))
+                if self.chance(0.3):
+                    bytes_sent = bytes_sent[:-1] + rng.randbytes(1)
             elif choice < 0.40:
                 split_at = rng.randrange(1, len(bytes_sent))
             else:
@@ -434,10 +443,10 @@ class Session:
     def long_frame(self, length):
         """A frame of this many bytes, of any command, its checksum mostly right."""
         rng = self.rng
-        head = bytes((self.address_byte(), rng.choice(COMMANDS + (0x44, 0xC2))))
+        head = bytes((self.address_byte(), rng.choice(COMMANDS if self.chance(0.5) else UNKNOWN)))
         body = head + rng.randbytes(length - 3)
         data = sealed(body) if self.chance(0.8) else body + rng.randbytes(1)
-        self.frame(data, rng.randrange(length) if self.chance(0.12) else -1)
+        self.frame(data, rng.randrange(length) if self.chance(0.2) else -1)
         self.finish_frame()
 
     def full_store(self):
@@ -445,9 +454,34 @@ class Session:
         large = [n for n, status in enumerate(self.fields) if blocks(status) == 8]
         field = self.rng.choice(large) if large else 0
         status = self.fields[field] if self.fields else 0
-        data = bytes((field, 0, 128, self.codes[status >> 4 & 3])) + self.rng.randbytes(128)
-        self.frame(sealed(bytes((0x40 + self.address, 0x4B)) + data))
+        head = bytes((field, 0, 128, self.codes[status >> 4 & 3]))
+        self.send(0x4B, head + self.rng.randbytes(128))
+
+    def send(self, command, data):
+        """A request of the board's own, whole."""
+        if self.frame(sealed(bytes((0x40 + self.address, command)) + data)):
+            self.note_effect(command, data)
         self.finish_frame()
+
+    def reuse(self):
+        """Fills the last field, gives blocks back, has them granted again and reads them."""
+        rng = self.rng
+        if not self.fields:
+            return
+        field = len(self.fields) - 1
+        stored = self.fields[field]
+        code = self.codes[stored >> 4 & 3]
+        size = 16 * blocks(stored)
+        if not stored & 0x40:
+            stored |= 0x40
+            self.send(0x4D, bytes((field, stored, code)))
+        self.send(0x4B, bytes((field, 0, size, code)) + rng.randbytes(size))
+        if self.chance(0.5):
+            self.send(0x4D, bytes((field, 0x00, code)))
+        else:
+            self.send(0x4D, bytes((field, stored & ~7 | rng.randint(0, stored & 7), code)))
+        self.send(0x4D, bytes((field, stored, code)))
+        self.send(0x4A, bytes((field, 0, size, code)))
 
     def step_back(self):
         """The clock stepped back by a tick or a few."""
@@ -472,6 +506,8 @@ def session_tape(rng, weights, damage, requests, small=False, wide=False):
     session = Session(rng, choose_plate(rng, small), weights, damage, choose_tick(rng), wide)
     for _ in range(requests):
         session.request()
+        if session.chance(0.02):
+            session.reuse()
     return session.tape.bytes()
 
 
@@ -481,10 +517,7 @@ def crowded_tape(rng):
     session = Session(rng, plate, MEMORY, 0.02, choose_tick(rng))
     for field in range(session.total + 1):
         status = 0xC0 | rng.choice((0x00, 0x08, 0x10, 0x28, 0x30))
-        data = bytes((field, status, session.codes[status >> 4 & 3]))
-        if session.frame(sealed(bytes((0x40 + session.address, 0x4D)) + data)):
-            session.note_effect(0x4D, data)
-        session.finish_frame()
+        session.send(0x4D, bytes((field, status, session.codes[status >> 4 & 3])))
     for _ in range(rng.randint(40, 120)):
         session.request()
     return session.tape.bytes()
