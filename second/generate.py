@@ -609,7 +609,8 @@ BAD_LATER = list(bad_later_records())
 
 def bad_tape(rng, turn):
     """A tape with one bad record: each in its turn, first or after a piece of session."""
-    turn %= len(BAD_FIRST) + len(BAD_LATER)
+    # The stride brings every one in its turn, the two lists mixed.
+    turn = 59 * turn % (len(BAD_FIRST) + len(BAD_LATER))
     # What follows a whole bad record must not matter; a cut one stays last.
     if turn < len(BAD_FIRST):
         return BAD_FIRST[turn] + trailer(rng, BAD_FIRST[turn])
