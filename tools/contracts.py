@@ -32,6 +32,11 @@ def lines_of(crate, module):
         return file.read().splitlines()
 
 
+def modules_of(crate):
+    files = os.listdir(os.path.join(ROOT, "crates", crate, "src"))
+    return sorted(name[:-3] for name in files if name.endswith(".rt") and name != "lib.rt")
+
+
 def functions_in(crate, module):
     """Each `pub fn` of a file, as (type it is a method of or None, name)."""
     inside = None
@@ -57,10 +62,11 @@ def public_functions(crate):
             opened.append(module.group(1))
     for owner, name in functions_in(crate, "lib"):
         yield "::".join(part for part in (crate, owner, name) if part)
-    for module in sorted(set(passed) | set(opened)):
+    types = set().union(*passed.values())
+    for module in modules_of(crate):
         prefix = crate + "::" + module if module in opened else crate
         for owner, name in functions_in(crate, module):
-            if module in opened or (owner or name) in passed[module]:
+            if module in opened or owner in types or name in passed.get(module, ()):
                 yield "::".join(part for part in (prefix, owner, name) if part)
 
 
