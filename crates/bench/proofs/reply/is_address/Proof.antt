@@ -1,0 +1,26 @@
+use Rattle.meaning.specs.Bench.{addressByte}
+use mathlib.Core.Path.{_∙_, sym}
+-- `bench::reply::is_address` meets its contract. Assumes nothing.
+use borrow.Author.Needs.{needs}
+use Rattle.bench.proofs.reply.is_address.Statement.{statement}
+use Rattle.bench.proofs.reply.is_address.Tie as tie
+use Rattle.bench.proofs.reply.is_address.Reads as reads
+use Rattle.bench.proofs.reply.is_address.Lts as lts
+use Rattle.bench.proofs.reply.is_board.Reads as is-board-reads
+
+-- src/reply.rt:51:8
+is-board-requires : tie.Need-is-board-requires
+is-board-requires c κs = search needs
+
+-- src/reply.rt:52:9
+returns : tie.Need-returns
+unfolding addressByte
+returns c = simp (sym (c .before .is-board .ensures) ∙ c .if1 .taken)
+
+-- src/reply.rt:48:1
+returns-2 : tie.Need-returns-2
+unfolding addressByte
+returns-2 c = simp (sym (c .before .is-board .ensures) ∙ c .if1 .left)
+
+pub is-address-spec : {M : Type 1} → statement M
+is-address-spec = tie.close (tie.spec is-board-requires returns returns-2)
