@@ -3,17 +3,17 @@ use mathlib.Core.Path.{_≡_, refl, sym, ap, _∙_, subst}
 use mathlib.Core.Logic.{_≢_, ⊎-elim}
 use mathlib.Core.Bool.{Bool, true, false, not}
 use mathlib.Core.List.{List, [], _∷_}
-use Prim.Native.Nat.{ℕ, _-_, _≤_, _<_}
+use Prim.Native.Nat.{ℕ, _-_, _<_}
 use lib.Dec.{T}
-use lib.ListN.{length, getD, set, take}
+use lib.ListN.{length, getD, set}
 use borrow.Author.Tests.{eqb-false}
 use denote.Enum.Declared.{tagOf}
 use types.Run.{OneOf}
 use Rattle.meaning.specs.Bytes.{part}
 use Rattle.meaning.specs.Frames.{commandByte, dataOf}
-use Rattle.meaning.specs.Bench.{judge, Piece, pieceOf, handed}
+use Rattle.meaning.specs.Bench.{judge, pieceOf, handed}
 use Rattle.meaning.specs.Bench as meaning
-use Rattle.meaning.specs.Demands.{accepts, Fit, Grounds}
+use Rattle.meaning.specs.Demands.{accepts, Fit, FitDone, FitFailed, Grounds}
 use Rattle.meaning.proofs.Fitting.{only-if-fits, no-reply-to-53}
 use Rattle.meaning.proofs.Bytewise.{one-byte-changed}
 use Rattle.bench.specs.Outcomes.{verdictOf, withoutData}
@@ -27,6 +27,17 @@ accepts-same (meaning.refusal n) = refl
 accepts-same (meaning.done w d) = refl
 accepts-same (meaning.failed w e) = refl
 
+-- what a verdict stands on: of a reply that is done its command, length and repeated bytes; of an error its command, length and code
+abbrev pub Standing : List ℕ → List ℕ → meaning.Verdict → Type 0
+Standing q r (meaning.refusal n) = Unit
+Standing q r (meaning.done w d) = FitDone q r w (dataOf r)
+Standing q r (meaning.failed w e) = FitFailed q r w e
+
+standing-of : (q r : List ℕ) (v : meaning.Verdict) → Grounds q r v → Standing q r (withoutData v)
+standing-of q r (meaning.refusal n) g = g
+standing-of q r (meaning.done w d) g = subst (λ (x : List ℕ). FitDone q r w x) (g .part) g
+standing-of q r (meaning.failed w e) g = g
+
 fit-of : (q r : List ℕ) (v : meaning.Verdict) → Grounds q r v → T (accepts v) → Fit q r
 unfolding accepts
 fit-of q r (meaning.refusal n) g h = absurd h
@@ -37,7 +48,11 @@ module _ (q r : List ℕ) (v : Verdict) (e : verdictOf v ≡ withoutData (judge 
   accepted : T (accepts (verdictOf v)) → T (accepts (judge q r))
   accepted h = subst T (ap accepts e ∙ accepts-same (judge q r)) h
 
-  -- only a reply that fits the request is accepted: length, checksum, address
+  -- only a reply that fits the request is accepted
+  pub verdict-stands : Standing q r (verdictOf v)
+  verdict-stands = subst (λ (u : meaning.Verdict). Standing q r u) (sym e) (standing-of q r (judge q r) (only-if-fits q r))
+
+  -- of any accepted reply: length, checksum, address
   pub accepted-fits : T (accepts (verdictOf v)) → Fit q r
   accepted-fits h = fit-of q r (judge q r) (only-if-fits q r) (accepted h)
 

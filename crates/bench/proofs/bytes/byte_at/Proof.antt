@@ -1,6 +1,6 @@
+-- `bench::bytes::byte_at` meets its contract. Assumes nothing.
 use lib.ListN.{List·getD-eq-default}
 use mathlib.Core.Path.{sym}
--- `bench::bytes::byte_at` meets its contract. Assumes nothing.
 use borrow.Author.Needs.{needs}
 use Rattle.bench.proofs.bytes.byte_at.Statement.{statement}
 use Rattle.bench.proofs.bytes.byte_at.Tie as tie

@@ -1,7 +1,7 @@
+-- `bench::bytes::first` meets its contract. Assumes nothing.
 use native.Mathlib.Omega.{arith}
 use lib.Seq.{length-take-le, take-all}
 use mathlib.Core.Path.{sym}
--- `bench::bytes::first` meets its contract. Assumes nothing.
 use borrow.Author.Needs.{needs}
 use Rattle.bench.proofs.bytes.first.Statement.{statement}
 use Rattle.bench.proofs.bytes.first.Tie as tie

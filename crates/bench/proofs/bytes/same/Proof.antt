@@ -1,3 +1,4 @@
+-- `bench::bytes::same` meets its contract. Assumes nothing.
 use Rattle.bench.proofs.Laws.{same-long, same-more, same-end}
 use Rattle.meaning.specs.Bytes.{same}
 use lib.ListN.{length, drop}
@@ -5,7 +6,6 @@ use Prim.Native.Nat.{_≤_, _-_}
 use borrow.Author.Tests.{eq-eqb, ne-eqb}
 use native.Mathlib.Omega.{arith}
 use mathlib.Core.Path.{_≡_, _∙_, sym}
--- `bench::bytes::same` meets its contract. Assumes nothing.
 use borrow.Author.Needs.{needs}
 use Rattle.bench.proofs.bytes.same.Statement.{statement}
 use Rattle.bench.proofs.bytes.same.Tie as tie

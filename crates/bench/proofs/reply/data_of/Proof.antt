@@ -1,8 +1,8 @@
+-- `bench::reply::data_of` meets its contract. Assumes nothing.
 use Rattle.bench.proofs.Verdicts.{tag-refused, tag-accepted, accepted-fits, handed-refused, handed-accepted}
 use Rattle.meaning.specs.Frames.{dataOf}
 use Rattle.meaning.specs.Bytes.{part}
 use native.Mathlib.Nat.{zero-add}
--- `bench::reply::data_of` meets its contract. Assumes nothing.
 use borrow.Author.Needs.{needs}
 use Rattle.bench.proofs.reply.data_of.Statement.{statement}
 use Rattle.bench.proofs.reply.data_of.Tie as tie

@@ -1,3 +1,4 @@
+-- `bench::reply::done_verdict` meets its contract. Assumes nothing.
 use Rattle.bench.proofs.Laws.{fits-reply, fits-repeated, wrong-length, not-repeated, done-calm, done-warned}
 use Rattle.bench.specs.Outcomes.{withoutData}
 use Rattle.meaning.specs.Bench.{rightLength, repeated}
@@ -9,7 +10,6 @@ use Prim.Native.Nat.{ℕ}
 use mathlib.Core.List.{List}
 use mathlib.Core.Bool.{true, false}
 use mathlib.Core.Path.{_≡_, refl, sym, _∙_, ap, ap₂}
--- `bench::reply::done_verdict` meets its contract. Assumes nothing.
 use borrow.Author.Needs.{needs}
 use Rattle.bench.proofs.reply.done_verdict.Statement.{statement}
 use Rattle.bench.proofs.reply.done_verdict.Tie as tie

@@ -1,7 +1,7 @@
+-- `bench::reply::error_verdict` meets its contract. Assumes nothing.
 use Rattle.bench.proofs.Laws.{error-long, error-calm, error-warned}
 use Rattle.bench.specs.Outcomes.{withoutData}
 use mathlib.Core.Path.{sym, ap}
--- `bench::reply::error_verdict` meets its contract. Assumes nothing.
 use borrow.Author.Needs.{needs}
 use Rattle.bench.proofs.reply.error_verdict.Statement.{statement}
 use Rattle.bench.proofs.reply.error_verdict.Tie as tie

@@ -1,6 +1,6 @@
+-- `bench::reply::from_asked` meets its contract. Assumes nothing.
 use Rattle.meaning.specs.Bench.{fromAsked}
 use borrow.Author.Tests.{eq-eqb, ne-eqb}
--- `bench::reply::from_asked` meets its contract. Assumes nothing.
 use borrow.Author.Needs.{needs}
 use Rattle.bench.proofs.reply.from_asked.Statement.{statement}
 use Rattle.bench.proofs.reply.from_asked.Tie as tie

@@ -1,6 +1,6 @@
+-- `bench::reply::is_address` meets its contract. Assumes nothing.
 use Rattle.meaning.specs.Bench.{addressByte}
 use mathlib.Core.Path.{_∙_, sym}
--- `bench::reply::is_address` meets its contract. Assumes nothing.
 use borrow.Author.Needs.{needs}
 use Rattle.bench.proofs.reply.is_address.Statement.{statement}
 use Rattle.bench.proofs.reply.is_address.Tie as tie

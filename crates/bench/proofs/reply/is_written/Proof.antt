@@ -1,9 +1,9 @@
+-- `bench::reply::is_written` meets its contract. Assumes nothing.
 use Rattle.meaning.specs.Bench.{written}
 use Rattle.meaning.specs.Frames.{commandByte}
 use Rattle.meaning.specs.Bytes.{xorAll}
 use borrow.Author.Tests.{le-leb, lt-leb, eq-eqb, ne-eqb, not-true, not-false}
 use mathlib.Core.Path.{_≡_, _∙_, sym}
--- `bench::reply::is_written` meets its contract. Assumes nothing.
 use borrow.Author.Needs.{needs}
 use Rattle.bench.proofs.reply.is_written.Statement.{statement}
 use Rattle.bench.proofs.reply.is_written.Tie as tie

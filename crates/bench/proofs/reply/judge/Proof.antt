@@ -1,3 +1,4 @@
+-- `bench::reply::judge` meets its contract. Assumes nothing.
 use Rattle.bench.proofs.Laws.{not-written, written-long, reply-short, sum-wrong, not-from-asked, command-wrong, to-content}
 use Rattle.bench.specs.Outcomes.{withoutData}
 use Rattle.meaning.specs.Bench as meaning
@@ -11,7 +12,6 @@ use lib.ListN.{length}
 use Prim.Native.Nat.{_≤_}
 use mathlib.Core.Bool.{true, false}
 use mathlib.Core.Path.{_≡_, _∙_, sym, ap}
--- `bench::reply::judge` meets its contract. Assumes nothing.
 use borrow.Author.Needs.{needs}
 use Rattle.bench.proofs.reply.judge.Statement.{statement}
 use Rattle.bench.proofs.reply.judge.Tie as tie

@@ -1,8 +1,8 @@
+-- `bench::request::address_byte` meets its contract. Assumes nothing.
 use Rattle.bench.proofs.Laws.{address-small}
 use Rattle.meaning.specs.Bench.{addressFor}
 use borrow.Author.Tests.{eq-eqb, ne-eqb}
 use native.Mathlib.Omega.{arith}
--- `bench::request::address_byte` meets its contract. Assumes nothing.
 use borrow.Author.Needs.{needs}
 use Rattle.bench.proofs.request.address_byte.Statement.{statement}
 use Rattle.bench.proofs.request.address_byte.Tie as tie

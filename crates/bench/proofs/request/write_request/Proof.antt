@@ -1,3 +1,4 @@
+-- `bench::request::write_request` meets its contract. Assumes nothing.
 use Rattle.bench.proofs.Laws.{room-short, address-wrong, data-wrong, request-fits, request-written}
 use Rattle.meaning.specs.Bench.{addressOk, allowed, request}
 use Rattle.meaning.specs.Commands.{commandOf}
@@ -9,7 +10,6 @@ use Prim.Native.Nat.{ℕ}
 use mathlib.Core.List.{_∷_}
 use mathlib.Core.Bool.{true}
 use mathlib.Core.Path.{_≡_, _∙_, sym, ap}
--- `bench::request::write_request` meets its contract. Assumes nothing.
 use borrow.Author.Needs.{needs}
 use Rattle.bench.proofs.request.write_request.Statement.{statement}
 use Rattle.bench.proofs.request.write_request.Tie as tie
