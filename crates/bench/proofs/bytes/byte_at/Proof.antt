@@ -7,15 +7,12 @@ use Rattle.bench.proofs.bytes.byte_at.Tie as tie
 use Rattle.bench.proofs.bytes.byte_at.Reads as reads
 use Rattle.bench.proofs.bytes.byte_at.Lts as lts
 
--- src/bytes.rt:15:16
 shared-slice-read-result : tie.Need-shared-slice-read-result
 shared-slice-read-result c = search needs
 
--- src/bytes.rt:15:9
 returns : tie.Need-returns
 returns c = search needs
 
--- src/bytes.rt:11:1
 returns-2 : tie.Need-returns-2
 returns-2 c = sym (List·getD-eq-default (c .before .args .s .now) 0 (c .if1 .left))
 

@@ -10,23 +10,18 @@ use Rattle.bench.proofs.bytes.data_part.Tie as tie
 use Rattle.bench.proofs.bytes.data_part.Reads as reads
 use Rattle.bench.proofs.bytes.data_part.Lts as lts
 
--- src/bytes.rt:52:15
 sub-end : tie.Need-sub-end
 sub-end c = search needs
 
--- src/bytes.rt:53:5
 sub-result : tie.Need-sub-result
 sub-result c = search needs
 
--- src/bytes.rt:53:5
 part-result-start : tie.Need-part-result-start
 part-result-start c = search needs
 
--- src/bytes.rt:53:5
 part-result-end : tie.Need-part-result-end
 part-result-end c = search needs
 
--- src/bytes.rt:47:1
 returns : tie.Need-returns
 unfolding dataOf
 returns c =

@@ -8,15 +8,12 @@ use Rattle.bench.proofs.bytes.first.Tie as tie
 use Rattle.bench.proofs.bytes.first.Reads as reads
 use Rattle.bench.proofs.bytes.first.Lts as lts
 
--- src/bytes.rt:25:9
 slice-aggregate-result : tie.Need-slice-aggregate-result
 slice-aggregate-result c = sym (length-take-le (c .before .before .args .k) (c .before .before .args .s .now) (omega arith))
 
--- src/bytes.rt:25:9
 returns : tie.Need-returns
 returns c = search needs
 
--- src/bytes.rt:21:1
 returns-2 : tie.Need-returns-2
 returns-2 c = sym (take-all _ _ (c .if1 .left))
 

@@ -18,38 +18,30 @@ Inv-loop a b i₀ i = (i ≤ length a) × (length a ≡ length b) × (same a b �
 abbrev μ-loop : tie.MeasureT-loop
 μ-loop a b i₀ i = length a - i
 
--- src/bytes.rt:34:9
 returns : tie.Need-returns Inv-loop μ-loop
 returns c = sym (same-long _ _ (c .if1 .taken))
 
--- src/bytes.rt:37:5
 loop-holds : tie.Need-loop-holds Inv-loop μ-loop
 loop-holds c = search needs
 
--- src/bytes.rt:38:12
 shared-slice-read-if2 : tie.Need-shared-slice-read-if2 Inv-loop μ-loop
 shared-slice-read-if2 c = search needs
 
--- src/bytes.rt:38:20
 shared-slice-read-if2-2 : tie.Need-shared-slice-read-if2-2 Inv-loop μ-loop
 shared-slice-read-if2-2 c = search needs
 
--- src/bytes.rt:39:13
 returns-2 : tie.Need-returns-2 Inv-loop μ-loop
 returns-2 c =
     let u = c .before .before .before .before in
     let a = u .before .before .args in
     sym (u .loop .inv .2 ∙ same-more (a .a .now) (a .b .now) (u .loop .i) (omega arith) (omega arith) ∙ simp (ne-eqb _ _ (c .if2 .taken)))
 
--- src/bytes.rt:41:9
 add-i : tie.Need-add-i Inv-loop μ-loop
 add-i c = search needs
 
--- src/bytes.rt:37:5
 loop-less : tie.Need-loop-less Inv-loop μ-loop
 loop-less c = search needs
 
--- src/bytes.rt:37:5
 loop-again : tie.Need-loop-again Inv-loop μ-loop
 loop-again c =
     let u = c .before .before .before .before in
@@ -59,7 +51,6 @@ loop-again c =
       u .loop .inv .2 ∙ same-more (a .a .now) (a .b .now) (u .loop .i) (omega arith) (omega arith) ∙ simp (eq-eqb _ _ (c .if2 .left)),
     )
 
--- src/bytes.rt:30:1
 returns-3 : tie.Need-returns-3 Inv-loop μ-loop
 returns-3 c =
     let u = c .before in

@@ -6,11 +6,9 @@ use Rattle.bench.proofs.reply.command_fits.Tie as tie
 use Rattle.bench.proofs.reply.command_fits.Reads as reads
 use Rattle.bench.proofs.reply.command_fits.Lts as lts
 
--- src/reply.rt:89:9
 returns : tie.Need-returns
 returns c = simp (eq-eqb _ _ (c .if1 .taken))
 
--- src/reply.rt:84:1
 returns-2 : tie.Need-returns-2
 returns-2 c = simp (ne-eqb _ _ (c .if1 .left))
 

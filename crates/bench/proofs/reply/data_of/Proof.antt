@@ -11,19 +11,15 @@ use Rattle.bench.proofs.reply.data_of.Lts as lts
 use Rattle.bench.proofs.bytes.data_part.Reads as data-part-reads
 use Rattle.bench.proofs.reply.judge.Reads as judge-reads
 
--- src/reply.rt:169:9
 judge-requires : tie.Need-judge-requires
 judge-requires c κs = search needs
 
--- src/reply.rt:171:16
 enum-told : tie.Need-enum-told
 enum-told c = search needs
 
--- src/reply.rt:171:9
 slice-aggregate-result : tie.Need-slice-aggregate-result
 slice-aggregate-result c = search needs
 
--- src/reply.rt:171:9
 returns : tie.Need-returns
 unfolding part
 returns c =
@@ -32,13 +28,11 @@ returns c =
     let e = handed-refused _ _ v (j .judge .ensures) (tag-refused v (c .before .before .match .keys1)) in
     (rw e, rw (e, zero-add))
 
--- src/reply.rt:173:5
 data-part-requires : tie.Need-data-part-requires
 data-part-requires c κs =
     let v = c .before .judge .result in
     accepted-fits _ _ v (c .before .judge .ensures) (tag-accepted v (c .match .keys2)) .long
 
--- src/reply.rt:165:1
 returns-2 : tie.Need-returns-2
 unfolding part dataOf
 returns-2 c =

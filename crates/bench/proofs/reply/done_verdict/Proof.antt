@@ -53,60 +53,47 @@ repeats c =
     fits-repeated (r .row-of .result) (a .request .now) (a .reply .now) (c .same .result) (r .row-of .ensures)
     (c .same .ensures ∙ ap₂ same f e)
 
--- src/reply.rt:123:29
 shared-slice-read-row-of : tie.Need-shared-slice-read-row-of
 shared-slice-read-row-of c = search needs
 
--- src/reply.rt:123:9
 row-of-requires : tie.Need-row-of-requires
 row-of-requires c κs = search needs
 
--- src/reply.rt:125:9
 data-part-requires : tie.Need-data-part-requires
 data-part-requires c κs = search needs
 
--- src/reply.rt:126:9
 data-part-requires-2 : tie.Need-data-part-requires-2
 data-part-requires-2 c κs = search needs
 
--- src/reply.rt:127:36
 byte-at-requires : tie.Need-byte-at-requires
 byte-at-requires c κs = search needs
 
--- src/reply.rt:127:9
 length-fits-requires : tie.Need-length-fits-requires
 length-fits-requires c κs = search needs
 
--- src/reply.rt:128:9
 returns : tie.Need-returns
 returns c =
     let s = c .before .before .before .before .before .before .before .before .before in
     sym (ap withoutData (wrong-length _ _ (s .pre .ordinary) (right (c .before) ∙ not-true _ (c .if1 .taken))))
 
--- src/reply.rt:130:14
 first-requires : tie.Need-first-requires
 first-requires c κs = search needs
 
--- src/reply.rt:130:44
 first-requires-2 : tie.Need-first-requires-2
 first-requires-2 c κs = search needs
 
--- src/reply.rt:130:9
 same-requires : tie.Need-same-requires
 same-requires c κs = search needs
 
--- src/reply.rt:131:9
 returns-2 : tie.Need-returns-2
 returns-2 c =
     let u = c .before .before .before .before in
     let s = u .before .before .before .before .before .before .before .before .before in
     sym (ap withoutData (not-repeated _ _ (s .pre .ordinary) (right (u .before) ∙ not-false _ (u .if1 .left)) (repeats (c .before) ∙ not-true _ (c .if2 .taken))))
 
--- src/reply.rt:133:8
 shared-slice-read-if3 : tie.Need-shared-slice-read-if3
 shared-slice-read-if3 c = search needs
 
--- src/reply.rt:134:9
 returns-3 : tie.Need-returns-3
 returns-3 c =
     let v = c .before .before in
@@ -114,7 +101,6 @@ returns-3 c =
     let s = u .before .before .before .before .before .before .before .before .before in
     sym (ap withoutData (done-calm _ _ (s .pre .ordinary) (right (u .before) ∙ not-false _ (u .if1 .left)) (repeats (v .before) ∙ not-false _ (v .if2 .left)) (c .if3 .taken)))
 
--- src/reply.rt:119:1
 returns-4 : tie.Need-returns-4
 returns-4 c =
     let v = c .before .before in

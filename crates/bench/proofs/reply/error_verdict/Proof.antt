@@ -8,27 +8,21 @@ use Rattle.bench.proofs.reply.error_verdict.Tie as tie
 use Rattle.bench.proofs.reply.error_verdict.Reads as reads
 use Rattle.bench.proofs.reply.error_verdict.Lts as lts
 
--- src/reply.rt:110:9
 returns : tie.Need-returns
 returns c = λ q e. sym (ap withoutData (error-long q _ e (c .if1 .taken)))
 
--- src/reply.rt:112:8
 shared-slice-read-if2 : tie.Need-shared-slice-read-if2
 shared-slice-read-if2 c = search needs
 
--- src/reply.rt:113:31
 shared-slice-read-t8 : tie.Need-shared-slice-read-t8
 shared-slice-read-t8 c = search needs
 
--- src/reply.rt:113:9
 returns-2 : tie.Need-returns-2
 returns-2 c = λ q e. sym (ap withoutData (error-calm q _ e (c .before .before .before .if1 .left) (c .before .if2 .taken)))
 
--- src/reply.rt:115:31
 shared-slice-read-t6 : tie.Need-shared-slice-read-t6
 shared-slice-read-t6 c = search needs
 
--- src/reply.rt:105:1
 returns-3 : tie.Need-returns-3
 returns-3 c = λ q e. sym (ap withoutData (error-warned q _ e (c .before .before .before .if1 .left) (c .before .if2 .left)))
 

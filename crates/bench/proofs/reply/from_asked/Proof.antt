@@ -8,16 +8,13 @@ use Rattle.bench.proofs.reply.from_asked.Reads as reads
 use Rattle.bench.proofs.reply.from_asked.Lts as lts
 use Rattle.bench.proofs.reply.is_board.Reads as is-board-reads
 
--- src/reply.rt:78:9
 is-board-requires : tie.Need-is-board-requires
 is-board-requires c κs = search needs
 
--- src/reply.rt:78:9
 returns : tie.Need-returns
 unfolding fromAsked
 returns c = simp (eq-eqb _ _ (c .before .if1 .taken)) (c .is-board .ensures)
 
--- src/reply.rt:74:1
 returns-2 : tie.Need-returns-2
 unfolding fromAsked
 returns-2 c = simp (ne-eqb _ _ (c .if1 .left))

@@ -8,16 +8,13 @@ use Rattle.bench.proofs.reply.is_address.Reads as reads
 use Rattle.bench.proofs.reply.is_address.Lts as lts
 use Rattle.bench.proofs.reply.is_board.Reads as is-board-reads
 
--- src/reply.rt:51:8
 is-board-requires : tie.Need-is-board-requires
 is-board-requires c κs = search needs
 
--- src/reply.rt:52:9
 returns : tie.Need-returns
 unfolding addressByte
 returns c = simp (sym (c .before .is-board .ensures) ∙ c .if1 .taken)
 
--- src/reply.rt:48:1
 returns-2 : tie.Need-returns-2
 unfolding addressByte
 returns-2 c = simp (sym (c .before .is-board .ensures) ∙ c .if1 .left)

@@ -7,12 +7,10 @@ use Rattle.bench.proofs.reply.is_board.Tie as tie
 use Rattle.bench.proofs.reply.is_board.Reads as reads
 use Rattle.bench.proofs.reply.is_board.Lts as lts
 
--- src/reply.rt:43:9
 returns : tie.Need-returns
 unfolding boardByte
 returns c = simp (lt-leb _ _ (c .if1 .taken))
 
--- src/reply.rt:39:1
 returns-2 : tie.Need-returns-2
 unfolding boardByte
 returns-2 c = simp (le-leb _ _ (c .if1 .left))

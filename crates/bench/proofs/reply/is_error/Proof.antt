@@ -6,11 +6,9 @@ use Rattle.bench.proofs.reply.is_error.Tie as tie
 use Rattle.bench.proofs.reply.is_error.Reads as reads
 use Rattle.bench.proofs.reply.is_error.Lts as lts
 
--- src/reply.rt:99:9
 returns : tie.Need-returns
 returns c = simp (eq-eqb _ _ (c .if1 .taken))
 
--- src/reply.rt:95:1
 returns-2 : tie.Need-returns-2
 returns-2 c = simp (ne-eqb _ _ (c .if1 .left))
 

@@ -14,31 +14,25 @@ use Rattle.bench.proofs.reply.is_address.Reads as is-address-reads
 use Rattle.bench.proofs.request.is_allowed.Reads as is-allowed-reads
 use Rattle.frame.proofs.xor_of.Reads as xor-of-reads
 
--- src/reply.rt:62:9
 returns : tie.Need-returns
 unfolding written
 returns c = simp (lt-leb _ _ (c .if1 .taken))
 
--- src/reply.rt:64:8
 xor-of-requires : tie.Need-xor-of-requires
 xor-of-requires c κs = search needs
 
--- src/reply.rt:65:9
 returns-2 : tie.Need-returns-2
 unfolding written
 returns-2 c =
     let u = c .before in
     simp (le-leb _ _ (u .before .if1 .left), ne-eqb (xorAll _) 0 (λ e. c .if2 .taken (u .xor-of .ensures ∙ e)))
 
--- src/reply.rt:67:20
 shared-slice-read-is-address : tie.Need-shared-slice-read-is-address
 shared-slice-read-is-address c = search needs
 
--- src/reply.rt:67:9
 is-address-requires : tie.Need-is-address-requires
 is-address-requires c κs = search needs
 
--- src/reply.rt:68:9
 returns-3 : tie.Need-returns-3
 unfolding written
 returns-3 c =
@@ -50,19 +44,15 @@ returns-3 c =
       sym (c .before .is-address .ensures) ∙ not-true _ (c .if3 .taken),
     )
 
--- src/reply.rt:70:16
 shared-slice-read-is-allowed : tie.Need-shared-slice-read-is-allowed
 shared-slice-read-is-allowed c = search needs
 
--- src/reply.rt:70:28
 data-part-requires : tie.Need-data-part-requires
 data-part-requires c κs = search needs
 
--- src/reply.rt:70:5
 is-allowed-requires : tie.Need-is-allowed-requires
 is-allowed-requires c κs = search needs
 
--- src/reply.rt:58:1
 returns-4 : tie.Need-returns-4
 unfolding written commandByte
 returns-4 c =

@@ -47,60 +47,47 @@ reached c =
     let u = v .before .before in
     to-content _ _ (asks (u .before)) (u .if2 .left) (sums v) (from w) (sym (c .before .command-fits .ensures) ∙ not-false _ (c .if5 .left))
 
--- src/reply.rt:143:9
 is-written-requires : tie.Need-is-written-requires
 is-written-requires c κs = search needs
 
--- src/reply.rt:144:9
 returns : tie.Need-returns
 returns c = sym (ap withoutData (not-written _ _ (sym (c .before .is-written .ensures) ∙ not-true _ (c .if1 .taken))))
 
--- src/reply.rt:147:9
 returns-2 : tie.Need-returns-2
 returns-2 c = sym (ap withoutData (reply-short _ _ (asks (c .before)) (c .if2 .taken)))
 
--- src/reply.rt:149:8
 xor-of-requires : tie.Need-xor-of-requires
 xor-of-requires c κs = search needs
 
--- src/reply.rt:150:9
 returns-3 : tie.Need-returns-3
 returns-3 c =
     let u = c .before .before in
     sym (ap withoutData (sum-wrong _ _ (asks (u .before)) (u .if2 .left) (λ e. c .if3 .taken (c .before .xor-of .ensures ∙ e))))
 
--- src/reply.rt:152:20
 shared-slice-read-from-asked : tie.Need-shared-slice-read-from-asked
 shared-slice-read-from-asked c = omega (arith, asks-long (c .before .before .before .before))
 
--- src/reply.rt:152:32
 shared-slice-read-from-asked-2 : tie.Need-shared-slice-read-from-asked-2
 shared-slice-read-from-asked-2 c = search needs
 
--- src/reply.rt:152:9
 from-asked-requires : tie.Need-from-asked-requires
 from-asked-requires c κs = search needs
 
--- src/reply.rt:153:9
 returns-4 : tie.Need-returns-4
 returns-4 c =
     let v = c .before .before .before .before in
     let u = v .before .before in
     sym (ap withoutData (not-from-asked _ _ (asks (u .before)) (u .if2 .left) (sums v) (sym (c .before .from-asked .ensures) ∙ not-true _ (c .if4 .taken))))
 
--- src/reply.rt:155:22
 shared-slice-read-command-fits : tie.Need-shared-slice-read-command-fits
 shared-slice-read-command-fits c = omega (arith, asks-long (c .before .before .before .before .before .before .before .before))
 
--- src/reply.rt:155:34
 shared-slice-read-command-fits-2 : tie.Need-shared-slice-read-command-fits-2
 shared-slice-read-command-fits-2 c = search needs
 
--- src/reply.rt:155:9
 command-fits-requires : tie.Need-command-fits-requires
 command-fits-requires c κs = search needs
 
--- src/reply.rt:156:9
 returns-5 : tie.Need-returns-5
 returns-5 c =
     let w = c .before .before .before .before in
@@ -108,30 +95,24 @@ returns-5 c =
     let u = v .before .before in
     sym (ap withoutData (command-wrong _ _ (asks (u .before)) (u .if2 .left) (sums v) (from w) (sym (c .before .command-fits .ensures) ∙ not-true _ (c .if5 .taken))))
 
--- src/reply.rt:158:17
 shared-slice-read-is-error : tie.Need-shared-slice-read-is-error
 shared-slice-read-is-error c = omega (arith, asks-long (c .before .before .before .before .before .before .before .before .before .before .before .before))
 
--- src/reply.rt:158:29
 shared-slice-read-is-error-2 : tie.Need-shared-slice-read-is-error-2
 shared-slice-read-is-error-2 c = search needs
 
--- src/reply.rt:158:8
 is-error-requires : tie.Need-is-error-requires
 is-error-requires c κs = search needs
 
--- src/reply.rt:159:9
 error-verdict-requires : tie.Need-error-verdict-requires
 error-verdict-requires c κs = search needs
 
--- src/reply.rt:159:9
 returns-6 : tie.Need-returns-6
 unfolding errorReply bare commandByte
 returns-6 c =
     let t = c .before .before in
     c .error-verdict .ensures _ (sym (t .is-error .ensures) ∙ c .before .if6 .taken) ∙ sym (ap withoutData (reached (t .before .before .before)))
 
--- src/reply.rt:161:5
 done-verdict-requires : tie.Need-done-verdict-requires
 unfolding errorReply bare commandByte
 done-verdict-requires c κs =
@@ -141,7 +122,6 @@ done-verdict-requires c κs =
     let u = v .before .before in
     record { long = asks-long (u .before); heard = u .if2 .left; ordinary = sym (t .is-error .ensures) ∙ c .if6 .left }
 
--- src/reply.rt:140:1
 returns-7 : tie.Need-returns-7
 returns-7 c = c .done-verdict .ensures ∙ sym (ap withoutData (reached (c .before .before .before .before .before)))
 

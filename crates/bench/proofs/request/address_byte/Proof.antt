@@ -9,20 +9,16 @@ use Rattle.bench.proofs.request.address_byte.Tie as tie
 use Rattle.bench.proofs.request.address_byte.Reads as reads
 use Rattle.bench.proofs.request.address_byte.Lts as lts
 
--- src/request.rt:31:9
 returns : tie.Need-returns
 unfolding addressFor
 returns c = simp (eq-eqb _ _ (c .if1 .taken))
 
--- src/request.rt:33:12
 cast-result : tie.Need-cast-result
 cast-result c = omega (arith, address-small _ (c .before .pre) (c .if1 .left))
 
--- src/request.rt:33:5
 add-result : tie.Need-add-result
 add-result c = omega (arith, address-small _ (c .before .pre) (c .if1 .left))
 
--- src/request.rt:26:1
 returns-2 : tie.Need-returns-2
 unfolding addressFor
 returns-2 c = simp (ne-eqb _ _ (c .if1 .left))

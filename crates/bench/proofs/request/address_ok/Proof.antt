@@ -7,12 +7,10 @@ use Rattle.bench.proofs.request.address_ok.Tie as tie
 use Rattle.bench.proofs.request.address_ok.Reads as reads
 use Rattle.bench.proofs.request.address_ok.Lts as lts
 
--- src/request.rt:21:9
 returns : tie.Need-returns
 unfolding addressOk
 returns c = simp (le-leb _ _ (c .if1 .taken))
 
--- src/request.rt:17:1
 returns-2 : tie.Need-returns-2
 unfolding addressOk
 returns-2 c = simp (lt-leb _ _ (c .if1 .left))

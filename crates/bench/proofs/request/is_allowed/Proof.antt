@@ -26,43 +26,34 @@ passed : (c : tie.Else1)
     → let a = c .before .before .before .before .before .args in asked (commandOf (a .command)) (a .body .now) ≡ true
 passed c = right (c .before) ∙ not-false _ (c .if1 .left)
 
--- src/request.rt:40:9
 row-of-requires : tie.Need-row-of-requires
 row-of-requires c κs = search needs
 
--- src/request.rt:42:9
 byte-at-requires : tie.Need-byte-at-requires
 byte-at-requires c κs = search needs
 
--- src/request.rt:43:9
 length-fits-requires : tie.Need-length-fits-requires
 length-fits-requires c κs = search needs
 
--- src/request.rt:44:9
 returns : tie.Need-returns
 returns c = sym (not-asked _ _ (right (c .before) ∙ not-true _ (c .if1 .taken)))
 
--- src/request.rt:47:9
 returns-2 : tie.Need-returns-2
 returns-2 c =
     let e = c .before .before in
     sym (asked-well _ _ _ (passed e) (count-some _ _ _ (c .before .if2 .taken) (e .before .before .byte-at .ensures) (c .if3 .taken)))
 
--- src/request.rt:47:9
 returns-3 : tie.Need-returns-3
 returns-3 c =
     let e = c .before .before in
     sym (asked-well _ _ _ (passed e) (count-none _ _ _ (c .before .if2 .taken) (e .before .before .byte-at .ensures) (c .if3 .left)))
 
--- src/request.rt:50:16
 byte-at-requires-2 : tie.Need-byte-at-requires-2
 byte-at-requires-2 c κs = search needs
 
--- src/request.rt:50:9
 returns-4 : tie.Need-returns-4
 returns-4 c = sym (asked-well _ _ _ (passed (c .before .before .before)) (in-range-4F _ _ _ (c .before .if4 .taken) (c .byte-at2 .ensures)))
 
--- src/request.rt:37:1
 returns-5 : tie.Need-returns-5
 returns-5 c =
     let e = passed (c .before .before) in

@@ -27,48 +27,38 @@ data-well : (c : tie.Else3)
     → let a = c .before .before .before .before .before .before .before .args in allowed (commandOf (a .command)) (a .body .now) ≡ true
 data-well c = sym (c .before .is-allowed .ensures) ∙ not-false _ (c .if3 .left)
 
--- src/request.rt:60:9
 returns : tie.Need-returns
 returns c = room-short _ _ _ _ (c .if1 .taken)
 
--- src/request.rt:62:9
 address-ok-requires : tie.Need-address-ok-requires
 address-ok-requires c κs = search needs
 
--- src/request.rt:63:9
 returns-2 : tie.Need-returns-2
 returns-2 c = address-wrong _ _ _ _ (c .before .before .if1 .left) (sym (c .before .address-ok .ensures) ∙ not-true _ (c .if2 .taken))
 
--- src/request.rt:65:9
 is-allowed-requires : tie.Need-is-allowed-requires
 is-allowed-requires c κs = search needs
 
--- src/request.rt:66:9
 returns-3 : tie.Need-returns-3
 returns-3 c =
     let u = c .before .before in
     data-wrong _ _ _ _ (u .before .before .if1 .left) (address-well u) (sym (c .before .is-allowed .ensures) ∙ not-true _ (c .if3 .taken))
 
--- src/request.rt:68:18
 address-byte-requires : tie.Need-address-byte-requires
 address-byte-requires c κs = address-well (c .before .before)
 
--- src/request.rt:68:5
 write-requires : tie.Need-write-requires
 write-requires c κs =
     let v = c .before .before in
     let u = v .before .before in
     omega (arith, request-fits _ _ _ (u .before .before .before .before .before .args .room .now) (address-well u) (data-well v))
 
--- src/request.rt:70:14
 add-t12 : tie.Need-add-t12
 add-t12 c = search needs
 
--- src/request.rt:56:1
 same-length : tie.Need-same-length
 same-length c = search needs
 
--- src/request.rt:56:1
 returns-4 : tie.Need-returns-4
 unfolding request
 returns-4 c =
