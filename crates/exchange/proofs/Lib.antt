@@ -1,0 +1,7 @@
+pub mod Stamps
+pub mod Running
+pub mod Closing
+pub mod Stepping
+pub mod Taking
+pub mod Answering
+pub mod Refusing
