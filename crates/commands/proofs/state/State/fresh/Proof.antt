@@ -1,0 +1,17 @@
+use borrow.Author.Needs.{needs}
+use Rattle.commands.proofs.state.State.fresh.Statement.{statement}
+use Rattle.commands.proofs.state.State.fresh.Tie as tie
+use Rattle.commands.proofs.state.State.fresh.Reads as reads
+use Rattle.commands.proofs.state.State.fresh.Lts as lts
+use Rattle.commands.proofs.faults.Faults.none.Reads as none-reads
+
+-- src/state.rt:27:21
+none-requires : tie.Need-none-requires
+none-requires c κs = search needs
+
+-- src/state.rt:19:5
+returns : tie.Need-returns
+returns c = ?
+
+pub fresh-spec : {M : Type 1} → statement M
+fresh-spec = tie.close (tie.spec none-requires returns)

@@ -1,0 +1,11 @@
+use Rattle.commands.proofs.state.State.with_counter.Statement.{statement}
+use Rattle.commands.proofs.state.State.with_counter.Tie as tie
+use Rattle.commands.proofs.state.State.with_counter.Reads as reads
+use Rattle.commands.proofs.state.State.with_counter.Lts as lts
+
+-- src/state.rt:40:5
+returns : tie.Need-returns
+returns c = ?
+
+pub with-counter-spec : {M : Type 1} → statement M
+with-counter-spec = tie.close (tie.spec returns)
