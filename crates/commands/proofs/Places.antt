@@ -111,7 +111,7 @@ pub may-precede : (c x y z : ℕ) {t : Bool} → eqb c 0 ≡ false
 unfolding mayPrecede queueable locks
 may-precede c x y z h e = rw (h, among-three c x y z (positive c h)) (sym e)
 
-both-true : (t : Bool) → both t true ≡ t
+pub both-true : (t : Bool) → both t true ≡ t
 both-true true = refl
 both-true false = refl
 

@@ -1,3 +1,6 @@
+use native.Mathlib.Omega.{arith}
+use native.Mathlib.Nat.{one-mul, mod-eq-of-lt}
+use lib.Pow.{pow-lt}
 use borrow.Author.Needs.{needs}
 use Rattle.commands.proofs.state.size.Statement.{statement}
 use Rattle.commands.proofs.state.size.Tie as tie
@@ -10,7 +13,7 @@ shl-result c = search needs
 
 -- src/state.rt:102:1
 returns : tie.Need-returns
-returns c = ?
+returns c = rw one-mul (mod-eq-of-lt (pow-lt {j = 64} (omega arith)))
 
 pub size-spec : {M : Type 1} → statement M
 size-spec = tie.close (tie.spec shl-result returns)

@@ -1,3 +1,5 @@
+use Rattle.meaning.specs.State.{fresh}
+use Rattle.commands.specs.Queue.{queueOf, waiting}
 use borrow.Author.Needs.{needs}
 use Rattle.commands.proofs.state.State.fresh.Statement.{statement}
 use Rattle.commands.proofs.state.State.fresh.Tie as tie
@@ -11,7 +13,8 @@ none-requires c κs = search needs
 
 -- src/state.rt:19:5
 returns : tie.Need-returns
-returns c = ?
+unfolding fresh queueOf waiting
+returns c = λ p. rw (c .none .ensures)
 
 pub fresh-spec : {M : Type 1} → statement M
 fresh-spec = tie.close (tie.spec none-requires returns)

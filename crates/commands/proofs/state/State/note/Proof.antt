@@ -1,3 +1,4 @@
+use Rattle.commands.proofs.States.{notes}
 use borrow.Author.Needs.{needs}
 use Rattle.commands.proofs.state.State.note.Statement.{statement}
 use Rattle.commands.proofs.state.State.note.Tie as tie
@@ -16,7 +17,7 @@ with-faults-requires c κs = search needs
 
 -- src/state.rt:73:5
 returns : tie.Need-returns
-returns c = ?
+returns c = λ l. notes _ _ l _ (c .with-faults .result) (c .with-faults .ensures l) (c .before .note .ensures _)
 
 pub note-spec : {M : Type 1} → statement M
 note-spec = tie.close (tie.spec note-requires with-faults-requires returns)

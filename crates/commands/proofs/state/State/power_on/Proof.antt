@@ -1,3 +1,5 @@
+use Rattle.meaning.specs.State.{none}
+use Rattle.commands.proofs.States.{powers-on}
 use borrow.Author.Needs.{needs}
 use Rattle.commands.proofs.state.State.power_on.Statement.{statement}
 use Rattle.commands.proofs.state.State.power_on.Tie as tie
@@ -16,7 +18,7 @@ with-faults-requires c κs = search needs
 
 -- src/state.rt:80:5
 returns : tie.Need-returns
-returns c = ?
+returns c = λ l. powers-on _ l (c .with-faults .result) (c .with-faults .ensures none) (c .before .power-on .ensures)
 
 pub power-on-spec : {M : Type 1} → statement M
 power-on-spec = tie.close (tie.spec power-on-requires with-faults-requires returns)
