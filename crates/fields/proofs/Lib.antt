@@ -1,2 +1,5 @@
 pub mod Walk
 pub mod Tables
+pub mod Pieces
+pub mod Finds
+pub mod Rows

@@ -1,7 +1,7 @@
 -- Laws of any status table, sound or not: how a walk that halts and goes on adds up, and where the fields of a sound one lie. Assumes nothing.
 use Prim.Native.Nat.{ℕ, zero, suc, _+_, _-_, _*_, _≤_, _<_, min, zero-le}
 use mathlib.Core.Bool.{Bool, true, false, not}
-use mathlib.Core.Path.{_≡_, refl, sym, ap, _∙_}
+use mathlib.Core.Path.{_≡_, refl, sym, ap, subst, _∙_}
 use mathlib.Core.List.{List, [], _∷_}
 use native.Mathlib.Nat.{le-of-suc-le-suc, not-suc-le-zero}
 use native.Mathlib.Omega.{arith}
@@ -10,6 +10,7 @@ use lib.ListN.{length, take, drop, getD, length-drop}
 use lib.Seq.{take-all}
 use lib.Dec.{leb}
 use borrow.Author.Tests.{leb-true}
+use Rattle.fields.specs.Memory.{Sits}
 use Rattle.meaning.specs.Bytes.{pick, both, blank}
 use Rattle.meaning.specs.Fields.{blocks, exists, fieldCount, used, sound, table, freeBlocks, statusAt, Survey, survey}
 
@@ -109,3 +110,54 @@ pub survey-is : (t f : ℕ) (m l : List ℕ) → table t m ≡ l → (trusted bl
 unfolding survey sound freeBlocks
 survey-is t f m l e trusted blank-rest n u free first status p q z s r i k =
     rw (e, ← p, ← q, ← z, ← s, ← r, ← i, ← k)
+
+blocks-some : (s : ℕ) → 1 ≤ blocks s
+unfolding blocks
+blocks-some s = omega arith
+
+-- each field has a block
+count-le-used : (l : List ℕ) → fieldCount l ≤ used l
+count-le-used [] = omega (arith, count-nil)
+count-le-used (s ∷ r) = go (exists s) refl (count-le-used r)
+  where
+    go : (b : Bool) → exists s ≡ b → fieldCount r ≤ used r → fieldCount (s ∷ r) ≤ used (s ∷ r)
+    go true e h = omega (arith, count-yes s r e, used-yes s r e, blocks-some s)
+    go false e h = omega (arith, count-no s r e)
+
+-- a field ends no later than the last one
+used-own : (l : List ℕ) (f : ℕ) → f < fieldCount l → used (take f l) + blocks (getD l f 0) ≤ used l
+used-own [] f h = absurd (omega (arith, count-nil))
+used-own (s ∷ r) f h = go f h (exists s) refl (used-own r)
+  where
+    go : (g : ℕ) → g < fieldCount (s ∷ r) → (b : Bool) → exists s ≡ b → ((i : ℕ) → i < fieldCount r → used (take i r) + blocks (getD r i 0) ≤ used r)
+        → used (take g (s ∷ r)) + blocks (getD (s ∷ r) g 0) ≤ used (s ∷ r)
+    go zero k true e ih = omega (arith, used-nil, used-yes s r e)
+    go (suc g) k true e ih = omega (arith, ih g (omega (arith, count-yes s r e)), used-yes s r e, used-yes s (take g r) e)
+    go g k false e ih = absurd (omega (arith, count-no s r e))
+
+both-right : (a b : Bool) → both a b ≡ true → b ≡ true
+both-right true b e = e
+both-right false b e = cc
+
+sound-fits : (t : ℕ) (l : List ℕ) → sound t l ≡ true → used l ≤ t
+unfolding sound
+sound-fits t l e = leb-true _ _ (both-right (blank (drop (fieldCount l) l)) (leb (used l) t) e)
+
+sits-in : (t : ℕ) (m : List ℕ) (f : ℕ) → (survey t m f) .trusted ≡ true → Sits t (survey t m f) f
+unfolding survey freeBlocks statusAt
+sits-in t m f e =
+    let l = table t m in
+    let u = sound-fits t l e in
+    record { room = omega (arith, count-le-used l); own = λ h. omega (arith, used-own l f h) }
+
+-- where the fields of a sound table lie
+pub sits : (t : ℕ) (m : List ℕ) (f : ℕ) (v : Survey) → v ≡ survey t m f → v .trusted ≡ true → Sits t v f
+sits t m f v e = subst (λ (w : Survey). w .trusted ≡ true → Sits t w f) (sym e) (sits-in t m f)
+
+-- what a survey finds is no more than there are blocks
+free-in : (t : ℕ) (m : List ℕ) (f : ℕ) → (survey t m f) .free ≤ t
+unfolding survey freeBlocks
+free-in t m f = omega arith
+
+pub free-le : (t : ℕ) (m : List ℕ) (f : ℕ) (v : Survey) → v ≡ survey t m f → v .free ≤ t
+free-le t m f v e = subst (λ (w : Survey). w .free ≤ t) (sym e) (free-in t m f)

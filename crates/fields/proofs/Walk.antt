@@ -7,7 +7,7 @@ use mathlib.Core.List.{List, _∷_}
 use native.Mathlib.Numerals.{add-one}
 use lib.ListN.{length, drop, getD, drop-of-length-le}
 use lib.Seq.{drop-cons}
-use borrow.Author.Tests.{eq-eqb, ne-eqb, le-leb, lt-leb}
+use borrow.Author.Tests.{eq-eqb, ne-eqb}
 use Rattle.meaning.specs.Bytes.{blank}
 use Rattle.meaning.specs.Fields.{blocks, exists, fieldCount, used}
 
@@ -27,25 +27,25 @@ module _ (l : List ℕ) (i : ℕ) where
   unfolding blank
   blank-end h = rw (drop-of-length-le l h)
 
-  pub count-more : i < length l → 128 ≤ getD l i 0 → fieldCount (drop i l) ≡ suc (fieldCount (drop (i + 1) l))
-  unfolding fieldCount exists
-  count-more h e = rw (next h) (rw (le-leb _ _ e))
+  pub count-more : i < length l → exists (getD l i 0) ≡ true → fieldCount (drop i l) ≡ suc (fieldCount (drop (i + 1) l))
+  unfolding fieldCount
+  count-more h e = rw (next h) (rw e)
 
-  pub count-stop : i < length l → getD l i 0 < 128 → fieldCount (drop i l) ≡ 0
-  unfolding fieldCount exists
-  count-stop h e = rw (next h) (rw (lt-leb _ _ e))
+  pub count-stop : i < length l → exists (getD l i 0) ≡ false → fieldCount (drop i l) ≡ 0
+  unfolding fieldCount
+  count-stop h e = rw (next h) (rw e)
 
   pub count-end : length l ≤ i → fieldCount (drop i l) ≡ 0
   unfolding fieldCount
   count-end h = rw (drop-of-length-le l h)
 
-  pub used-more : i < length l → 128 ≤ getD l i 0 → used (drop i l) ≡ blocks (getD l i 0) + used (drop (i + 1) l)
-  unfolding used exists
-  used-more h e = rw (next h) (rw (le-leb _ _ e))
+  pub used-more : i < length l → exists (getD l i 0) ≡ true → used (drop i l) ≡ blocks (getD l i 0) + used (drop (i + 1) l)
+  unfolding used
+  used-more h e = rw (next h) (rw e)
 
-  pub used-stop : i < length l → getD l i 0 < 128 → used (drop i l) ≡ 0
-  unfolding used exists
-  used-stop h e = rw (next h) (rw (lt-leb _ _ e))
+  pub used-stop : i < length l → exists (getD l i 0) ≡ false → used (drop i l) ≡ 0
+  unfolding used
+  used-stop h e = rw (next h) (rw e)
 
   pub used-end : length l ≤ i → used (drop i l) ≡ 0
   unfolding used

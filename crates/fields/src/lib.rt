@@ -1,6 +1,12 @@
 // The lent memory: 16T data bytes, then T status bytes, and the commands 4Ah to 4Eh that work on it (01, "Memory").
+mod find;
+mod reply;
 mod seen;
+mod status;
 mod table;
+mod tell;
 
 pub use seen::Survey;
 pub use table::survey;
+pub use tell::field_status;
+pub use tell::memory_status;

@@ -8,6 +8,9 @@ ghost use Rattle.meaning.specs.Bytes.{blank, both};
 ghost use Rattle.meaning.specs.Fields.{survey, statusAt, table};
 ghost use Rattle.fields.specs.Memory.{Fit, Tallied, surveyOf};
 use crate::seen::Survey;
+use crate::status::blocks_in;
+use crate::status::bytes_of;
+use crate::status::has_field;
 
 // How many fields stand at the front, and their blocks.
 pub struct Tally {
@@ -24,10 +27,10 @@ pub(crate) fn count_fields(statuses: &[u8]) -> Tally
     let mut fields = 0;
     while fields < statuses.len() {
         let status = statuses[fields];
-        if status < 128 {
+        if !has_field(status) {
             return Tally { fields, blocks };
         }
-        blocks += (status % 8) as usize + 1;
+        blocks += blocks_in(status) as usize;
         fields += 1;
     }
     Tally { fields, blocks }
@@ -108,5 +111,5 @@ pub fn survey(memory: &[u8], total: usize, field: u8) -> Survey
     requires { ⌜ Fit total (now memory) ⌝ }
     ensures { λ r. ⌜ surveyOf r ≡ survey total (now (memory .entry)) field ⌝ }
 {
-    walk(past(memory, 16 * total), total, field as usize)
+    walk(past(memory, bytes_of(total)), total, field as usize)
 }

@@ -1,13 +1,18 @@
--- `fields::table::count_fields` meets its contract: the fields passed and those at the front of what is left are all. Assumes nothing.
+use Rattle.fields.proofs.Tables.{blocks-most}
 use Rattle.fields.proofs.Walk.{count-more, count-stop, count-end, used-more, used-stop, used-end}
 use Rattle.meaning.specs.Fields.{blocks, fieldCount, used}
+use borrow.Author.Tests.{not-true, not-false}
 use lib.ListN.{length, drop, getD}
 use native.Mathlib.Omega.{arith}
-use mathlib.Core.Path.{_≡_}
+use mathlib.Core.Path.{_≡_, sym, _∙_}
 use Prim.Native.Nat.{_≤_, _-_, _+_, _*_}
 use borrow.Author.Needs.{needs}
 use Rattle.fields.proofs.table.count_fields.Statement.{statement}
 use Rattle.fields.proofs.table.count_fields.Tie as tie
+use Rattle.fields.proofs.table.count_fields.Reads as reads
+use Rattle.fields.proofs.table.count_fields.Lts as lts
+use Rattle.fields.proofs.status.blocks_in.Reads as blocks-in-reads
+use Rattle.fields.proofs.status.has_field.Reads as has-field-reads
 
 abbrev Inv-loop : tie.InvT-loop
 Inv-loop statuses blocks₀ fields₀ blocks fields = (fields ≤ length statuses) × (blocks ≤ 8 * fields) × (fieldCount statuses ≡ fields + fieldCount (drop fields statuses)) × (used statuses ≡ blocks + used (drop fields statuses))
@@ -15,47 +20,62 @@ Inv-loop statuses blocks₀ fields₀ blocks fields = (fields ≤ length statuse
 abbrev μ-loop : tie.MeasureT-loop
 μ-loop statuses blocks₀ fields₀ blocks fields = length statuses - fields
 
+-- src/table.rt:28:5
 loop-holds : tie.Need-loop-holds Inv-loop μ-loop
 loop-holds c = omega arith
 
+-- src/table.rt:29:22
 shared-slice-read-status : tie.Need-shared-slice-read-status Inv-loop μ-loop
 shared-slice-read-status c = omega arith
 
+-- src/table.rt:30:13
+has-field-requires : tie.Need-has-field-requires Inv-loop μ-loop
+has-field-requires c κs = search needs
+
+-- src/table.rt:31:13
 returns : tie.Need-returns Inv-loop μ-loop
 returns c =
-    let at = c .before .before .before in
-    let l = at .before .args .statuses .now in
+    let at = c .before .before .before .before in
+    let l = at .before .before .args .statuses .now in
+    let e = sym (c .before .has-field .ensures) ∙ not-true _ (c .if1 .taken) in
     record {
-      fields = omega (arith, count-stop l (at .loop .fields) (omega arith) (c .if1 .taken));
-      blocks = omega (arith, used-stop l (at .loop .fields) (omega arith) (c .if1 .taken));
+      fields = omega (arith, count-stop l (at .loop .fields) (omega arith) e);
+      blocks = omega (arith, used-stop l (at .loop .fields) (omega arith) e);
     }
 
+-- src/table.rt:33:19
+blocks-in-requires : tie.Need-blocks-in-requires Inv-loop μ-loop
+blocks-in-requires c κs = search needs
+
+-- src/table.rt:33:19
 cast-blocks : tie.Need-cast-blocks Inv-loop μ-loop
-cast-blocks c = omega arith
+cast-blocks c = search needs
 
+-- src/table.rt:33:9
 add-blocks : tie.Need-add-blocks Inv-loop μ-loop
-add-blocks c = omega arith
+add-blocks c = let at = c .before .before .before .before .before in omega (arith, c .blocks-in .ensures, blocks-most (getD (at .before .before .args .statuses .now) (at .loop .fields) 0))
 
-add-blocks-2 : tie.Need-add-blocks-2 Inv-loop μ-loop
-add-blocks-2 c = omega arith
-
+-- src/table.rt:34:9
 add-fields : tie.Need-add-fields Inv-loop μ-loop
 add-fields c = omega arith
 
+-- src/table.rt:28:5
 loop-less : tie.Need-loop-less Inv-loop μ-loop
 loop-less c = omega arith
 
+-- src/table.rt:28:5
 loop-again : tie.Need-loop-again Inv-loop μ-loop
-unfolding blocks
 loop-again c =
-    let at = c .before .before .before in
-    let l = at .before .args .statuses .now in
-    omega (arith, count-more l (at .loop .fields) (omega arith) (c .if1 .left), used-more l (at .loop .fields) (omega arith) (c .if1 .left))
+    let at = c .before .before .before .before .before in
+    let l = at .before .before .args .statuses .now in
+    let e = sym (c .before .before .has-field .ensures) ∙ not-false _ (c .before .if1 .left) in
+    omega (arith, count-more l (at .loop .fields) (omega arith) e, used-more l (at .loop .fields) (omega arith) e, c .blocks-in .ensures, blocks-most (getD l (at .loop .fields) 0))
 
+-- src/table.rt:22:1
 returns-2 : tie.Need-returns-2 Inv-loop μ-loop
 returns-2 c =
     let at = c .before in
-    let l = at .before .args .statuses .now in
+    let l = at .before .before .args .statuses .now in
     record {
       fields = omega (arith, count-end l (at .loop .fields) (omega arith));
       blocks = omega (arith, used-end l (at .loop .fields) (omega arith));
@@ -69,10 +89,11 @@ count-fields-spec =
     μ-loop
     loop-holds
     shared-slice-read-status
+    has-field-requires
     returns
+    blocks-in-requires
     cast-blocks
     add-blocks
-    add-blocks-2
     add-fields
     loop-less
     loop-again

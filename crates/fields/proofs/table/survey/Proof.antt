@@ -1,26 +1,35 @@
--- `fields::table::survey` meets its contract. Assumes nothing.
 use Rattle.meaning.specs.Fields.{table}
-use lib.ListN.{length-drop}
+use lib.ListN.{drop, length-drop}
 use native.Mathlib.Omega.{arith}
-use mathlib.Core.Path.{sym}
+use mathlib.Core.Path.{sym, ap, _∙_}
+use Prim.Native.Nat.{ℕ}
 use borrow.Author.Needs.{needs}
 use Rattle.fields.proofs.table.survey.Statement.{statement}
 use Rattle.fields.proofs.table.survey.Tie as tie
+use Rattle.fields.proofs.table.survey.Reads as reads
+use Rattle.fields.proofs.table.survey.Lts as lts
+use Rattle.fields.proofs.status.bytes_of.Reads as bytes-of-reads
+use Rattle.fields.proofs.table.past.Reads as past-reads
+use Rattle.fields.proofs.table.walk.Reads as walk-reads
 
-mul-past : tie.Need-mul-past
-mul-past c = search needs
+-- src/table.rt:114:23
+bytes-of-requires : tie.Need-bytes-of-requires
+bytes-of-requires c κs = search needs
 
+-- src/table.rt:114:10
 past-requires : tie.Need-past-requires
 past-requires c κs = search needs
 
+-- src/table.rt:114:5
 walk-requires : tie.Need-walk-requires
-walk-requires c κs = (search needs, simp (c .past .ensures, length-drop) (omega arith))
+walk-requires c κs = (search needs, simp (c .past .ensures, length-drop) (omega (arith, c .before .bytes-of .ensures)))
 
+-- src/table.rt:110:1
 returns : tie.Need-returns
 unfolding table
 returns c =
-    let a = c .before .before .before .args in
-    c .walk .ensures (a .memory .now) (sym (c .before .past .ensures))
+    let a = c .before .before .before .before .args in
+    c .walk .ensures (a .memory .now) (ap (λ (k : ℕ). drop k (a .memory .now)) (sym (c .before .before .bytes-of .ensures)) ∙ sym (c .before .past .ensures))
 
 pub survey-spec : {M : Type 1} → statement M
-survey-spec = tie.close (tie.spec mul-past past-requires walk-requires returns)
+survey-spec = tie.close (tie.spec bytes-of-requires past-requires walk-requires returns)

@@ -1,0 +1,28 @@
+use Rattle.fields.specs.declared.find.Found.{Found}
+use Rattle.fields.specs.Found.{codeIn}
+use Rattle.frame.specs.declared.answer.Answer.the-variants.{Refuse}
+use mathlib.Core.Path.{sym, ap}
+use borrow.Author.Needs.{needs}
+use Rattle.fields.proofs.find.refusal.Statement.{statement}
+use Rattle.fields.proofs.find.refusal.Tie as tie
+use Rattle.fields.proofs.find.refusal.Reads as reads
+use Rattle.fields.proofs.find.refusal.Lts as lts
+
+-- src/find.rt:60:24
+enum-known-found : tie.Need-enum-known-found
+enum-known-found c = search needs
+
+-- src/find.rt:61:55
+enum-told : tie.Need-enum-told
+enum-told c = search needs
+
+-- src/find.rt:56:1
+returns : tie.Need-returns
+returns c = ap (λ (g : Found). Refuse (codeIn g)) (sym (c .before .found .given .1))
+
+-- src/find.rt:56:1
+returns-2 : tie.Need-returns-2
+returns-2 c = ap (λ (g : Found). Refuse (codeIn g)) (sym (c .enum-told .given .1))
+
+pub refusal-spec : {M : Type 1} → statement M
+refusal-spec = tie.close (tie.spec enum-known-found enum-told returns returns-2)
