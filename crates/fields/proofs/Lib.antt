@@ -3,3 +3,4 @@ pub mod Tables
 pub mod Pieces
 pub mod Finds
 pub mod Rows
+pub mod Accesses
