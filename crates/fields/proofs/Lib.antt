@@ -4,3 +4,6 @@ pub mod Pieces
 pub mod Finds
 pub mod Rows
 pub mod Accesses
+pub mod Signed
+pub mod Over
+pub mod Shapes

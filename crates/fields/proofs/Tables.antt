@@ -111,7 +111,7 @@ unfolding survey sound freeBlocks
 survey-is t f m l e trusted blank-rest n u free first status p q z s r i k =
     rw (e, ← p, ← q, ← z, ← s, ← r, ← i, ← k)
 
-blocks-some : (s : ℕ) → 1 ≤ blocks s
+pub blocks-some : (s : ℕ) → 1 ≤ blocks s
 unfolding blocks
 blocks-some s = omega arith
 

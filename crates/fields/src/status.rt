@@ -1,18 +1,9 @@
-// The status byte (01, "Status byte"), and blocks in bytes.
+// The status byte (01, "Status byte").
 ghost use mathlib.Core.Path.{_≡_};
-ghost use Prim.Native.Nat.{_≤_};
 ghost use Rattle.meaning.specs.Bytes.{both};
 ghost use Rattle.meaning.specs.State.{State};
-ghost use Rattle.meaning.specs.Fields.{bytesOf, blocks, coded, writable, exists};
+ghost use Rattle.meaning.specs.Fields.{blocks, coded, writable, exists};
 ghost use Rattle.meaning.specs.Commands.{wrongCode};
-
-// 01, "a block is 16 bytes".
-pub(crate) fn bytes_of(blocks: usize) -> usize
-    requires { ⌜ blocks ≤ 65535 ⌝ }
-    ensures { λ r. ⌜ r ≡ bytesOf blocks ⌝ }
-{
-    16 * blocks
-}
 
 // Bits 0 to 2: blocks less one.
 pub(crate) fn blocks_in(status: u8) -> u8

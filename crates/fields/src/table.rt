@@ -1,15 +1,16 @@
 // The status table, walked once (01, "03h").
 ghost use mathlib.Core.Path.{_≡_};
-ghost use Prim.Native.Nat.{ℕ, _-_, _≤_, min};
+ghost use Prim.Native.Nat.{ℕ, _≤_};
 ghost use mathlib.Core.List.{List};
 ghost use lib.ListN.{length, take, drop};
-ghost use lib.Dec.{leb};
 ghost use Rattle.meaning.specs.Bytes.{blank, both};
 ghost use Rattle.meaning.specs.Fields.{survey, statusAt, table};
 ghost use Rattle.fields.specs.Memory.{Fit, Tallied, surveyOf};
 use crate::seen::Survey;
+use crate::sizes::bytes_of;
+use crate::sizes::least;
+use crate::sizes::less;
 use crate::status::blocks_in;
-use crate::status::bytes_of;
 use crate::status::has_field;
 
 // How many fields stand at the front, and their blocks.
@@ -48,18 +49,6 @@ pub(crate) fn is_blank(rest: &[u8]) -> bool
         i += 1;
     }
     true
-}
-
-fn least(a: usize, b: usize) -> usize
-    ensures { λ r. ⌜ r ≡ min a b ⌝ }
-{
-    if a <= b { a } else { b }
-}
-
-fn less(a: usize, b: usize) -> usize
-    ensures { λ r. ⌜ r ≡ a - b ⌝ }
-{
-    if a <= b { 0 } else { a - b }
 }
 
 fn both(a: bool, b: bool) -> bool

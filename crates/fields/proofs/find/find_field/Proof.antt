@@ -12,7 +12,7 @@ use Rattle.fields.proofs.find.find_field.Tie as tie
 use Rattle.fields.proofs.find.find_field.Reads as reads
 use Rattle.fields.proofs.find.find_field.Lts as lts
 use Rattle.fields.proofs.status.blocks_in.Reads as blocks-in-reads
-use Rattle.fields.proofs.status.bytes_of.Reads as bytes-of-reads
+use Rattle.fields.proofs.sizes.bytes_of.Reads as bytes-of-reads
 use Rattle.fields.proofs.table.survey.Reads as survey-reads
 
 -- past both tests the field lies in memory

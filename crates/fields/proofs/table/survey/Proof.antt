@@ -8,7 +8,7 @@ use Rattle.fields.proofs.table.survey.Statement.{statement}
 use Rattle.fields.proofs.table.survey.Tie as tie
 use Rattle.fields.proofs.table.survey.Reads as reads
 use Rattle.fields.proofs.table.survey.Lts as lts
-use Rattle.fields.proofs.status.bytes_of.Reads as bytes-of-reads
+use Rattle.fields.proofs.sizes.bytes_of.Reads as bytes-of-reads
 use Rattle.fields.proofs.table.past.Reads as past-reads
 use Rattle.fields.proofs.table.walk.Reads as walk-reads
 
