@@ -1,4 +1,4 @@
-use Prim.Native.Nat.{ℕ}
+-- `fields::access::read_field` meets its contract. Assumes nothing.
 use Rattle.fields.proofs.Accesses.{read-refused, read-zero, read-many, read-own}
 use Rattle.fields.proofs.Rows.{asked-4A, works-refuse}
 use Rattle.fields.specs.declared.find.Found.the-variants.{Field}
@@ -12,11 +12,6 @@ use mathlib.Core.Path.{subst}
 use borrow.Author.Needs.{needs}
 use Rattle.fields.proofs.access.read_field.Statement.{statement}
 use Rattle.fields.proofs.access.read_field.Tie as tie
-use Rattle.fields.proofs.access.read_field.Reads as reads
-use Rattle.fields.proofs.access.read_field.Lts as lts
-use Rattle.fields.proofs.access.read_own.Reads as read-own-reads
-use Rattle.fields.proofs.find.open_field.Reads as open-field-reads
-use Rattle.fields.proofs.find.refusal.Reads as refusal-reads
 
 -- where the call began
 abbrev entry : tie.After-open-field → tie.Start
@@ -28,35 +23,28 @@ said c =
     let a = entry (c .before .before) .args in
     subst (λ (g : Found). OpenTo (a .codes) (arg (a .request .now) 3) (a .total) (a .memory .now) (arg (a .request .now) 0) g) (c .found .given .1) (c .before .before .open-field .ensures)
 
--- src/access.rt:39:50
 shared-slice-read-open-field : tie.Need-shared-slice-read-open-field
 shared-slice-read-open-field c =
     let s = c .before .before .before .before in
     omega (arith, asked-4A (s .args .request .now) (s .pre .wanted))
 
--- src/access.rt:39:62
 shared-slice-read-open-field-2 : tie.Need-shared-slice-read-open-field-2
 shared-slice-read-open-field-2 c =
     let s = c .before .before .before .before .before in
     omega (arith, asked-4A (s .args .request .now) (s .pre .wanted))
 
--- src/access.rt:39:9
 open-field-requires : tie.Need-open-field-requires
 open-field-requires c κs = search needs
 
--- src/access.rt:40:24
 enum-known-found : tie.Need-enum-known-found
 enum-known-found c = search needs
 
--- src/access.rt:41:9
 enum-told : tie.Need-enum-told
 enum-told c = search needs
 
--- src/access.rt:41:9
 refusal-requires : tie.Need-refusal-requires
 refusal-requires c κs = search needs
 
--- src/access.rt:41:9
 returns : tie.Need-returns
 returns c = λ p s e q.
     let k = c .before .before .before in
@@ -64,26 +52,22 @@ returns c = λ p s e q.
     rw (c .refusal .ensures)
     (works-refuse _ (a .memory .now) (a .room .now) _ (read-refused p s (a .codes) (a .total) (a .memory .now) (a .request .now) e q _ (k .open-field .ensures) (c .before .before .match .keys2)))
 
--- src/access.rt:43:8
 shared-slice-read-if1 : tie.Need-shared-slice-read-if1
 shared-slice-read-if1 c =
     let s = entry (c .before .before .before .before) in
     omega (arith, asked-4A (s .args .request .now) (s .pre .wanted))
 
--- src/access.rt:44:9
 returns-2 : tie.Need-returns-2
 returns-2 c = λ p s e q.
     let f = c .before .before .before in
     let a = entry (f .before .before) .args in
     works-refuse _ (a .memory .now) (a .room .now) _ (read-zero p s (a .codes) (a .total) (a .memory .now) (a .request .now) e q _ _ _ (said f) (c .if1 .taken))
 
--- src/access.rt:46:14
 shared-slice-read-if2 : tie.Need-shared-slice-read-if2
 shared-slice-read-if2 c =
     let s = entry (c .before .before .before .before .before .before) in
     omega (arith, asked-4A (s .args .request .now) (s .pre .wanted))
 
--- src/access.rt:47:9
 returns-3 : tie.Need-returns-3
 returns-3 c = λ p s e q.
     let z = c .before .before in
@@ -91,37 +75,31 @@ returns-3 c = λ p s e q.
     let a = entry (f .before .before) .args in
     works-refuse _ (a .memory .now) (a .room .now) _ (read-many p s (a .codes) (a .total) (a .memory .now) (a .request .now) e q _ _ _ (said f) (z .if1 .left) (c .if2 .taken))
 
--- src/access.rt:49:14
 sub-read-own : tie.Need-sub-read-own
 sub-read-own c =
     let l = said (c .before .before .before .before .before) .place in
     omega (arith, l .ends)
 
--- src/access.rt:49:14
 part-read-own-start : tie.Need-part-read-own-start
 part-read-own-start c =
     let l = said (c .before .before .before .before .before) .place in
     omega (arith, l .ends)
 
--- src/access.rt:49:14
 part-read-own-end : tie.Need-part-read-own-end
 part-read-own-end c =
     let f = c .before .before .before .before .before in
     let l = said f .place in
     omega (arith, l .within, entry (f .before .before) .pre .lent .fit .long)
 
--- src/access.rt:49:5
 read-own-requires : tie.Need-read-own-requires
 read-own-requires c κs =
     let l = c .before .before in
     let s = entry (l .before .before .before .before .before .before .before) in
     record { long = asked-4A (s .args .request .now) (s .pre .wanted); few = l .if2 .left; room = s .pre .lent .room }
 
--- src/access.rt:34:1
 same-length : tie.Need-same-length
 same-length c = search needs
 
--- src/access.rt:34:1
 returns-4 : tie.Need-returns-4
 returns-4 c = λ p s e q.
     let l = c .before .before .before .before .before in

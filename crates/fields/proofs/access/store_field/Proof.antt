@@ -1,3 +1,4 @@
+-- `fields::access::store_field` meets its contract. Assumes nothing.
 use borrow.Author.Tests.{not-true, not-false}
 use lib.ListN.{length-drop}
 use mathlib.Core.Path.{sym, _∙_}
@@ -6,20 +7,12 @@ use Rattle.fields.proofs.Rows.{asked-4B, works-refuse}
 use Rattle.fields.specs.declared.find.Found.the-variants.{Field}
 use Rattle.fields.specs.declared.find.Found.{Found}
 use Rattle.fields.specs.Found.{OpenTo}
-use Rattle.frame.specs.Answers.{Works}
-use Rattle.meaning.specs.Commands.{Answer}
 use Rattle.meaning.specs.Bytes.{arg}
 use native.Mathlib.Omega.{arith}
 use mathlib.Core.Path.{subst}
 use borrow.Author.Needs.{needs}
 use Rattle.fields.proofs.access.store_field.Statement.{statement}
 use Rattle.fields.proofs.access.store_field.Tie as tie
-use Rattle.fields.proofs.access.store_field.Reads as reads
-use Rattle.fields.proofs.access.store_field.Lts as lts
-use Rattle.fields.proofs.access.store_own.Reads as store-own-reads
-use Rattle.fields.proofs.find.open_field.Reads as open-field-reads
-use Rattle.fields.proofs.find.refusal.Reads as refusal-reads
-use Rattle.fields.proofs.status.is_writable.Reads as is-writable-reads
 
 -- where the call began
 abbrev entry : tie.After-open-field → tie.Start
@@ -31,39 +24,31 @@ said c =
     let a = entry (c .before .before) .args in
     subst (λ (g : Found). OpenTo (a .codes) (arg (a .request .now) 3) (a .total) (a .memory .now) (arg (a .request .now) 0) g) (c .found .given .1) (c .before .before .open-field .ensures)
 
--- src/access.rt:72:50
 shared-slice-read-open-field : tie.Need-shared-slice-read-open-field
 shared-slice-read-open-field c =
     let s = c .before .before .before .before .before in
     omega (arith, asked-4B (s .args .request .now) (s .pre .wanted))
 
--- src/access.rt:72:62
 shared-slice-read-open-field-2 : tie.Need-shared-slice-read-open-field-2
 shared-slice-read-open-field-2 c =
     let s = c .before .before .before .before .before .before in
     omega (arith, asked-4B (s .args .request .now) (s .pre .wanted))
 
--- src/access.rt:72:9
 open-field-requires : tie.Need-open-field-requires
 open-field-requires c κs = search needs
 
--- src/access.rt:73:24
 enum-known-found : tie.Need-enum-known-found
 enum-known-found c = search needs
 
--- src/access.rt:74:9
 enum-told : tie.Need-enum-told
 enum-told c = search needs
 
--- src/access.rt:74:9
 refusal-requires : tie.Need-refusal-requires
 refusal-requires c κs = search needs
 
--- src/access.rt:74:9
 same-length : tie.Need-same-length
 same-length c = search needs
 
--- src/access.rt:74:9
 returns : tie.Need-returns
 returns c = λ p s e q.
     let k = c .before .before .before in
@@ -71,15 +56,12 @@ returns c = λ p s e q.
     rw (c .refusal .ensures)
     (works-refuse _ (a .memory .now) (a .room .now) _ (store-refused p s (a .codes) (a .total) (a .memory .now) (a .request .now) e q _ (k .open-field .ensures) (c .before .before .match .keys2)))
 
--- src/access.rt:76:9
 is-writable-requires : tie.Need-is-writable-requires
 is-writable-requires c κs = search needs
 
--- src/access.rt:77:9
 same-length-2 : tie.Need-same-length-2
 same-length-2 c = search needs
 
--- src/access.rt:77:9
 returns-2 : tie.Need-returns-2
 returns-2 c = λ p s e q.
     let f = c .before .before .before in
@@ -87,41 +69,34 @@ returns-2 c = λ p s e q.
     works-refuse _ (a .memory .now) (a .room .now) _
     (store-locked p s (a .codes) (a .total) (a .memory .now) (a .request .now) e q _ _ _ (said f) (sym (c .before .is-writable .ensures) ∙ not-true _ (c .if1 .taken)))
 
--- src/access.rt:79:15
 sub-store-own : tie.Need-sub-store-own
 sub-store-own c =
     let l = said (c .before .before .before) .place in
     omega (arith, l .ends)
 
--- src/access.rt:79:15
 part-store-own-start : tie.Need-part-store-own-start
 part-store-own-start c =
     let l = said (c .before .before .before) .place in
     omega (arith, l .ends)
 
--- src/access.rt:79:15
 part-store-own-end : tie.Need-part-store-own-end
 part-store-own-end c =
     let f = c .before .before .before in
     let l = said f .place in
     omega (arith, l .within, entry (f .before .before) .pre .lent .fit .long)
 
--- src/access.rt:79:5
 store-own-requires : tie.Need-store-own-requires
 store-own-requires c κs =
     let s = entry (c .before .before .before .before .before .before .before) in
     let k = asked-4B (s .args .request .now) (s .pre .wanted) in
     record { long = k .2; some = k .0; room = s .pre .lent .room }
 
--- src/access.rt:67:1
 same-length-3 : tie.Need-same-length-3
 same-length-3 c = search needs
 
--- src/access.rt:67:1
 same-length-4 : tie.Need-same-length-4
 same-length-4 c = search needs
 
--- src/access.rt:67:1
 returns-3 : tie.Need-returns-3
 returns-3 c = λ p s e q.
     let y = c .before .before .before .before in

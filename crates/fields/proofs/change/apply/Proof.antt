@@ -1,80 +1,58 @@
+-- `fields::change::apply` meets its contract. Assumes nothing.
 use Rattle.fields.proofs.Shapes.{applied}
 use native.Mathlib.Omega.{arith}
 use borrow.Author.Needs.{needs}
 use Rattle.fields.proofs.change.apply.Statement.{statement}
 use Rattle.fields.proofs.change.apply.Tie as tie
-use Rattle.fields.proofs.change.apply.Reads as reads
-use Rattle.fields.proofs.change.apply.Lts as lts
-use Rattle.fields.proofs.change.clear.Reads as clear-reads
-use Rattle.fields.proofs.sizes.bytes_of.Reads as bytes-of-reads
-use Rattle.fields.proofs.sizes.least.Reads as least-reads
-use Rattle.fields.proofs.sizes.most.Reads as most-reads
 
--- src/change.rt:62:15
 cast-old : tie.Need-cast-old
 cast-old c = search needs
 
--- src/change.rt:63:15
 cast-new : tie.Need-cast-new
 cast-new c = search needs
 
--- src/change.rt:64:40
 least-requires : tie.Need-least-requires
 least-requires c κs = search needs
 
--- src/change.rt:64:25
 add-bytes-of : tie.Need-add-bytes-of
 add-bytes-of c = search needs
 
--- src/change.rt:64:9
 bytes-of-requires : tie.Need-bytes-of-requires
 bytes-of-requires c κs = search needs
 
--- src/change.rt:65:38
 most-requires : tie.Need-most-requires
 most-requires c κs = search needs
 
--- src/change.rt:65:23
 add-bytes-of-2 : tie.Need-add-bytes-of-2
 add-bytes-of-2 c = search needs
 
--- src/change.rt:65:9
 bytes-of-requires-2 : tie.Need-bytes-of-requires-2
 bytes-of-requires-2 c κs = search needs
 
--- src/change.rt:66:11
 sub-clear : tie.Need-sub-clear
 sub-clear c = search needs
 
--- src/change.rt:66:11
 part-clear-start : tie.Need-part-clear-start
 part-clear-start c = search needs
 
--- src/change.rt:66:11
 part-clear-end : tie.Need-part-clear-end
 part-clear-end c = search needs
 
--- src/change.rt:66:5
 clear-requires : tie.Need-clear-requires
 clear-requires c κs = search needs
 
--- src/change.rt:67:14
 bytes-of-requires-3 : tie.Need-bytes-of-requires-3
 bytes-of-requires-3 c κs = search needs
 
--- src/change.rt:67:14
 add-at : tie.Need-add-at
 add-at c = search needs
 
--- src/change.rt:68:5
 slice-write-memory : tie.Need-slice-write-memory
 slice-write-memory c = search needs
 
--- src/change.rt:58:1
 same-length : tie.Need-same-length
 same-length c = search needs
 
--- src/change.rt:58:1
 returns : tie.Need-returns
 returns c =
     let k = c .before .before .before in

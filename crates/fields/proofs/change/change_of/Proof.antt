@@ -1,3 +1,4 @@
+-- `fields::change::change_of` meets its contract. Assumes nothing.
 use Rattle.fields.proofs.Signed.{small-fits, bytes-fit}
 use mir.Facts.{toZ-pos, toZ-ofZ}
 use mir.Syntax.{w32}
@@ -6,22 +7,16 @@ use native.Mathlib.Omega.{arith}
 use borrow.Author.Needs.{needs}
 use Rattle.fields.proofs.change.change_of.Statement.{statement}
 use Rattle.fields.proofs.change.change_of.Tie as tie
-use Rattle.fields.proofs.change.change_of.Reads as reads
-use Rattle.fields.proofs.change.change_of.Lts as lts
 
--- src/change.rt:28:5
 cast-result : tie.Need-cast-result
 cast-result c = search needs
 
--- src/change.rt:28:18
 cast-result-2 : tie.Need-cast-result-2
 cast-result-2 c = search needs
 
--- src/change.rt:28:5
 sub-result : tie.Need-sub-result
 sub-result c = search (bytes-fit, needs)
 
--- src/change.rt:25:1
 returns : tie.Need-returns
 returns c =
     let n = toZ-pos w32 {n = c .args .new} (omega arith) in

@@ -1,20 +1,15 @@
+-- `fields::change::charged` meets its contract. Assumes nothing.
 use Rattle.fields.proofs.Signed.{small-fits, small-reads, small-back}
-use native.Mathlib.Omega.{arith}
 use borrow.Author.Needs.{needs}
 use Rattle.fields.proofs.change.charged.Statement.{statement}
 use Rattle.fields.proofs.change.charged.Tie as tie
-use Rattle.fields.proofs.change.charged.Reads as reads
-use Rattle.fields.proofs.change.charged.Lts as lts
 
--- src/change.rt:36:5
 cast-result : tie.Need-cast-result
 cast-result c = search needs
 
--- src/change.rt:36:5
 sub-result : tie.Need-sub-result
 sub-result c = rw (small-reads (c .args .free) (c .args .change) (c .pre .0) (c .fits .change)) (small-fits (c .args .free) (c .args .change) (c .pre .0) (c .pre .1))
 
--- src/change.rt:32:1
 returns : tie.Need-returns
 returns c = small-back (c .args .free) (c .args .change) (c .pre .0) (c .pre .1) (c .fits .change)
 

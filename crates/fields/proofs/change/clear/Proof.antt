@@ -1,12 +1,10 @@
+-- `fields::change::clear` meets its contract. Assumes nothing.
 use Rattle.fields.proofs.Over.{Over, over-start, over-turn, over-end}
 use lib.ListN.{length, replicate, length-replicate, getD-replicate}
 use native.Mathlib.Omega.{arith}
 use Prim.Native.Nat.{_-_}
-use borrow.Author.Needs.{needs}
 use Rattle.fields.proofs.change.clear.Statement.{statement}
 use Rattle.fields.proofs.change.clear.Tie as tie
-use Rattle.fields.proofs.change.clear.Reads as reads
-use Rattle.fields.proofs.change.clear.Lts as lts
 
 abbrev Inv-loop : tie.InvT-loop
 Inv-loop part₀ i₀ part i = Over (replicate (length part₀) 0) part₀ part i
@@ -14,33 +12,26 @@ Inv-loop part₀ i₀ part i = Over (replicate (length part₀) 0) part₀ part 
 abbrev μ-loop : tie.MeasureT-loop
 μ-loop part₀ i₀ part i = length part₀ - i
 
--- src/change.rt:51:5
 loop-holds : tie.Need-loop-holds Inv-loop μ-loop
 loop-holds c = over-start _ _ (length-replicate _ 0)
 
--- src/change.rt:52:9
 slice-write-part : tie.Need-slice-write-part Inv-loop μ-loop
 slice-write-part c = omega arith
 
--- src/change.rt:53:9
 add-i : tie.Need-add-i Inv-loop μ-loop
 add-i c = omega arith
 
--- src/change.rt:51:5
 loop-less : tie.Need-loop-less Inv-loop μ-loop
 loop-less c = omega arith
 
--- src/change.rt:51:5
 loop-again : tie.Need-loop-again Inv-loop μ-loop
 loop-again c =
     let at = c .before in
     over-turn (at .loop .inv) (omega arith) 0 (getD-replicate (length (at .before .args .part .now)) (at .loop .i) 0 0 (omega arith))
 
--- src/change.rt:47:1
 same-length : tie.Need-same-length Inv-loop μ-loop
 same-length c = omega arith
 
--- src/change.rt:47:1
 returns : tie.Need-returns Inv-loop μ-loop
 returns c = over-end (c .before .loop .inv) (omega arith)
 

@@ -1,3 +1,4 @@
+-- `fields::change::lacks_room` meets its contract. Assumes nothing.
 use Rattle.fields.proofs.Signed.{small-fits, small-mag, short-is}
 use mir.Facts.{toZ-ofZ}
 use mir.Val.{toZ, ofZ}
@@ -9,10 +10,6 @@ use mathlib.Core.Path.{_≡_, ap, _∙_}
 use borrow.Author.Needs.{needs}
 use Rattle.fields.proofs.change.lacks_room.Statement.{statement}
 use Rattle.fields.proofs.change.lacks_room.Tie as tie
-use Rattle.fields.proofs.change.lacks_room.Reads as reads
-use Rattle.fields.proofs.change.lacks_room.Lts as lts
-use Rattle.fields.proofs.change.change_of.Reads as change-of-reads
-use Rattle.fields.proofs.change.charged.Reads as charged-reads
 
 -- the change, as it is handed on
 change-is : (c : tie.After-change-of) → toZ w32 (ofZ w32 (c .change-of .result)) ≡ pos (c .before .args .new) -ℤ pos (c .before .args .old)
@@ -20,17 +17,14 @@ change-is c =
     let a = c .before .args in
     rw (c .change-of .ensures) (toZ-ofZ (small-fits (a .new) (pos (a .old)) (omega arith) (omega arith)))
 
--- src/change.rt:44:19
 change-of-requires : tie.Need-change-of-requires
 change-of-requires c κs = search needs
 
--- src/change.rt:44:5
 charged-requires : tie.Need-charged-requires
 charged-requires c κs =
     let a = c .before .args in
     (c .before .pre, rw (change-is c) (small-mag (a .new) (a .old) (omega arith) (omega arith)))
 
--- src/change.rt:40:1
 returns : tie.Need-returns
 returns c =
     let a = c .before .before .args in

@@ -1,3 +1,4 @@
+-- `fields::find::open_field` meets its contract. Assumes nothing.
 use Rattle.fields.proofs.Finds.{open-refused, open-barred, open-there}
 use Rattle.fields.specs.declared.find.Found.the-variants.{Field}
 use Rattle.fields.specs.declared.find.Found.{Found}
@@ -6,10 +7,6 @@ use mathlib.Core.Path.{sym, subst, _∙_}
 use borrow.Author.Needs.{needs}
 use Rattle.fields.proofs.find.open_field.Statement.{statement}
 use Rattle.fields.proofs.find.open_field.Tie as tie
-use Rattle.fields.proofs.find.open_field.Reads as reads
-use Rattle.fields.proofs.find.open_field.Lts as lts
-use Rattle.fields.proofs.find.find_field.Reads as find-field-reads
-use Rattle.fields.proofs.status.is_barred.Reads as is-barred-reads
 
 -- past the `let` the field is there
 said : (c : tie.After-found) → FoundIn (c .before .before .before .before .args .total) (c .before .before .before .before .args .memory .now) (c .before .before .before .before .args .field) (Field (c .found .given .0 .0) (c .found .given .0 .1 .0) (c .found .given .0 .1 .1 .0))
@@ -18,31 +15,24 @@ said c =
     let a = k .before .before .args in
     subst (λ (g : Found). FoundIn (a .total) (a .memory .now) (a .field) g) (c .found .given .1) (k .find-field .ensures)
 
--- src/find.rt:45:9
 find-field-requires : tie.Need-find-field-requires
 find-field-requires c κs = search needs
 
--- src/find.rt:46:40
 enum-known-found : tie.Need-enum-known-found
 enum-known-found c = search needs
 
--- src/find.rt:47:9
 enum-told : tie.Need-enum-told
 enum-told c = search needs
 
--- src/find.rt:47:9
 returns : tie.Need-returns
 returns c = open-refused _ _ _ _ _ _ (c .before .before .find-field .ensures) (c .before .match .keys2)
 
--- src/find.rt:49:8
 is-barred-requires : tie.Need-is-barred-requires
 is-barred-requires c κs = search needs
 
--- src/find.rt:50:9
 returns-2 : tie.Need-returns-2
 returns-2 c = open-barred _ _ _ _ _ _ _ _ (said (c .before .before .before)) (λ s e. sym (c .if1 .taken) ∙ c .before .is-barred .ensures s e)
 
--- src/find.rt:41:1
 returns-3 : tie.Need-returns-3
 returns-3 c = open-there _ _ _ _ _ _ _ _ (said (c .before .before .before)) (λ s e. sym (c .if1 .left) ∙ c .before .is-barred .ensures s e)
 

@@ -1,3 +1,4 @@
+-- `fields::find::refusal` meets its contract. Assumes nothing.
 use Rattle.fields.specs.declared.find.Found.{Found}
 use Rattle.fields.specs.Found.{codeIn}
 use Rattle.frame.specs.declared.answer.Answer.the-variants.{Refuse}
@@ -5,22 +6,16 @@ use mathlib.Core.Path.{sym, ap}
 use borrow.Author.Needs.{needs}
 use Rattle.fields.proofs.find.refusal.Statement.{statement}
 use Rattle.fields.proofs.find.refusal.Tie as tie
-use Rattle.fields.proofs.find.refusal.Reads as reads
-use Rattle.fields.proofs.find.refusal.Lts as lts
 
--- src/find.rt:60:24
 enum-known-found : tie.Need-enum-known-found
 enum-known-found c = search needs
 
--- src/find.rt:61:55
 enum-told : tie.Need-enum-told
 enum-told c = search needs
 
--- src/find.rt:56:1
 returns : tie.Need-returns
 returns c = ap (λ (g : Found). Refuse (codeIn g)) (sym (c .before .found .given .1))
 
--- src/find.rt:56:1
 returns-2 : tie.Need-returns-2
 returns-2 c = ap (λ (g : Found). Refuse (codeIn g)) (sym (c .enum-told .given .1))
 

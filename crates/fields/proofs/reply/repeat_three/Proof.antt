@@ -1,3 +1,4 @@
+-- `fields::reply::repeat_three` meets its contract. Assumes nothing.
 use Rattle.fields.proofs.Pieces.{stored-is-put}
 use Rattle.fields.specs.Replies.{named}
 use lib.ListN.{length-set}
@@ -5,38 +6,28 @@ use native.Mathlib.Omega.{arith}
 use borrow.Author.Needs.{needs}
 use Rattle.fields.proofs.reply.repeat_three.Statement.{statement}
 use Rattle.fields.proofs.reply.repeat_three.Tie as tie
-use Rattle.fields.proofs.reply.repeat_three.Reads as reads
-use Rattle.fields.proofs.reply.repeat_three.Lts as lts
 
--- src/reply.rt:24:15
 shared-slice-read-room : tie.Need-shared-slice-read-room
 shared-slice-read-room c = search needs
 
--- src/reply.rt:24:5
 slice-write-room : tie.Need-slice-write-room
 slice-write-room c = search needs
 
--- src/reply.rt:25:15
 shared-slice-read-room-2 : tie.Need-shared-slice-read-room-2
 shared-slice-read-room-2 c = search needs
 
--- src/reply.rt:25:5
 slice-write-room-2 : tie.Need-slice-write-room-2
 slice-write-room-2 c = simp length-set (omega arith)
 
--- src/reply.rt:26:15
 shared-slice-read-room-3 : tie.Need-shared-slice-read-room-3
 shared-slice-read-room-3 c = search needs
 
--- src/reply.rt:26:5
 slice-write-room-3 : tie.Need-slice-write-room-3
 slice-write-room-3 c = simp length-set (omega arith)
 
--- src/reply.rt:20:1
 same-length : tie.Need-same-length
 same-length c = search needs
 
--- src/reply.rt:20:1
 returns : tie.Need-returns
 returns c =
     let a = c .before .before .before .args in

@@ -1,3 +1,4 @@
+-- `fields::reply::reply_two` meets its contract. Assumes nothing.
 use Rattle.fields.proofs.Pieces.{stored-is-put}
 use lib.ListN.{length-set}
 use mathlib.Core.List.{[], _∷_}
@@ -6,22 +7,16 @@ use native.Mathlib.Omega.{arith}
 use borrow.Author.Needs.{needs}
 use Rattle.fields.proofs.reply.reply_two.Statement.{statement}
 use Rattle.fields.proofs.reply.reply_two.Tie as tie
-use Rattle.fields.proofs.reply.reply_two.Reads as reads
-use Rattle.fields.proofs.reply.reply_two.Lts as lts
 
--- src/reply.rt:12:5
 slice-write-room : tie.Need-slice-write-room
 slice-write-room c = search needs
 
--- src/reply.rt:13:5
 slice-write-room-2 : tie.Need-slice-write-room-2
 slice-write-room-2 c = simp length-set (omega arith)
 
--- src/reply.rt:8:1
 same-length : tie.Need-same-length
 same-length c = search needs
 
--- src/reply.rt:8:1
 returns : tie.Need-returns
 returns c = record { answer = refl; room = stored-is-put (c .args .room .now) 2 (c .args .first ∷ c .args .second ∷ []) (omega arith) }
 

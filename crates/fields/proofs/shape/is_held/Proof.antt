@@ -1,19 +1,15 @@
+-- `fields::shape::is_held` meets its contract. Assumes nothing.
 use borrow.Author.Tests.{eq-eqb, ne-eqb}
 use borrow.Author.Needs.{needs}
 use Rattle.fields.proofs.shape.is_held.Statement.{statement}
 use Rattle.fields.proofs.shape.is_held.Tie as tie
-use Rattle.fields.proofs.shape.is_held.Reads as reads
-use Rattle.fields.proofs.shape.is_held.Lts as lts
 
--- src/shape.rt:35:9
 returns : tie.Need-returns
 returns c = simp (eq-eqb _ _ (c .if1 .taken))
 
--- src/shape.rt:37:5
 add-result : tie.Need-add-result
 add-result c = search needs
 
--- src/shape.rt:31:1
 returns-2 : tie.Need-returns-2
 returns-2 c = simp (ne-eqb _ _ (c .before .if1 .left))
 

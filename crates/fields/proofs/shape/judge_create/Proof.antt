@@ -1,34 +1,25 @@
+-- `fields::shape::judge_create` meets its contract. Assumes nothing.
 use Rattle.fields.proofs.Shapes.{create-barred, create-short, create-granted}
 use Rattle.fields.specs.Memory.{surveyOf}
 use mathlib.Core.Path.{sym, _∙_}
 use borrow.Author.Needs.{needs}
 use Rattle.fields.proofs.shape.judge_create.Statement.{statement}
 use Rattle.fields.proofs.shape.judge_create.Tie as tie
-use Rattle.fields.proofs.shape.judge_create.Reads as reads
-use Rattle.fields.proofs.shape.judge_create.Lts as lts
-use Rattle.fields.proofs.change.lacks_room.Reads as lacks-room-reads
-use Rattle.fields.proofs.status.blocks_in.Reads as blocks-in-reads
-use Rattle.fields.proofs.status.is_wrong_code.Reads as is-wrong-code-reads
 
--- src/shape.rt:46:8
 is-wrong-code-requires : tie.Need-is-wrong-code-requires
 is-wrong-code-requires c κs = search needs
 
--- src/shape.rt:47:9
 returns : tie.Need-returns
 returns c = λ f sits at.
     let a = c .before .before .args in
     create-barred (a .codes) (a .total) f (surveyOf (a .seen)) (a .code) (a .new) (λ s e. sym (c .if1 .taken) ∙ c .before .is-wrong-code .ensures s e)
 
--- src/shape.rt:49:9
 blocks-in-requires : tie.Need-blocks-in-requires
 blocks-in-requires c κs = search needs
 
--- src/shape.rt:50:8
 lacks-room-requires : tie.Need-lacks-room-requires
 lacks-room-requires c κs = search needs
 
--- src/shape.rt:51:9
 returns-2 : tie.Need-returns-2
 returns-2 c = λ f sits at.
     let b = c .before .before in
@@ -37,11 +28,9 @@ returns-2 c = λ f sits at.
     create-short (a .codes) (a .total) f (surveyOf (a .seen)) (a .code) (a .new) (λ s e. sym (l .if1 .left) ∙ l .before .is-wrong-code .ensures s e) _ (b .blocks-in .ensures)
     (sym (c .if2 .taken) ∙ c .before .lacks-room .ensures)
 
--- src/shape.rt:54:16
 sub-t9 : tie.Need-sub-t9
 sub-t9 c = search needs
 
--- src/shape.rt:41:1
 returns-3 : tie.Need-returns-3
 returns-3 c = λ f sits at.
     let k = c .before in

@@ -1,39 +1,28 @@
+-- `fields::shape::judge_modify` meets its contract. Assumes nothing.
 use Rattle.fields.proofs.Shapes.{modify-barred, modify-held, modify-short, modify-granted}
 use Rattle.fields.specs.Memory.{surveyOf}
 use mathlib.Core.Path.{sym, _∙_}
 use borrow.Author.Needs.{needs}
 use Rattle.fields.proofs.shape.judge_modify.Statement.{statement}
 use Rattle.fields.proofs.shape.judge_modify.Tie as tie
-use Rattle.fields.proofs.shape.judge_modify.Reads as reads
-use Rattle.fields.proofs.shape.judge_modify.Lts as lts
-use Rattle.fields.proofs.change.lacks_room.Reads as lacks-room-reads
-use Rattle.fields.proofs.shape.is_held.Reads as is-held-reads
-use Rattle.fields.proofs.status.blocks_in.Reads as blocks-in-reads
-use Rattle.fields.proofs.status.is_wrong_code.Reads as is-wrong-code-reads
 
--- src/shape.rt:68:8
 is-wrong-code-requires : tie.Need-is-wrong-code-requires
 is-wrong-code-requires c κs = search needs
 
--- src/shape.rt:69:9
 returns : tie.Need-returns
 returns c = λ t sits there.
     let a = c .before .before .args in
     modify-barred (a .codes) t (a .field) (surveyOf (a .seen)) (a .code) (a .new) (λ s e. sym (c .if1 .taken) ∙ c .before .is-wrong-code .ensures s e)
 
--- src/shape.rt:71:9
 blocks-in-requires : tie.Need-blocks-in-requires
 blocks-in-requires c κs = search needs
 
--- src/shape.rt:72:9
 blocks-in-requires-2 : tie.Need-blocks-in-requires-2
 blocks-in-requires-2 c κs = search needs
 
--- src/shape.rt:73:8
 is-held-requires : tie.Need-is-held-requires
 is-held-requires c κs = search needs
 
--- src/shape.rt:74:9
 returns-2 : tie.Need-returns-2
 returns-2 c = λ t sits there.
     let b = c .before .before in
@@ -42,11 +31,9 @@ returns-2 c = λ t sits there.
     modify-held (a .codes) t (a .field) (surveyOf (a .seen)) (a .code) (a .new) _ _ (b .before .blocks-in .ensures) (b .blocks-in2 .ensures)
     (λ s e. sym (l .if1 .left) ∙ l .before .is-wrong-code .ensures s e) (sym (c .if2 .taken) ∙ c .before .is-held .ensures)
 
--- src/shape.rt:76:8
 lacks-room-requires : tie.Need-lacks-room-requires
 lacks-room-requires c κs = search needs
 
--- src/shape.rt:77:9
 returns-3 : tie.Need-returns-3
 returns-3 c = λ t sits there.
     let k = c .before .before in
@@ -56,7 +43,6 @@ returns-3 c = λ t sits there.
     modify-short (a .codes) t (a .field) (surveyOf (a .seen)) (a .code) (a .new) _ _ (b .before .blocks-in .ensures) (b .blocks-in2 .ensures)
     (λ s e. sym (l .if1 .left) ∙ l .before .is-wrong-code .ensures s e) (sym (k .if2 .left) ∙ k .before .is-held .ensures) (sym (c .if3 .taken) ∙ c .before .lacks-room .ensures)
 
--- src/shape.rt:62:1
 returns-4 : tie.Need-returns-4
 returns-4 c = λ t sits there.
     let k = c .before .before in

@@ -1,3 +1,4 @@
+-- `fields::shape::judge_shape` meets its contract. Assumes nothing.
 use Rattle.fields.proofs.Shapes.{shape-unsound, shape-past, shape-none, shape-create, shape-modify, shape-delete}
 use Rattle.fields.specs.Memory.{surveyOf}
 use Rattle.meaning.specs.Bytes.{arg}
@@ -9,12 +10,6 @@ use mathlib.Core.Bool.{true}
 use borrow.Author.Needs.{needs}
 use Rattle.fields.proofs.shape.judge_shape.Statement.{statement}
 use Rattle.fields.proofs.shape.judge_shape.Tie as tie
-use Rattle.fields.proofs.shape.judge_shape.Reads as reads
-use Rattle.fields.proofs.shape.judge_shape.Lts as lts
-use Rattle.fields.proofs.shape.judge_create.Reads as judge-create-reads
-use Rattle.fields.proofs.shape.judge_delete.Reads as judge-delete-reads
-use Rattle.fields.proofs.shape.judge_modify.Reads as judge-modify-reads
-use Rattle.fields.proofs.status.has_field.Reads as has-field-reads
 
 -- where the call began
 abbrev entry : tie.Else1 → tie.Start
@@ -24,37 +19,29 @@ entry c = c .before .before .before .before .before .before
 sound-at : (c : tie.Else1) → entry c .args .seen .sound ≡ true
 sound-at c = not-false _ (c .if1 .left)
 
--- src/shape.rt:111:17
 shared-slice-read-field : tie.Need-shared-slice-read-field
 shared-slice-read-field c = search needs
 
--- src/shape.rt:112:18
 cast-number : tie.Need-cast-number
 cast-number c = omega (arith, c .shared-slice-known2 .given 0)
 
--- src/shape.rt:113:18
 shared-slice-read-status : tie.Need-shared-slice-read-status
 shared-slice-read-status c = search needs
 
--- src/shape.rt:114:16
 shared-slice-read-code : tie.Need-shared-slice-read-code
 shared-slice-read-code c = search needs
 
--- src/shape.rt:116:9
 returns : tie.Need-returns
 returns c =
     let a = c .before .before .before .before .before .before .args in
     shape-unsound (a .codes) (a .total) (surveyOf (a .seen)) (a .request .now) (not-true _ (c .if1 .taken))
 
--- src/shape.rt:118:8
 has-field-requires : tie.Need-has-field-requires
 has-field-requires c κs = search needs
 
--- src/shape.rt:120:13
 judge-create-requires : tie.Need-judge-create-requires
 judge-create-requires c κs = search needs
 
--- src/shape.rt:120:13
 returns-2 : tie.Need-returns-2
 returns-2 c =
     let n = c .before in
@@ -66,7 +53,6 @@ returns-2 c =
     shape-create (a .codes) (a .total) (surveyOf (a .seen)) d (sound-at l) (sym (k .before .has-field .ensures) ∙ k .if2 .taken) (n .if3 .taken) _
     (c .judge-create .ensures (arg d 0) (s .pre .sits (sound-at l)) (n .if3 .taken))
 
--- src/shape.rt:123:13
 returns-3 : tie.Need-returns-3
 returns-3 c =
     let k = c .before .before .before .before in
@@ -74,11 +60,9 @@ returns-3 c =
     let a = entry l .args in
     shape-past (a .codes) (a .total) (surveyOf (a .seen)) (a .request .now) (sound-at l) (sym (k .before .has-field .ensures) ∙ k .if2 .taken) (c .if4 .taken)
 
--- src/shape.rt:125:9
 judge-modify-requires : tie.Need-judge-modify-requires
 judge-modify-requires c κs = search needs
 
--- src/shape.rt:125:9
 returns-4 : tie.Need-returns-4
 returns-4 c =
     let m = c .before in
@@ -93,7 +77,6 @@ returns-4 c =
     shape-modify (a .codes) (a .total) (surveyOf (a .seen)) d (sound-at l) (sym (k .before .has-field .ensures) ∙ k .if2 .taken) there _
     (c .judge-modify .ensures (a .total) (s .pre .sits (sound-at l)) there)
 
--- src/shape.rt:128:9
 returns-5 : tie.Need-returns-5
 returns-5 c =
     let k = c .before .before in
@@ -101,11 +84,9 @@ returns-5 c =
     let a = entry l .args in
     shape-none (a .codes) (a .total) (surveyOf (a .seen)) (a .request .now) (sound-at l) (sym (k .before .has-field .ensures) ∙ k .if2 .left) (c .if5 .taken)
 
--- src/shape.rt:130:5
 judge-delete-requires : tie.Need-judge-delete-requires
 judge-delete-requires c κs = search needs
 
--- src/shape.rt:107:1
 returns-6 : tie.Need-returns-6
 returns-6 c =
     let n = c .before in

@@ -1,3 +1,4 @@
+-- `fields::shape::no_grant` meets its contract. Assumes nothing.
 use Rattle.fields.specs.declared.shape.Grant.{Grant}
 use Rattle.fields.specs.Shape.{codeOf}
 use Rattle.frame.specs.declared.answer.Answer.the-variants.{Refuse}
@@ -5,22 +6,16 @@ use mathlib.Core.Path.{sym, ap}
 use borrow.Author.Needs.{needs}
 use Rattle.fields.proofs.shape.no_grant.Statement.{statement}
 use Rattle.fields.proofs.shape.no_grant.Tie as tie
-use Rattle.fields.proofs.shape.no_grant.Reads as reads
-use Rattle.fields.proofs.shape.no_grant.Lts as lts
 
--- src/shape.rt:137:24
 enum-known-grant : tie.Need-enum-known-grant
 enum-known-grant c = search needs
 
--- src/shape.rt:138:30
 enum-told : tie.Need-enum-told
 enum-told c = search needs
 
--- src/shape.rt:133:1
 returns : tie.Need-returns
 returns c = ap (λ (g : Grant). Refuse (codeOf g)) (sym (c .before .grant .given .1))
 
--- src/shape.rt:133:1
 returns-2 : tie.Need-returns-2
 returns-2 c = ap (λ (g : Grant). Refuse (codeOf g)) (sym (c .enum-told .given .1))
 

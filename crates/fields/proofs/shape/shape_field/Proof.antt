@@ -1,3 +1,4 @@
+-- `fields::shape::shape_field` meets its contract. Assumes nothing.
 use Rattle.fields.proofs.Shapes.{not-granted}
 use Rattle.fields.proofs.Rows.{asked-4D, works-refuse, works-accept}
 use Rattle.fields.proofs.Tables.{sits, free-le}
@@ -7,17 +8,10 @@ use Rattle.fields.specs.Shape.{Shapes}
 use Rattle.fields.specs.Memory.{surveyOf}
 use Rattle.meaning.specs.Bytes.{arg}
 use native.Mathlib.Omega.{arith}
-use mathlib.Core.Path.{_≡_, sym, ap, subst, _∙_}
+use mathlib.Core.Path.{subst, _∙_}
 use borrow.Author.Needs.{needs}
 use Rattle.fields.proofs.shape.shape_field.Statement.{statement}
 use Rattle.fields.proofs.shape.shape_field.Tie as tie
-use Rattle.fields.proofs.shape.shape_field.Reads as reads
-use Rattle.fields.proofs.shape.shape_field.Lts as lts
-use Rattle.fields.proofs.change.apply.Reads as apply-reads
-use Rattle.fields.proofs.reply.reply_two.Reads as reply-two-reads
-use Rattle.fields.proofs.shape.judge_shape.Reads as judge-shape-reads
-use Rattle.fields.proofs.shape.no_grant.Reads as no-grant-reads
-use Rattle.fields.proofs.table.survey.Reads as survey-reads
 
 -- where the call began
 abbrev entry : tie.After-judge-shape → tie.Start
@@ -30,17 +24,14 @@ said c =
     let a = entry k .args in
     subst (λ (g : Grant). Shapes (a .codes) (a .total) (surveyOf (k .before .survey .result)) (a .request .now) g) (c .grant .given .1) (k .judge-shape .ensures)
 
--- src/shape.rt:149:17
 shared-slice-read-field : tie.Need-shared-slice-read-field
 shared-slice-read-field c =
     let s = c .before .before .before .before in
     omega (arith, asked-4D (s .args .request .now) (s .pre .wanted))
 
--- src/shape.rt:150:9
 survey-requires : tie.Need-survey-requires
 survey-requires c κs = search needs
 
--- src/shape.rt:151:9
 judge-shape-requires : tie.Need-judge-shape-requires
 judge-shape-requires c κs =
     let b = c .before .before .before .before .before .before in
@@ -54,23 +45,18 @@ judge-shape-requires c κs =
       long = asked-4D d (b .pre .wanted);
     }
 
--- src/shape.rt:152:24
 enum-known-grant : tie.Need-enum-known-grant
 enum-known-grant c = search needs
 
--- src/shape.rt:153:9
 enum-told : tie.Need-enum-told
 enum-told c = search needs
 
--- src/shape.rt:153:9
 no-grant-requires : tie.Need-no-grant-requires
 no-grant-requires c κs = search needs
 
--- src/shape.rt:153:9
 same-length : tie.Need-same-length
 same-length c = search needs
 
--- src/shape.rt:153:9
 returns : tie.Need-returns
 returns c = λ p s e q.
     let k = c .before .before .before in
@@ -80,31 +66,25 @@ returns c = λ p s e q.
     (works-refuse _ (a .memory .now) (a .room .now) _
     (k .judge-shape .ensures .answer p s (a .memory .now) e q (k .before .survey .ensures) ∙ not-granted (k .judge-shape .result) (c .before .before .match .keys2) (a .total) s (a .memory .now) (arg d 0) (arg d 1)))
 
--- src/shape.rt:155:5
 apply-requires : tie.Need-apply-requires
 apply-requires c κs =
     let g = c .before .before in
     record { fit = entry (g .before .before) .pre .lent .fit; room = said g .place }
 
--- src/shape.rt:156:22
 shared-slice-read-reply-two : tie.Need-shared-slice-read-reply-two
 shared-slice-read-reply-two c =
     let b = entry (c .before .before .before .before .before .before .before .before) in
     omega (arith, asked-4D (b .args .request .now) (b .pre .wanted))
 
--- src/shape.rt:156:5
 reply-two-requires : tie.Need-reply-two-requires
 reply-two-requires c κs = search needs
 
--- src/shape.rt:144:1
 same-length-2 : tie.Need-same-length-2
 same-length-2 c = search needs
 
--- src/shape.rt:144:1
 same-length-3 : tie.Need-same-length-3
 same-length-3 c = search needs
 
--- src/shape.rt:144:1
 returns-2 : tie.Need-returns-2
 returns-2 c = λ p s e q.
     let y = c .before .before .before .before .before .before .before in

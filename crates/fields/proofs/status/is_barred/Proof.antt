@@ -1,26 +1,19 @@
+-- `fields::status::is_barred` meets its contract. Assumes nothing.
 use borrow.Author.Tests.{not-true, not-false}
 use mathlib.Core.Path.{sym, _∙_}
 use borrow.Author.Needs.{needs}
 use Rattle.fields.proofs.status.is_barred.Statement.{statement}
 use Rattle.fields.proofs.status.is_barred.Tie as tie
-use Rattle.fields.proofs.status.is_barred.Reads as reads
-use Rattle.fields.proofs.status.is_barred.Lts as lts
-use Rattle.fields.proofs.status.is_wrong_code.Reads as is-wrong-code-reads
-use Rattle.fields.proofs.status.wants_code.Reads as wants-code-reads
 
--- src/status.rt:57:9
 wants-code-requires : tie.Need-wants-code-requires
 wants-code-requires c κs = search needs
 
--- src/status.rt:58:9
 returns : tie.Need-returns
 returns c = λ s e. rw (sym (c .before .wants-code .ensures) ∙ not-true _ (c .if1 .taken))
 
--- src/status.rt:60:5
 is-wrong-code-requires : tie.Need-is-wrong-code-requires
 is-wrong-code-requires c κs = search needs
 
--- src/status.rt:54:1
 returns-2 : tie.Need-returns-2
 returns-2 c = λ s e. rw (sym (c .before .before .wants-code .ensures) ∙ not-false _ (c .before .if1 .left)) (c .is-wrong-code .ensures s e)
 

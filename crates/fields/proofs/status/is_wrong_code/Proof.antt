@@ -1,21 +1,17 @@
+-- `fields::status::is_wrong_code` meets its contract. Assumes nothing.
 use Rattle.meaning.specs.Commands.{wrongCode}
 use Rattle.meaning.specs.State.{code}
 use Rattle.meaning.specs.Fields.{codeNo}
 use borrow.Author.Needs.{needs}
 use Rattle.fields.proofs.status.is_wrong_code.Statement.{statement}
 use Rattle.fields.proofs.status.is_wrong_code.Tie as tie
-use Rattle.fields.proofs.status.is_wrong_code.Reads as reads
-use Rattle.fields.proofs.status.is_wrong_code.Lts as lts
 
--- src/status.rt:49:18
 cast-number : tie.Need-cast-number
 cast-number c = search needs
 
--- src/status.rt:50:13
 array-read-result : tie.Need-array-read-result
 array-read-result c = search needs
 
--- src/status.rt:46:1
 returns : tie.Need-returns
 unfolding wrongCode code codeNo
 returns c = λ s e. rw e

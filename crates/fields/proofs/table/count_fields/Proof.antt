@@ -1,3 +1,4 @@
+-- `fields::table::count_fields` meets its contract. Assumes nothing.
 use Rattle.fields.proofs.Tables.{blocks-most}
 use Rattle.fields.proofs.Walk.{count-more, count-stop, count-end, used-more, used-stop, used-end}
 use Rattle.meaning.specs.Fields.{blocks, fieldCount, used}
@@ -9,10 +10,6 @@ use Prim.Native.Nat.{_≤_, _-_, _+_, _*_}
 use borrow.Author.Needs.{needs}
 use Rattle.fields.proofs.table.count_fields.Statement.{statement}
 use Rattle.fields.proofs.table.count_fields.Tie as tie
-use Rattle.fields.proofs.table.count_fields.Reads as reads
-use Rattle.fields.proofs.table.count_fields.Lts as lts
-use Rattle.fields.proofs.status.blocks_in.Reads as blocks-in-reads
-use Rattle.fields.proofs.status.has_field.Reads as has-field-reads
 
 abbrev Inv-loop : tie.InvT-loop
 Inv-loop statuses blocks₀ fields₀ blocks fields = (fields ≤ length statuses) × (blocks ≤ 8 * fields) × (fieldCount statuses ≡ fields + fieldCount (drop fields statuses)) × (used statuses ≡ blocks + used (drop fields statuses))
@@ -20,19 +17,15 @@ Inv-loop statuses blocks₀ fields₀ blocks fields = (fields ≤ length statuse
 abbrev μ-loop : tie.MeasureT-loop
 μ-loop statuses blocks₀ fields₀ blocks fields = length statuses - fields
 
--- src/table.rt:28:5
 loop-holds : tie.Need-loop-holds Inv-loop μ-loop
 loop-holds c = omega arith
 
--- src/table.rt:29:22
 shared-slice-read-status : tie.Need-shared-slice-read-status Inv-loop μ-loop
 shared-slice-read-status c = omega arith
 
--- src/table.rt:30:13
 has-field-requires : tie.Need-has-field-requires Inv-loop μ-loop
 has-field-requires c κs = search needs
 
--- src/table.rt:31:13
 returns : tie.Need-returns Inv-loop μ-loop
 returns c =
     let at = c .before .before .before .before in
@@ -43,27 +36,21 @@ returns c =
       blocks = omega (arith, used-stop l (at .loop .fields) (omega arith) e);
     }
 
--- src/table.rt:33:19
 blocks-in-requires : tie.Need-blocks-in-requires Inv-loop μ-loop
 blocks-in-requires c κs = search needs
 
--- src/table.rt:33:19
 cast-blocks : tie.Need-cast-blocks Inv-loop μ-loop
 cast-blocks c = search needs
 
--- src/table.rt:33:9
 add-blocks : tie.Need-add-blocks Inv-loop μ-loop
 add-blocks c = let at = c .before .before .before .before .before in omega (arith, c .blocks-in .ensures, blocks-most (getD (at .before .before .args .statuses .now) (at .loop .fields) 0))
 
--- src/table.rt:34:9
 add-fields : tie.Need-add-fields Inv-loop μ-loop
 add-fields c = omega arith
 
--- src/table.rt:28:5
 loop-less : tie.Need-loop-less Inv-loop μ-loop
 loop-less c = omega arith
 
--- src/table.rt:28:5
 loop-again : tie.Need-loop-again Inv-loop μ-loop
 loop-again c =
     let at = c .before .before .before .before .before in
@@ -71,7 +58,6 @@ loop-again c =
     let e = sym (c .before .before .has-field .ensures) ∙ not-false _ (c .before .if1 .left) in
     omega (arith, count-more l (at .loop .fields) (omega arith) e, used-more l (at .loop .fields) (omega arith) e, c .blocks-in .ensures, blocks-most (getD l (at .loop .fields) 0))
 
--- src/table.rt:22:1
 returns-2 : tie.Need-returns-2 Inv-loop μ-loop
 returns-2 c =
     let at = c .before in

@@ -5,7 +5,6 @@ use lib.ListN.{length, drop}
 use native.Mathlib.Omega.{arith}
 use mathlib.Core.Path.{_≡_, refl, sym, _∙_}
 use Prim.Native.Nat.{_≤_, _-_}
-use borrow.Author.Needs.{needs}
 use Rattle.fields.proofs.table.is_blank.Statement.{statement}
 use Rattle.fields.proofs.table.is_blank.Tie as tie
 

@@ -1,3 +1,4 @@
+-- `fields::table::survey` meets its contract. Assumes nothing.
 use Rattle.meaning.specs.Fields.{table}
 use lib.ListN.{drop, length-drop}
 use native.Mathlib.Omega.{arith}
@@ -6,25 +7,16 @@ use Prim.Native.Nat.{ℕ}
 use borrow.Author.Needs.{needs}
 use Rattle.fields.proofs.table.survey.Statement.{statement}
 use Rattle.fields.proofs.table.survey.Tie as tie
-use Rattle.fields.proofs.table.survey.Reads as reads
-use Rattle.fields.proofs.table.survey.Lts as lts
-use Rattle.fields.proofs.sizes.bytes_of.Reads as bytes-of-reads
-use Rattle.fields.proofs.table.past.Reads as past-reads
-use Rattle.fields.proofs.table.walk.Reads as walk-reads
 
--- src/table.rt:114:23
 bytes-of-requires : tie.Need-bytes-of-requires
 bytes-of-requires c κs = search needs
 
--- src/table.rt:114:10
 past-requires : tie.Need-past-requires
 past-requires c κs = search needs
 
--- src/table.rt:114:5
 walk-requires : tie.Need-walk-requires
 walk-requires c κs = (search needs, simp (c .past .ensures, length-drop) (omega (arith, c .before .bytes-of .ensures)))
 
--- src/table.rt:110:1
 returns : tie.Need-returns
 unfolding table
 returns c =

@@ -2,12 +2,10 @@
 use Rattle.fields.proofs.Tables.{count-le, used-le, walk-fields, walk-used, survey-is}
 use Rattle.meaning.specs.Fields.{fieldCount, used}
 use Rattle.meaning.specs.Bytes.{blank, both}
-use lib.Dec.{leb}
-use lib.ListN.{length, take, drop, length-take, length-drop}
+use lib.ListN.{take, length-take, length-drop}
 use native.Mathlib.Omega.{arith}
-use mathlib.Core.List.{List}
-use mathlib.Core.Path.{_≡_, ap, sym, _∙_}
-use Prim.Native.Nat.{ℕ, _+_, _≤_}
+use mathlib.Core.Path.{_≡_, ap, _∙_}
+use Prim.Native.Nat.{_+_}
 use borrow.Author.Needs.{needs}
 use Rattle.fields.proofs.table.walk.Statement.{statement}
 use Rattle.fields.proofs.table.walk.Tie as tie

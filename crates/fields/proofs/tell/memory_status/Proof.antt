@@ -1,40 +1,28 @@
+-- `fields::tell::memory_status` meets its contract. Assumes nothing.
 use Rattle.fields.proofs.Rows.{works-refuse, works-accept, memory-unsound, memory-told}
 use Rattle.fields.proofs.Tables.{sits, free-le}
-use Rattle.fields.specs.Replies.{Replied}
 use Rattle.fields.specs.Memory.{surveyOf}
 use borrow.Author.Tests.{not-true, not-false}
 use native.Mathlib.Omega.{arith}
-use mathlib.Core.Path.{_≡_, sym, ap, subst, _∙_}
-use mathlib.Core.List.{List, [], _∷_}
-use Prim.Native.Nat.{ℕ}
 use borrow.Author.Needs.{needs}
 use Rattle.fields.proofs.tell.memory_status.Statement.{statement}
 use Rattle.fields.proofs.tell.memory_status.Tie as tie
-use Rattle.fields.proofs.tell.memory_status.Reads as reads
-use Rattle.fields.proofs.tell.memory_status.Lts as lts
-use Rattle.fields.proofs.reply.reply_two.Reads as reply-two-reads
-use Rattle.fields.proofs.table.survey.Reads as survey-reads
-use Rattle.fields.proofs.tell.free_byte.Reads as free-byte-reads
 
--- src/tell.rt:45:9
 survey-requires : tie.Need-survey-requires
 survey-requires c κs = search needs
 
--- src/tell.rt:47:9
 returns : tie.Need-returns
 returns c = λ p s d e.
     let k = c .before .before in
     let a = k .before .before .before .args in
     works-refuse _ (a .memory .now) (a .room .now) _ (memory-unsound p s (a .total) (a .memory .now) d e (surveyOf (k .survey .result)) (k .survey .ensures) (not-true _ (c .if1 .taken)))
 
--- src/tell.rt:49:15
 free-byte-requires : tie.Need-free-byte-requires
 free-byte-requires c κs =
     let k = c .before .before in
     let a = k .before .before .before .args in
     omega (arith, free-le (a .total) (a .memory .now) 0 (surveyOf (k .survey .result)) (k .survey .ensures), k .before .before .before .pre .fit .few)
 
--- src/tell.rt:49:37
 cast-reply-two : tie.Need-cast-reply-two
 cast-reply-two c =
     let l = c .before .before in
@@ -42,15 +30,12 @@ cast-reply-two c =
     let a = k .before .before .before .args in
     omega (arith, sits (a .total) (a .memory .now) 0 (surveyOf (k .survey .result)) (k .survey .ensures) (not-false _ (l .if1 .left)) .room, k .before .before .before .pre .fit .few)
 
--- src/tell.rt:49:5
 reply-two-requires : tie.Need-reply-two-requires
 reply-two-requires c κs = search needs
 
--- src/tell.rt:40:1
 same-length : tie.Need-same-length
 same-length c = search needs
 
--- src/tell.rt:40:1
 returns-2 : tie.Need-returns-2
 returns-2 c = λ p s d e.
     let f = c .before .before .before .before .before in
