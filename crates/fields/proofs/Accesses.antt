@@ -1,8 +1,8 @@
 -- How the rows 4Ah and 4Bh end, and a field's own part of memory in place of the memory. Assumes nothing.
-use Prim.Native.Nat.{ℕ, _+_, _-_, _*_, _≤_, _<_}
+use Prim.Native.Nat.{ℕ, _+_, _-_, _≤_, _<_}
 use mathlib.Core.Bool.{Bool, true, false, not}
 use mathlib.Core.Path.{_≡_, refl, sym, ap, subst, _∙_}
-use mathlib.Core.List.{List, [], _∷_, _++_}
+use mathlib.Core.List.{List, [], _∷_}
 use native.Mathlib.Omega.{arith}
 use lib.ListN.{length, take, drop, length-take, length-drop}
 use lib.Dec.{ltb, eqb}
@@ -12,17 +12,17 @@ use types.Run.{OneOf}
 use denote.Enum.Declared.{tagOf}
 use Rattle.meaning.specs.Bytes.{arg, either, part, put}
 use Rattle.meaning.specs.State.{Plate, State}
-use Rattle.meaning.specs.Fields.{bytesOf, dataBytes, blocks, writable, Survey, survey}
+use Rattle.meaning.specs.Fields.{bytesOf, blocks, writable, Survey, survey}
 use Rattle.meaning.specs.Commands as meaning
 use Rattle.meaning.specs.Commands.{refuse, accept, error, onField, barred, outside, readField, storeField}
 use Rattle.frame.specs.declared.answer.Answer.{Answer}
-use Rattle.frame.specs.declared.answer.Answer.the-variants.{Refuse, Accept}
-use Rattle.frame.specs.Answers.{told, dataIn, memoryAfter, Works}
+use Rattle.frame.specs.declared.answer.Answer.the-variants.{Accept}
+use Rattle.frame.specs.Answers.{told, Works}
 use Rattle.fields.specs.Memory.{Fit}
 use Rattle.frame.proofs.Laws.{tail-filled}
 use Rattle.meaning.proofs.Puts.{length-put}
 use Rattle.fields.specs.Replies.{named, readOwn, storeOwn, Replied}
-use Rattle.fields.specs.Found.{codeIn, orElse, Lies, OpenTo}
+use Rattle.fields.specs.Found.{codeIn, orElse, OpenTo}
 use Rattle.fields.specs.declared.find.Found.{Found}
 use Rattle.fields.specs.declared.find.Found.the-variants.{Field}
 use Rattle.fields.proofs.find.Found as declared

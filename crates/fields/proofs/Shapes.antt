@@ -1,12 +1,12 @@
 -- How 4Dh is judged, case by case, and what it leaves in memory. Assumes nothing.
-use Prim.Native.Nat.{ℕ, zero, suc, _+_, _-_, _*_, _≤_, _<_, min, max}
+use Prim.Native.Nat.{ℕ, _+_, _-_, _≤_, _<_, min, max}
 use mathlib.Core.Bool.{Bool, true, false, not}
-use mathlib.Core.Path.{_≡_, refl, sym, ap, subst, _∙_}
-use mathlib.Core.List.{List, [], _∷_, _++_}
+use mathlib.Core.Path.{_≡_, refl, sym, ap, _∙_}
+use mathlib.Core.List.{List, [], _∷_}
 use native.Mathlib.Omega.{arith}
-use lib.ListN.{length, take, drop, set, length-take, length-drop, length-replicate}
-use lib.Dec.{ltb, eqb, leb}
-use borrow.Author.Tests.{lt-ltb, le-ltb, ltb-true, ltb-false, eq-eqb, ne-eqb, eqb-true}
+use lib.ListN.{length, set, length-take, length-drop, length-replicate}
+use lib.Dec.{ltb, eqb}
+use borrow.Author.Tests.{lt-ltb, le-ltb, ltb-true, ltb-false, eq-eqb, ne-eqb}
 use borrow.Rule.Slice.PartMut.{putMid, midOf, post-is}
 use types.Run.{OneOf, miss}
 use denote.Enum.Declared.{tagOf}
@@ -15,9 +15,8 @@ use Rattle.meaning.specs.State.{Plate, State}
 use Rattle.meaning.specs.Fields.{bytesOf, dataBytes, blocks, exists, clear, putStatus, Survey, survey}
 use Rattle.meaning.specs.Commands.{Answer, refuse, accept, error, choose, wrongCode, create, modify, delete, resize, shapeField}
 use Rattle.meaning.proofs.Puts.{length-put}
-use Rattle.fields.specs.Memory.{Fit, Sits}
-use Rattle.fields.specs.Shape.{shaped, codeOf, Room, Judged, Shapes}
-use Rattle.fields.specs.declared.change.Change.{Change}
+use Rattle.fields.specs.Memory.{Sits}
+use Rattle.fields.specs.Shape.{shaped, codeOf, Judged, Shapes}
 use Rattle.fields.specs.declared.shape.Grant.{Grant}
 use Rattle.fields.specs.declared.shape.Grant.the-variants.{Granted, Refused}
 use Rattle.fields.proofs.shape.Grant as declared

@@ -1,9 +1,8 @@
 -- Laws of any status table, sound or not: how a walk that halts and goes on adds up, and where the fields of a sound one lie. Assumes nothing.
-use Prim.Native.Nat.{ℕ, zero, suc, _+_, _-_, _*_, _≤_, _<_, min, zero-le}
+use Prim.Native.Nat.{ℕ, zero, suc, _+_, _-_, _*_, _≤_, _<_, min}
 use mathlib.Core.Bool.{Bool, true, false, not}
 use mathlib.Core.Path.{_≡_, refl, sym, ap, subst, _∙_}
 use mathlib.Core.List.{List, [], _∷_}
-use native.Mathlib.Nat.{le-of-suc-le-suc, not-suc-le-zero}
 use native.Mathlib.Omega.{arith}
 use native.Mathlib.Decide.{decLe}
 use lib.ListN.{length, take, drop, getD, length-drop}
@@ -11,7 +10,7 @@ use lib.Seq.{take-all}
 use lib.Dec.{leb}
 use borrow.Author.Tests.{leb-true}
 use Rattle.fields.specs.Memory.{Sits}
-use Rattle.meaning.specs.Bytes.{pick, both, blank}
+use Rattle.meaning.specs.Bytes.{both, blank}
 use Rattle.meaning.specs.Fields.{blocks, exists, fieldCount, used, sound, table, freeBlocks, statusAt, Survey, survey}
 
 module _ (s : ℕ) (r : List ℕ) where
