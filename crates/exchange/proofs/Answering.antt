@@ -12,9 +12,10 @@ use borrow.Author.Tests.{eqb-true, leb-true}
 use Rattle.meaning.specs.Bytes.{pick, both, either, among, put}
 use Rattle.meaning.specs.State.{Plate, State, Line, none, withLine, plateOk, between}
 use Rattle.meaning.specs.Frames.{Outcome, still, resting, over}
-use Rattle.meaning.specs.Run.{Call, poll, step, runFrom, closes, lends}
+use Rattle.meaning.specs.Run.{Call, poll, step, runFrom, closes}
 use Rattle.meaning.specs.Bench.{addressFor, request, judge}
 use Rattle.meaning.specs.Demands.{meant}
+use Rattle.meaning.proofs.Puts.{length-put}
 use Rattle.meaning.proofs.Rests.{meant-rests}
 use Rattle.meaning.proofs.Steps.{both-0, both-1}
 use Rattle.meaning.proofs.Limits.{replies-fit}
@@ -25,6 +26,8 @@ use Rattle.board.specs.declared.limits.Outcome as board
 use Rattle.board.specs.declared.limits.Outcome.the-variants.{Refused, Still, Over}
 use Rattle.board.specs.declared.limits.Stepped.{Stepped}
 use Rattle.board.specs.Board.{stateOf, Steps}
+use Rattle.board.specs.Promises.{DoesStep}
+use Rattle.board.proofs.Promises.{does-step, unrefused, stays-within}
 use Rattle.bench.specs.declared.reply.Verdict.{Verdict}
 use Rattle.bench.specs.Outcomes.{verdictOf, withoutData}
 use Rattle.exchange.specs.declared.sending.Sent.{Sent}
@@ -32,7 +35,7 @@ use Rattle.exchange.specs.declared.asking.Ended.the-variants.{Heard}
 use Rattle.exchange.specs.declared.asking.Exchanged.{Exchanged}
 use Rattle.exchange.specs.Calls.{stampOf, sending, Clear, Taken, Sends}
 use Rattle.exchange.specs.Passing.{heard, reached, answerTo, verdictOn, Asks, Converses, countOf}
-use Rattle.exchange.proofs.Stepping.{Within, within, Moves, moves}
+use Rattle.exchange.proofs.Stepping.{kept-bytes}
 use Rattle.exchange.proofs.Taking.{put-nothing}
 use Rattle.exchange.proofs.Closing.{over-now, poll-answers, verdict-answers, request-long}
 
@@ -81,21 +84,17 @@ answer-rests p s m a c d = go (reached p s a)
     go true = meant-rests p s m d c
     go false = refl
 
-lends-poll : (t : ℕ) → lends (poll t) ≡ true
-unfolding lends
-lends-poll t = refl
-
 module _ (p : Plate) (b : Board) (tick spacing : ℕ) (q kept m w : List ℕ) (clear : Clear p b spacing q kept m w) where
-  pub clear-within : Within p b kept m w
-  clear-within = within p b kept m w (poll 0) (lends-poll 0) (clear .willing (poll 0) (lends-poll 0))
-
   pub clear-pause : p .pause * p .ticks < 2 ^ 32
-  clear-pause = pause-fits p (clear-within .plate)
+  clear-pause = pause-fits p (clear .within .plate)
 
   module _ {e : Sent} {k₁ m₁ w₁ : List ℕ} (sent : Sends p b tick spacing q kept m w e k₁ m₁ w₁) (t : ℕ) {r : Stepped} {k₂ m₂ w₂ : List ℕ}
       (s : Steps p (e .board) k₁ m₁ w₁ (poll t) r k₂ m₂ w₂) where
-    polled : Moves p (e .board) k₁ m₁ w₁ (poll t) r k₂ m₂ w₂
-    polled = moves p (e .board) k₁ m₁ w₁ (poll t) (lends-poll t) (sent .taken .willing) s
+    room-wide : 134 ≤ length w₁
+    room-wide = rw (sent .taken .room) (clear .wide)
+
+    polled : DoesStep p (e .board) k₁ m₁ w₁ (poll t) r k₂ m₂ w₂
+    polled = does-step p (e .board) k₁ m₁ w₁ (poll t) (unrefused p (e .board) k₁ m₁ (length w₁) (poll t) (sent .taken .within) room-wide) s
 
     -- the reply lies within its room
     pub reply-fits : countOf (r .outcome) ≤ length w₂
@@ -104,8 +103,11 @@ module _ (p : Plate) (b : Board) (tick spacing : ℕ) (q kept m w : List ℕ) (c
         o : Outcome
         o = step p (stateOf (e .board) k₁) m₁ (poll t)
 
+        long : length w₂ ≡ length w₁
+        long = rw (polled .room) (length-put w₁ 0 (o .reply) (omega (arith, room-wide, replies-fit p (stateOf (e .board) k₁) m₁ (poll t))))
+
         go : (c : Bool) → countOf (pick c (Over (length (o .reply))) Still) ≤ length w₂
-        go true = omega (arith, replies-fit p (stateOf (e .board) k₁) m₁ (poll t), polled .within .wide)
+        go true = omega (arith, long, room-wide, replies-fit p (stateOf (e .board) k₁) m₁ (poll t))
         go false = omega arith
 
     -- Demand 2 in code: what the request comes to
@@ -132,13 +134,13 @@ module _ (p : Plate) (b : Board) (tick spacing : ℕ) (q kept m w : List ℕ) (c
       answered =
           ap₂ (λ (x : State) (y : List ℕ). step p x y (poll t)) state-is (sent .taken .memory)
           ∙ ap (λ (x : ℕ). step p ((runFrom p (stateOf b kept) m (sending tick spacing (request a c d) (length (request a c d)))) .state) m (poll x)) tick-is
-          ∙ poll-answers p (stateOf b kept) m tick spacing a c d (clear .idle) low (clear .close) clear-pause short (low-address p (clear-within .plate)) (clear-within .size) (asks .may)
+          ∙ poll-answers p (stateOf b kept) m tick spacing a c d (clear .idle) low (clear .close) clear-pause short (low-address p (clear .within .plate)) (clear .within .size) (asks .may)
 
       closed-now : closes p (stateOf (e .board) k₁) (poll t) ≡ true
       unfolding closes
       closed-now =
           ap₂ (λ (x : State) (y : ℕ). over p x y) state-is tick-is
-          ∙ over-now p (stateOf b kept) m tick spacing a c d (clear .idle) low (clear .close) clear-pause short (low-address p (clear-within .plate)) (clear-within .size) (asks .may)
+          ∙ over-now p (stateOf b kept) m tick spacing a c d (clear .idle) low (clear .close) clear-pause short (low-address p (clear .within .plate)) (clear .within .size) (asks .may)
 
       count-is : countOf (r .outcome) ≡ length (answer .reply)
       count-is = rw (polled .outcome, closed-now, answered)
@@ -154,15 +156,15 @@ module _ (p : Plate) (b : Board) (tick spacing : ℕ) (q kept m w : List ℕ) (c
           let heard-bytes : take k w₂ ≡ answer .reply
           = rw (room, kk, count-is, put-front w (answer .reply)) (take-append-seam (answer .reply) (drop (length (answer .reply)) w)) in
           let told : verdictOf v ≡ withoutData (verdictOn p s₀ m a c d)
-          = vv ∙ ap withoutData (ap₂ judge (asks .bytes) heard-bytes ∙ verdict-answers p s₀ m n c d (low-address p (clear-within .plate)) (clear-within .size) (asks .address) (asks .may)) in
+          = vv ∙ ap withoutData (ap₂ judge (asks .bytes) heard-bytes ∙ verdict-answers p s₀ m n c d (low-address p (clear .within .plate)) (clear .within .size) (asks .address) (asks .may)) in
           record {
             ended = rw (xx, told, kk, count-is, asks .bytes);
             state = rw xx (polled .state ∙ ap (λ (o : Outcome). o .state) answered);
             bytes =
-                polled .bytes ∙ ap (λ (o : Outcome). put k₁ 0 (o .state .line .kept)) answered
+                kept-bytes p (e .board) k₁ m₁ w₁ (poll t) (sent .taken .within) room-wide s ∙ ap (λ (o : Outcome). put k₁ 0 (o .state .line .kept)) answered
                 ∙ ap (λ (l : Line). put k₁ 0 (l .kept)) (answer-rests p s₀ m a c d) ∙ emptied k₁
                 ∙ sent .taken .bytes ∙ ap (λ (l : List ℕ). put kept 0 l) (take-length q ∙ asks .bytes);
             memory = polled .memory ∙ ap (λ (o : Outcome). o .memory) answered;
             room = room;
-            few = rw xx (polled .within .few);
+            few = rw xx (stays-within p (e .board) k₁ m₁ w₁ (poll t) (sent .taken .within) room-wide s .few);
           }

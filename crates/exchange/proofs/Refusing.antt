@@ -26,7 +26,6 @@ use Rattle.bench.specs.Outcomes.{writtenOf}
 use Rattle.exchange.specs.declared.asking.Refusal.{Refusal}
 use Rattle.exchange.specs.declared.asking.Ended.the-variants.{Refused}
 use Rattle.exchange.specs.declared.asking.Exchanged.{Exchanged}
-use Rattle.exchange.specs.Calls.{Willing, Clear}
 use Rattle.exchange.specs.Passing.{numberOf, refused, refusalFor, Asks, Converses, passed, Passes}
 
 -- R1 to R3 have no higher number

@@ -11,15 +11,16 @@ use lib.Seq.{length-take-le}
 use Rattle.meaning.specs.Bytes.{put, arg}
 use Rattle.meaning.specs.State.{Plate, State}
 use Rattle.meaning.specs.Frames.{Outcome, taken, still}
-use Rattle.meaning.specs.Run.{Call, character, step, runFrom, lends}
+use Rattle.meaning.specs.Run.{Call, character, step, runFrom}
 use Rattle.meaning.proofs.Puts.{drop-put-low}
 use Rattle.frame.proofs.Laws.{put-front}
 use Rattle.board.specs.declared.limits.Board.{Board}
 use Rattle.board.specs.declared.limits.Stepped.{Stepped}
 use Rattle.board.specs.Board.{stateOf, Steps}
-use Rattle.exchange.specs.Calls.{stampOf, sending, Clear, Taken}
+use Rattle.board.proofs.Promises.{does-step, unrefused, stays-within}
+use Rattle.exchange.specs.Calls.{stampOf, sending, Clear, Taken, Sends}
 use Rattle.exchange.proofs.Running.{kept-begun, Runs, runs, begun-then, character-waits}
-use Rattle.exchange.proofs.Stepping.{Within, within, willing, Moves, moves}
+use Rattle.exchange.proofs.Stepping.{kept-bytes}
 
 -- nothing put is nothing changed
 pub put-nothing : (m : List ℕ) → m ≡ put m 0 []
@@ -30,14 +31,10 @@ pub put-over : (m xs ys : List ℕ) → length xs ≤ length ys → length xs �
 put-over m xs ys h k =
     rw (put-front (put m 0 xs) ys, put-front m ys, drop-put-low m 0 xs (omega arith) (length ys) (omega arith))
 
-lends-character : (t v : ℕ) (bad : Bool) → lends (character t v bad) ≡ true
-unfolding lends
-lends-character t v bad = refl
-
 module _ (p : Plate) (b : Board) (tick spacing : ℕ) (q kept m w : List ℕ) (clear : Clear p b spacing q kept m w) where
   pub taken-none : Taken p b tick spacing q kept m w 0 b kept m w
   unfolding sending runFrom still
-  taken-none = record { willing = clear .willing; state = refl; bytes = put-nothing kept; memory = refl; room = refl }
+  taken-none = record { within = clear .within; state = refl; bytes = put-nothing kept; memory = refl; room = refl }
 
   abbrev after : ℕ → Outcome
   after i = runFrom p (stateOf b kept) m (sending tick spacing q i)
@@ -70,20 +67,35 @@ module _ (p : Plate) (b : Board) (tick spacing : ℕ) (q kept m w : List ℕ) (c
         → Taken p b tick spacing q kept m w (suc i) (r .board) kept″ m″ w″
     taken-more i h {b′} {kept′} {m′} {w′} {r} {kept″} {m″} {w″} t s =
         let g : Call = character (stampOf tick spacing i) (arg q i) false in
-        let z = moves p b′ kept′ m′ w′ g (lends-character (stampOf tick spacing i) (arg q i) false) (t .willing) s in
+        let room : 134 ≤ length w′ = rw (t .room) (clear .wide) in
+        let z = does-step p b′ kept′ m′ w′ g (unrefused p b′ kept′ m′ (length w′) g (t .within) room) s in
         let e = same-step i h t in
-        let i0 = within p b kept m w g (lends-character (stampOf tick spacing i) (arg q i) false) (clear .willing g (lends-character (stampOf tick spacing i) (arg q i) false)) in
         let x : length (take i q) ≡ i = length-take-le i q (omega arith) in
         let y : length (take (suc i) q) ≡ suc i = length-take-le (suc i) q h in
         record {
-          willing = willing p (r .board) kept″ m″ w″ (z .within);
+          within = stays-within p b′ kept′ m′ w′ g (t .within) room s;
           state = z .state ∙ ap (λ (o : Outcome). o .state) e;
           bytes =
-              z .bytes ∙ ap (λ (o : Outcome). put kept′ 0 (o .state .line .kept)) e
+              kept-bytes p b′ kept′ m′ w′ g (t .within) room s ∙ ap (λ (o : Outcome). put kept′ 0 (o .state .line .kept)) e
               ∙ ap₂ (λ (k : List ℕ) (l : List ℕ). put k 0 l) (t .bytes) (kept-step i h)
-              ∙ put-over kept (take i q) (take (suc i) q) (omega (arith, x, y)) (omega (arith, x, i0 .all, clear .short));
+              ∙ put-over kept (take i q) (take (suc i) q) (omega (arith, x, y)) (omega (arith, x, clear .within .places, clear .short));
           memory = z .memory ∙ ap (λ (o : Outcome). o .memory) e ∙ all-runs (suc i) h .memory;
           room =
               z .room ∙ ap (λ (o : Outcome). put w′ 0 (o .reply)) e
               ∙ ap (λ (l : List ℕ). put w′ 0 l) (silent-step i h) ∙ sym (put-nothing w′) ∙ t .room;
         }
+
+    -- .. as the loop says it
+    pub taken-next : (i : ℕ) → i < length q → {t : ℕ} {b′ : Board} {kept′ m′ w′ : List ℕ} {r : Stepped} {kept″ m″ w″ : List ℕ} → t ≡ stampOf tick spacing i
+        → Taken p b tick spacing q kept m w i b′ kept′ m′ w′ → Steps p b′ kept′ m′ w′ (character t (arg q i) false) r kept″ m″ w″
+        → Taken p b tick spacing q kept m w (i + 1) (r .board) kept″ m″ w″
+    taken-next i h {t} {b′} {kept′} {m′} {w′} {r} {kept″} {m″} {w″} e x s =
+        let y : Steps p b′ kept′ m′ w′ (character (stampOf tick spacing i) (arg q i) false) r kept″ m″ w″ = rw e at s in
+        rw add-one (taken-more i h x y)
+
+pub all-sent : (p : Plate) (b : Board) (tick spacing : ℕ) (q kept m w : List ℕ) (i : ℕ) {b′ : Board} {last : ℕ} {kept′ m′ w′ : List ℕ} → i ≤ length q
+    → length q ≤ i → last ≡ stampOf tick spacing (i - 1) → Taken p b tick spacing q kept m w i b′ kept′ m′ w′
+    → Sends p b tick spacing q kept m w (record { board = b′; last = last }) kept′ m′ w′
+all-sent p b tick spacing q kept m w i h k e t =
+    let n : i ≡ length q = omega arith in
+    record { taken = rw n at t; last = rw n at e }
