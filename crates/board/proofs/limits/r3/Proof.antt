@@ -1,0 +1,16 @@
+use borrow.Author.Tests.{lt-ltb, le-ltb}
+use Rattle.board.proofs.limits.r3.Statement.{statement}
+use Rattle.board.proofs.limits.r3.Tie as tie
+use Rattle.board.proofs.limits.r3.Reads as reads
+use Rattle.board.proofs.limits.r3.Lts as lts
+
+-- src/limits.rt:100:9
+returns : tie.Need-returns
+returns c = simp (lt-ltb _ _ (c .if1 .taken))
+
+-- src/limits.rt:96:1
+returns-2 : tie.Need-returns-2
+returns-2 c = simp (le-ltb _ _ (c .if1 .left))
+
+pub r3-spec : {M : Type 1} → statement M
+r3-spec = tie.close (tie.spec returns returns-2)
