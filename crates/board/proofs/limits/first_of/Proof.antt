@@ -1,18 +1,14 @@
+-- `board::limits::first_of` meets its contract. Assumes nothing.
 use borrow.Author.Tests.{eq-eqb, ne-eqb}
 use Rattle.board.proofs.limits.first_of.Statement.{statement}
 use Rattle.board.proofs.limits.first_of.Tie as tie
-use Rattle.board.proofs.limits.first_of.Reads as reads
-use Rattle.board.proofs.limits.first_of.Lts as lts
 
--- src/limits.rt:64:9
 returns : tie.Need-returns
 returns c = simp (ne-eqb _ _ (c .if1 .taken))
 
--- src/limits.rt:67:9
 returns-2 : tie.Need-returns-2
 returns-2 c = simp (eq-eqb _ _ (c .before .if1 .left), ne-eqb _ _ (c .if2 .taken))
 
--- src/limits.rt:60:1
 returns-3 : tie.Need-returns-3
 returns-3 c = simp (eq-eqb _ _ (c .before .if1 .left), eq-eqb _ _ (c .if2 .left))
 

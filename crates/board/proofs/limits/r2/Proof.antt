@@ -1,23 +1,18 @@
+-- `board::limits::r2` meets its contract. Assumes nothing.
 use borrow.Author.Tests.{eq-eqb, ne-eqb}
 use borrow.Author.Needs.{needs}
 use Rattle.board.proofs.limits.r2.Statement.{statement}
 use Rattle.board.proofs.limits.r2.Tie as tie
-use Rattle.board.proofs.limits.r2.Reads as reads
-use Rattle.board.proofs.limits.r2.Lts as lts
 
--- src/limits.rt:89:25
 mul-if1 : tie.Need-mul-if1
 mul-if1 c = search needs
 
--- src/limits.rt:89:25
 add-if1 : tie.Need-add-if1
 add-if1 c = search needs
 
--- src/limits.rt:90:9
 returns : tie.Need-returns
 returns c = simp (eq-eqb _ _ (c .if1 .taken))
 
--- src/limits.rt:86:1
 returns-2 : tie.Need-returns-2
 returns-2 c = simp (ne-eqb _ _ (c .if1 .left))
 

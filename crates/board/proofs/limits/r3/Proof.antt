@@ -1,14 +1,11 @@
+-- `board::limits::r3` meets its contract. Assumes nothing.
 use borrow.Author.Tests.{lt-ltb, le-ltb}
 use Rattle.board.proofs.limits.r3.Statement.{statement}
 use Rattle.board.proofs.limits.r3.Tie as tie
-use Rattle.board.proofs.limits.r3.Reads as reads
-use Rattle.board.proofs.limits.r3.Lts as lts
 
--- src/limits.rt:100:9
 returns : tie.Need-returns
 returns c = simp (lt-ltb _ _ (c .if1 .taken))
 
--- src/limits.rt:96:1
 returns-2 : tie.Need-returns-2
 returns-2 c = simp (le-ltb _ _ (c .if1 .left))
 

@@ -1,33 +1,23 @@
+-- `board::limits::refusal` meets its contract. Assumes nothing.
 use mathlib.Core.Path.{sym, ap, _∙_}
 use Rattle.board.specs.Board.{sizeNumber}
 use Rattle.board.proofs.Bounding.{in-order}
 use borrow.Author.Needs.{needs}
 use Rattle.board.proofs.limits.refusal.Statement.{statement}
 use Rattle.board.proofs.limits.refusal.Tie as tie
-use Rattle.board.proofs.limits.refusal.Reads as reads
-use Rattle.board.proofs.limits.refusal.Lts as lts
-use Rattle.board.proofs.limits.first_of.Reads as first-of-reads
-use Rattle.board.proofs.limits.r1.Reads as r1-reads
-use Rattle.board.proofs.limits.r2.Reads as r2-reads
-use Rattle.board.proofs.limits.r3.Reads as r3-reads
 
--- src/limits.rt:54:9
 r1-requires : tie.Need-r1-requires
 r1-requires c κs = search needs
 
--- src/limits.rt:55:9
 r2-requires : tie.Need-r2-requires
 r2-requires c κs = search needs
 
--- src/limits.rt:56:9
 r3-requires : tie.Need-r3-requires
 r3-requires c κs = search needs
 
--- src/limits.rt:57:5
 first-of-requires : tie.Need-first-of-requires
 first-of-requires c κs = search needs
 
--- src/limits.rt:51:1
 returns : tie.Need-returns
 returns c = λ k m g e h l. c .first-of .ensures ∙ in-order _ _ k m _ g (c .before .before .before .r1 .ensures k e) (c .before .before .r2 .ensures ∙ ap (sizeNumber _) (sym h)) (c .before .r3 .ensures) l
 
