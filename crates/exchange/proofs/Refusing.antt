@@ -133,6 +133,13 @@ module _ (p : Plate) (b : Board) (n c : ℕ) (d : List ℕ) (spacing : ℕ) (q k
       unfolding refusalFor
       refused-bench h = rw (e, i, lt-leb (p .pause * p .ticks) spacing h)
 
+      -- R4 and R5: the request's room too is as it was
+      pub passes-unwritten : spacing < p .pause * p .ticks → {k : ℕ} {q′ : List ℕ} {x : Refusal} {r : Exchanged} → (k ≡ 0 → ⊥)
+          → (record { refusal = k; count = 0; room = q′ }) ≡ writes n c d q → numberOf x ≡ k → r ≡ (record { board = b; ended = Refused x })
+          → Passes p b n c d spacing q kept m w r q′ kept m w
+      passes-unwritten near {k} h y z j =
+          rw (same-room n c d q _ k h y) (passes-refused (refused-bench near ∙ sym (ap (λ (u : meaning.Written). u .refusal) y)) h z j)
+
   pub passes-heard : {k : ℕ} {q′ : List ℕ} {r : Exchanged} {kept′ m′ w′ : List ℕ} → refusalFor p b n c d spacing q kept m w ≡ 0
       → Wrote n c k d q q′ → Converses p b n c d kept m w r kept′ m′ w′ → Passes p b n c d spacing q kept m w r q′ kept′ m′ w′
   unfolding passed
