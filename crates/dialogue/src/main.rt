@@ -129,7 +129,7 @@ fn plate() -> Plate {
 }
 
 // The tick count wraps around within the first request.
-fn desk() -> Desk {
+fn fresh_desk() -> Desk {
     Desk {
         board: board::fresh(plate()),
         tick: 0xFFFFFFF0,
@@ -174,12 +174,21 @@ fn ask(desk: Desk, command: u8, body: &[u8], kept: &mut [u8], memory: &mut [u8])
     ask_at(desk, 0, command, body, kept, memory)
 }
 
+// 01, "The host notes codes".
+fn note(desk: Desk, code: u8) -> Desk {
+    let board = desk.board;
+    let tick = desk.tick;
+    let stepped = board::fault(plate(), board, code);
+    let noted = stepped.board;
+    Desk { board: noted, tick }
+}
+
 // 002, "Example: Data Field Definition". Its checksum 69 in the third request is a misprint for B9.
 fn example() {
     say(b"Document 002, data field definition\n");
     let mut kept = [0u8; 135];
     let mut memory = [0u8; 136];
-    let mut d = desk();
+    let mut d = fresh_desk();
     d = ask(d, 0x4E, b"", &mut kept, &mut memory);
     d = ask(d, 0x4D, b"\x00\xC9\x55", &mut kept, &mut memory);
     d = ask(d, 0x4D, b"\x01\xE0\x55", &mut kept, &mut memory);
@@ -187,12 +196,13 @@ fn example() {
     ask(d, 0x4B, b"\x01\x05\x02\x66\x08\x15", &mut kept, &mut memory);
 }
 
-// The label field made at eight blocks and cut to two; six come back, and a second field takes them for the commutation values.
+// The label field made at eight blocks and cut to two; six come back, and a second field takes them for the commutation values: pole
+// pairs 4, offset angle 300, gain 1500, lag 180, two bytes each.
 fn pallet_night() {
     say(b"The pallet night\n");
     let mut kept = [0u8; 135];
     let mut memory = [0u8; 136];
-    let mut d = desk();
+    let mut d = fresh_desk();
     d = ask(d, 0x4E, b"", &mut kept, &mut memory);
     d = ask(d, 0x4D, b"\x00\xC7\x55", &mut kept, &mut memory);
     d = ask(d, 0x4E, b"", &mut kept, &mut memory);
@@ -201,22 +211,16 @@ fn pallet_night() {
     d = ask(d, 0x4D, b"\x01\xC6\x55", &mut kept, &mut memory);
     d = ask(d, 0x4D, b"\x01\xC5\x55", &mut kept, &mut memory);
     d = ask(d, 0x4E, b"", &mut kept, &mut memory);
-    commutation(d, &mut kept, &mut memory);
-}
-
-// Pole pairs 4, offset angle 300, gain 1500, lag 180, two bytes each: stored, read back, and still no block is free.
-fn commutation(desk: Desk, kept: &mut [u8], memory: &mut [u8]) {
-    let mut d = desk;
-    d = ask(d, 0x4A, b"\x01\x00\x08\x55", kept, memory);
+    d = ask(d, 0x4A, b"\x01\x00\x08\x55", &mut kept, &mut memory);
     d = ask(
         d,
         0x4B,
         b"\x01\x00\x08\x55\x00\x04\x01\x2C\x05\xDC\x00\xB4",
-        kept,
-        memory,
+        &mut kept,
+        &mut memory,
     );
-    d = ask(d, 0x4A, b"\x01\x00\x08\x55", kept, memory);
-    ask(d, 0x4E, b"", kept, memory);
+    d = ask(d, 0x4A, b"\x01\x00\x08\x55", &mut kept, &mut memory);
+    ask(d, 0x4E, b"", &mut kept, &mut memory);
 }
 
 // Broadcast; another board's address; one that is none; a waiting fault code; 53h, which has no reply.
@@ -224,16 +228,11 @@ fn others() {
     say(b"Others on the bus\n");
     let mut kept = [0u8; 135];
     let mut memory = [0u8; 136];
-    let mut d = desk();
+    let mut d = fresh_desk();
     d = ask_at(d, 255, 0x4E, b"", &mut kept, &mut memory);
     d = ask_at(d, 1, 0x4E, b"", &mut kept, &mut memory);
     d = ask_at(d, 32, 0x4E, b"", &mut kept, &mut memory);
-    let stepped = board::fault(plate(), d.board, 0x1E);
-    let noted = stepped.board;
-    d = Desk {
-        board: noted,
-        tick: d.tick,
-    };
+    d = note(d, 0x1E);
     d = ask(d, 0x46, b"", &mut kept, &mut memory);
     d = ask(d, 0x4C, b"\x05", &mut kept, &mut memory);
     d = ask(d, 0x50, b"", &mut kept, &mut memory);
