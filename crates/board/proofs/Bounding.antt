@@ -1,10 +1,10 @@
 -- R1 to R3: the tests one by one, and what a call that is not refused may rely on. Assumes nothing.
 use Prim.Native.Nat.{ℕ, _≤_, _<_}
 use native.Mathlib.Omega.{arith}
-use mathlib.Core.Path.{_≡_, refl, sym, ap, _∙_}
+use mathlib.Core.Path.{_≡_, refl, sym}
 use mathlib.Core.Bool.{Bool, true, false, not, false≢true}
 use mathlib.Core.List.{List}
-use borrow.Author.Tests.{le-leb, lt-leb, eq-eqb, ne-eqb, le-ltb, lt-ltb, leb-true, eqb-true, ltb-false}
+use borrow.Author.Tests.{le-leb, lt-leb, eq-eqb, ne-eqb, leb-true, eqb-true, ltb-false}
 use lib.Dec.{eqb, leb, ltb}
 use lib.ListN.{length, take, length-take}
 use Rattle.meaning.specs.Bytes.{pick, both, either}
@@ -12,7 +12,7 @@ use Rattle.meaning.specs.State.{Plate, plateOk, stateOk}
 use Rattle.meaning.specs.Fields.{imageLength}
 use Rattle.meaning.specs.Run.{Call, character, poll, refusedBy, lends}
 use Rattle.line.specs.declared.plate.Plate as line
-use Rattle.line.specs.Line.{plateOf, Fits}
+use Rattle.line.specs.Line.{plateOf}
 use Rattle.line.proofs.Limits.{both-left, both-right}
 use Rattle.board.specs.declared.limits.Board.{Board}
 use Rattle.board.specs.Work.{Ready}
