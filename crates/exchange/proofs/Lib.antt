@@ -5,3 +5,4 @@ pub mod Stepping
 pub mod Taking
 pub mod Answering
 pub mod Refusing
+pub mod Tight
