@@ -1,18 +1,18 @@
 -- A sent request is closed and judged: what comes back is what the specification's answer says. Assumes nothing.
-use Prim.Native.Nat.{ℕ, zero, suc, _+_, _-_, _*_, _%_, _^_, _<_, _≤_}
-use mathlib.Core.Path.{_≡_, refl, sym, ap, ap₂, _∙_, subst}
+use Prim.Native.Nat.{ℕ, _+_, _-_, _*_, _%_, _^_, _<_, _≤_}
+use mathlib.Core.Path.{_≡_, refl, sym, ap, ap₂, _∙_}
 use mathlib.Core.Bool.{Bool, true, false, false≢true}
-use mathlib.Core.List.{List, [], _∷_, _++_}
+use mathlib.Core.List.{List, [], _∷_}
 use native.Mathlib.Omega.{arith}
 use native.Mathlib.Nat.{mul-le-mul-left}
 use lib.Dec.{T, eqb, leb, leb→le}
 use lib.ListN.{length, take, drop}
 use lib.Seq.{take-length, take-append-seam}
-use borrow.Author.Tests.{eqb-true, leb-true}
+use borrow.Author.Tests.{eqb-true}
 use Rattle.meaning.specs.Bytes.{pick, both, either, among, put}
 use Rattle.meaning.specs.State.{Plate, State, Line, none, withLine, plateOk, between}
 use Rattle.meaning.specs.Frames.{Outcome, still, resting, over}
-use Rattle.meaning.specs.Run.{Call, poll, step, runFrom, closes}
+use Rattle.meaning.specs.Run.{poll, step, runFrom, closes}
 use Rattle.meaning.specs.Bench.{addressFor, request, judge}
 use Rattle.meaning.specs.Demands.{meant}
 use Rattle.meaning.proofs.Puts.{length-put}
@@ -22,8 +22,7 @@ use Rattle.meaning.proofs.Limits.{replies-fit}
 use Rattle.frame.proofs.Laws.{put-front}
 use Rattle.line.proofs.Limits.{both-left, both-right, low-address}
 use Rattle.board.specs.declared.limits.Board.{Board}
-use Rattle.board.specs.declared.limits.Outcome as board
-use Rattle.board.specs.declared.limits.Outcome.the-variants.{Refused, Still, Over}
+use Rattle.board.specs.declared.limits.Outcome.the-variants.{Still, Over}
 use Rattle.board.specs.declared.limits.Stepped.{Stepped}
 use Rattle.board.specs.Board.{stateOf, Steps}
 use Rattle.board.specs.Promises.{DoesStep}
@@ -33,11 +32,11 @@ use Rattle.bench.specs.Outcomes.{verdictOf, withoutData}
 use Rattle.exchange.specs.declared.sending.Sent.{Sent}
 use Rattle.exchange.specs.declared.asking.Ended.the-variants.{Heard}
 use Rattle.exchange.specs.declared.asking.Exchanged.{Exchanged}
-use Rattle.exchange.specs.Calls.{stampOf, sending, Clear, Taken, Sends}
-use Rattle.exchange.specs.Passing.{heard, reached, answerTo, verdictOn, Asks, Converses, countOf}
+use Rattle.exchange.specs.Calls.{stampOf, sending, Clear, Sends}
+use Rattle.exchange.specs.Passing.{reached, answerTo, verdictOn, Asks, Converses, countOf}
 use Rattle.exchange.proofs.Stepping.{kept-bytes}
 use Rattle.exchange.proofs.Taking.{put-nothing}
-use Rattle.exchange.proofs.Closing.{over-now, poll-answers, verdict-answers, request-long}
+use Rattle.exchange.proofs.Closing.{over-now, poll-answers, verdict-answers}
 
 -- ---- the pause as a number of ticks fits 32 bits
 

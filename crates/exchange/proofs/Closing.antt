@@ -1,22 +1,22 @@
 -- The poll that closes a sent request: what the board answers, and what the bench makes of it. Assumes nothing.
-use Prim.Native.Nat.{ℕ, zero, suc, _+_, _-_, _*_, _%_, _^_, _<_, _≤_}
-use mathlib.Core.Path.{_≡_, refl, sym, ap, ap₂, _∙_, subst}
+use Prim.Native.Nat.{ℕ, suc, _+_, _-_, _*_, _%_, _^_, _<_, _≤_}
+use mathlib.Core.Path.{_≡_, refl, sym, ap, _∙_, subst}
 use mathlib.Core.Bool.{Bool, true, false, not}
-use mathlib.Core.List.{List, [], _∷_, _++_}
+use mathlib.Core.List.{List, [], _∷_}
 use native.Mathlib.Omega.{arith}
-use lib.Dec.{T, ltb, leb, eqb}
-use lib.ListN.{length, take, length-append}
+use lib.Dec.{T, eqb}
+use lib.ListN.{length}
 use lib.Seq.{take-length}
 use borrow.Author.Tests.{le-ltb}
-use Rattle.meaning.specs.Bytes.{pick, both, either, arg}
+use Rattle.meaning.specs.Bytes.{pick, either, arg}
 use Rattle.meaning.specs.State.{Plate, State, ownByte}
 use Rattle.meaning.specs.Fields.{imageLength}
 use Rattle.meaning.specs.Commands.{commandOf, worked}
-use Rattle.meaning.specs.Frames.{Outcome, sealed, closed, ours, ending, leaves, still, work, resting, upTo}
+use Rattle.meaning.specs.Frames.{sealed, closed, ours, ending, leaves, still, work, resting, upTo}
 use Rattle.meaning.specs.Frames as frames
 use Rattle.meaning.specs.Run.{Call, poll, step, runFrom, closes}
-use Rattle.meaning.specs.Bench.{addressOk, addressFor, allowed, request, written, Verdict, refusal, judge, bad}
-use Rattle.meaning.specs.Demands.{Sent, meant, concluded, atClose}
+use Rattle.meaning.specs.Bench.{addressOk, addressFor, allowed, request, written, refusal, judge, bad}
+use Rattle.meaning.specs.Demands.{Sent, meant, concluded}
 use Rattle.meaning.proofs.Lines.{poll-works}
 use Rattle.meaning.proofs.Wire.{length-sealed, verdict-follows, writes-well}
 use Rattle.exchange.specs.Calls.{stampOf, sending}

@@ -1,13 +1,13 @@
 -- The refusals one by one, what writing the request leaves, and the whole of an exchange from its parts. Assumes nothing.
-use Prim.Native.Nat.{ℕ, _+_, _*_, _<_, _≤_}
-use mathlib.Core.Path.{_≡_, refl, sym, ap, _∙_, subst}
+use Prim.Native.Nat.{ℕ, _*_, _<_, _≤_}
+use mathlib.Core.Path.{_≡_, refl, sym, ap, _∙_}
 use mathlib.Core.Bool.{Bool, true, false, not}
 use mathlib.Core.List.{List}
 use native.Mathlib.Omega.{arith}
-use lib.Dec.{T, eqb, leb, ltb}
+use lib.Dec.{T, eqb, ltb}
 use lib.ListN.{length, take, drop, length-append}
 use lib.Seq.{take-append-seam}
-use borrow.Author.Tests.{eq-eqb, ne-eqb, le-leb, lt-leb, eqb-false}
+use borrow.Author.Tests.{ne-eqb, le-leb, lt-leb, eqb-false}
 use Rattle.meaning.specs.Bytes.{pick, both, either, put}
 use Rattle.meaning.specs.State.{Plate, plateOk, stateOk}
 use Rattle.meaning.specs.Fields.{imageLength}
@@ -26,7 +26,7 @@ use Rattle.bench.specs.Outcomes.{writtenOf}
 use Rattle.exchange.specs.declared.asking.Refusal.{Refusal}
 use Rattle.exchange.specs.declared.asking.Ended.the-variants.{Refused}
 use Rattle.exchange.specs.declared.asking.Exchanged.{Exchanged}
-use Rattle.exchange.specs.Passing.{numberOf, refused, refusalFor, Asks, Converses, passed, Passes}
+use Rattle.exchange.specs.Passing.{numberOf, refusalFor, Asks, Converses, passed, Passes}
 
 -- R1 to R3 have no higher number
 pub refusal-few : (p : Plate) (b : Board) (kept m : List ℕ) (r : ℕ) (g : Call) → refusalOn p b kept m r g ≤ 3

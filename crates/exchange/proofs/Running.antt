@@ -1,20 +1,20 @@
 -- The calls of `sending`, one after another: no gap, no reply, the bytes kept as they were sent; what is sent is Told. Assumes nothing.
 use Prim.Native.Nat.{ℕ, zero, suc, _+_, _-_, _*_, _%_, _^_, _<_, _≤_}
-use mathlib.Core.Path.{_≡_, refl, sym, ap, ap₂, _∙_, subst}
-use mathlib.Core.Bool.{Bool, true, false, not}
+use mathlib.Core.Path.{_≡_, refl, sym, ap, _∙_}
+use mathlib.Core.Bool.{true, false}
 use mathlib.Core.List.{List, [], _∷_, _++_}
 use native.Mathlib.Omega.{arith}
 use native.Mathlib.Nat.{mod-le, mod-eq-of-lt}
-use lib.Dec.{T, ltb, leb}
-use lib.ListN.{length, take, length-append}
+use lib.Dec.{T}
+use lib.ListN.{length, take}
 use lib.Seq.{take-suc, take-length, length-take-le}
 use borrow.Author.Tests.{lt-ltb, lt-leb, le-leb}
-use Rattle.meaning.specs.Bytes.{pick, both, put, arg}
-use Rattle.meaning.specs.State.{Plate, State, Line, none, withLine}
+use Rattle.meaning.specs.Bytes.{pick, arg}
+use Rattle.meaning.specs.State.{Plate, State, none, withLine}
 use Rattle.meaning.specs.Frames.{Outcome, gap, over, more, taken, still, resting, upTo}
-use Rattle.meaning.specs.Run.{Call, character, poll, step, runFrom, closes}
+use Rattle.meaning.specs.Run.{character, step, runFrom, closes}
 use Rattle.meaning.specs.Bench.{request}
-use Rattle.meaning.specs.Demands.{Sent, Told, spoken, calm, unbroken, atClose}
+use Rattle.meaning.specs.Demands.{Sent, Told, spoken, calm, unbroken}
 use Rattle.exchange.specs.Calls.{stampOf, sending}
 use Rattle.exchange.proofs.Stamps.{gap-of-spacing, stamp-low}
 

@@ -1,9 +1,9 @@
 -- Stamps that wrap around: the gap between two is the spacing (01, "a gap is taken modulo 2^32"). Assumes nothing.
-use Prim.Native.Nat.{ℕ, zero, suc, _+_, _-_, _*_, _%_, _^_, _<_, _≤_}
-use mathlib.Core.Path.{_≡_, refl, sym, ap, _∙_}
+use Prim.Native.Nat.{ℕ, zero, suc, _+_, _-_, _%_, _^_, _<_}
+use mathlib.Core.Path.{_≡_, refl, ap, _∙_}
 use native.Mathlib.Omega.{arith}
 use native.Mathlib.Numerals.{add-one}
-use native.Mathlib.Nat.{mod-lt, mod-le, mod-eq-of-lt, mod-add-mod, add-mod-right}
+use native.Mathlib.Nat.{mod-lt, mod-add-mod, add-mod-right}
 use Rattle.meaning.specs.Frames.{gap}
 use Rattle.exchange.specs.Calls.{stampOf}
 

@@ -7,8 +7,8 @@ use native.Mathlib.Omega.{arith}
 use native.Mathlib.Decide.{ℕ-discrete}
 use lib.Dec.{eqb}
 use lib.ListN.{length}
-use borrow.Author.Tests.{eqb-true, eqb-false}
-use Rattle.meaning.specs.Bytes.{pick, put}
+use borrow.Author.Tests.{eqb-true}
+use Rattle.meaning.specs.Bytes.{pick}
 use Rattle.meaning.specs.State.{Plate}
 use Rattle.meaning.specs.Run.{poll}
 use Rattle.meaning.specs.Bench.{addressFor, request}

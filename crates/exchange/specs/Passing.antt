@@ -1,8 +1,8 @@
 -- What passes between bench and board: refusals, reply and verdict of one request (01, "The bench", "Named refusals"). Assumes nothing.
-use Prim.Native.Nat.{ℕ, _+_, _*_, _≤_}
+use Prim.Native.Nat.{ℕ, _*_, _≤_}
 use mathlib.Core.Path.{_≡_}
-use mathlib.Core.Bool.{Bool, true, false, not}
-use mathlib.Core.List.{List, []}
+use mathlib.Core.Bool.{Bool, not}
+use mathlib.Core.List.{List}
 use lib.Dec.{T, eqb, leb}
 use lib.ListN.{length}
 use Rattle.meaning.specs.Bytes.{pick, either, put}

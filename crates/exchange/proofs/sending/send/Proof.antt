@@ -1,8 +1,8 @@
 -- `exchange::sending::send` meets its contract: the board is that of the calls so far. Assumes nothing.
 use borrow.Author.Needs.{needs}
 use native.Mathlib.Omega.{arith}
-use mathlib.Core.Path.{_≡_, refl, sym, ap, _∙_}
-use Prim.Native.Nat.{ℕ, _≤_, _<_, _-_, _+_, _^_}
+use mathlib.Core.Path.{_≡_, _∙_}
+use Prim.Native.Nat.{_≤_, _<_, _-_, _^_}
 use lib.ListN.{length}
 use Rattle.line.specs.Line.{plateOf}
 use Rattle.exchange.specs.Calls.{stampOf, Taken}
