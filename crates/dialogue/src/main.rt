@@ -142,8 +142,8 @@ fn ask_at(
     address: u32,
     command: u8,
     body: &[u8],
-    kept: &mut [u8],
-    memory: &mut [u8],
+    kept: &mut [u8; 135],
+    memory: &mut [u8; 136],
 ) -> Desk {
     let mut request = [0u8; 135];
     let mut room = [0u8; 134];
@@ -170,7 +170,7 @@ fn ask_at(
     }
 }
 
-fn ask(desk: Desk, command: u8, body: &[u8], kept: &mut [u8], memory: &mut [u8]) -> Desk {
+fn ask(desk: Desk, command: u8, body: &[u8], kept: &mut [u8; 135], memory: &mut [u8; 136]) -> Desk {
     ask_at(desk, 0, command, body, kept, memory)
 }
 
@@ -196,31 +196,49 @@ fn example() {
     ask(d, 0x4B, b"\x01\x05\x02\x66\x08\x15", &mut kept, &mut memory);
 }
 
-// The label field made at eight blocks and cut to two; six come back, and a second field takes them for the commutation values: pole
-// pairs 4, offset angle 300, gain 1500, lag 180, two bytes each.
+// The label field is made, of all eight blocks.
+fn label_made(desk: Desk, kept: &mut [u8; 135], memory: &mut [u8; 136]) -> Desk {
+    let mut d = ask(desk, 0x4E, b"", kept, memory);
+    d = ask(d, 0x4D, b"\x00\xC7\x55", kept, memory);
+    ask(d, 0x4E, b"", kept, memory)
+}
+
+// It is cut to two: six come back.
+fn label_cut(desk: Desk, kept: &mut [u8; 135], memory: &mut [u8; 136]) -> Desk {
+    let d = ask(desk, 0x4D, b"\x00\xC1\x55", kept, memory);
+    ask(d, 0x4E, b"", kept, memory)
+}
+
+// Seven blocks are one too many for the second field; it takes the six.
+fn second_made(desk: Desk, kept: &mut [u8; 135], memory: &mut [u8; 136]) -> Desk {
+    let mut d = ask(desk, 0x4D, b"\x01\xC6\x55", kept, memory);
+    d = ask(d, 0x4D, b"\x01\xC5\x55", kept, memory);
+    ask(d, 0x4E, b"", kept, memory)
+}
+
+// Pole pairs 4, offset angle 300, gain 1500, lag 180, two bytes each: blank before, stored, read back.
+fn commutation(desk: Desk, kept: &mut [u8; 135], memory: &mut [u8; 136]) -> Desk {
+    let mut d = ask(desk, 0x4A, b"\x01\x00\x08\x55", kept, memory);
+    d = ask(
+        d,
+        0x4B,
+        b"\x01\x00\x08\x55\x00\x04\x01\x2C\x05\xDC\x00\xB4",
+        kept,
+        memory,
+    );
+    d = ask(d, 0x4A, b"\x01\x00\x08\x55", kept, memory);
+    ask(d, 0x4E, b"", kept, memory)
+}
+
 fn pallet_night() {
     say(b"The pallet night\n");
     let mut kept = [0u8; 135];
     let mut memory = [0u8; 136];
     let mut d = fresh_desk();
-    d = ask(d, 0x4E, b"", &mut kept, &mut memory);
-    d = ask(d, 0x4D, b"\x00\xC7\x55", &mut kept, &mut memory);
-    d = ask(d, 0x4E, b"", &mut kept, &mut memory);
-    d = ask(d, 0x4D, b"\x00\xC1\x55", &mut kept, &mut memory);
-    d = ask(d, 0x4E, b"", &mut kept, &mut memory);
-    d = ask(d, 0x4D, b"\x01\xC6\x55", &mut kept, &mut memory);
-    d = ask(d, 0x4D, b"\x01\xC5\x55", &mut kept, &mut memory);
-    d = ask(d, 0x4E, b"", &mut kept, &mut memory);
-    d = ask(d, 0x4A, b"\x01\x00\x08\x55", &mut kept, &mut memory);
-    d = ask(
-        d,
-        0x4B,
-        b"\x01\x00\x08\x55\x00\x04\x01\x2C\x05\xDC\x00\xB4",
-        &mut kept,
-        &mut memory,
-    );
-    d = ask(d, 0x4A, b"\x01\x00\x08\x55", &mut kept, &mut memory);
-    ask(d, 0x4E, b"", &mut kept, &mut memory);
+    d = label_made(d, &mut kept, &mut memory);
+    d = label_cut(d, &mut kept, &mut memory);
+    d = second_made(d, &mut kept, &mut memory);
+    commutation(d, &mut kept, &mut memory);
 }
 
 // Broadcast; another board's address; one that is none; a waiting fault code; 53h, which has no reply.
