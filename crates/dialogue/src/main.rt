@@ -184,16 +184,19 @@ fn note(desk: Desk, code: u8) -> Desk {
 }
 
 // 002, "Example: Data Field Definition". Its checksum 69 in the third request is a misprint for B9.
+fn definition(desk: Desk, kept: &mut [u8; 135], memory: &mut [u8; 136]) -> Desk {
+    let mut d = ask(desk, 0x4E, b"", kept, memory);
+    d = ask(d, 0x4D, b"\x00\xC9\x55", kept, memory);
+    d = ask(d, 0x4D, b"\x01\xE0\x55", kept, memory);
+    d = ask(d, 0x4F, b"\x02\x55\x66", kept, memory);
+    ask(d, 0x4B, b"\x01\x05\x02\x66\x08\x15", kept, memory)
+}
+
 fn example() {
     say(b"Document 002, data field definition\n");
     let mut kept = [0u8; 135];
     let mut memory = [0u8; 136];
-    let mut d = fresh_desk();
-    d = ask(d, 0x4E, b"", &mut kept, &mut memory);
-    d = ask(d, 0x4D, b"\x00\xC9\x55", &mut kept, &mut memory);
-    d = ask(d, 0x4D, b"\x01\xE0\x55", &mut kept, &mut memory);
-    d = ask(d, 0x4F, b"\x02\x55\x66", &mut kept, &mut memory);
-    ask(d, 0x4B, b"\x01\x05\x02\x66\x08\x15", &mut kept, &mut memory);
+    definition(fresh_desk(), &mut kept, &mut memory);
 }
 
 // The label field is made, of all eight blocks.
@@ -241,20 +244,28 @@ fn pallet_night() {
     commutation(d, &mut kept, &mut memory);
 }
 
-// Broadcast; another board's address; one that is none; a waiting fault code; 53h, which has no reply.
+// Broadcast; another board's address; one that is none.
+fn addresses(desk: Desk, kept: &mut [u8; 135], memory: &mut [u8; 136]) -> Desk {
+    let mut d = ask_at(desk, 255, 0x4E, b"", kept, memory);
+    d = ask_at(d, 1, 0x4E, b"", kept, memory);
+    ask_at(d, 32, 0x4E, b"", kept, memory)
+}
+
+// While a code waits every reply warns; 50h fetches it. 53h has no reply.
+fn warnings(desk: Desk, kept: &mut [u8; 135], memory: &mut [u8; 136]) -> Desk {
+    let mut d = note(desk, 0x1E);
+    d = ask(d, 0x46, b"", kept, memory);
+    d = ask(d, 0x4C, b"\x05", kept, memory);
+    d = ask(d, 0x50, b"", kept, memory);
+    ask(d, 0x53, b"", kept, memory)
+}
+
 fn others() {
     say(b"Others on the bus\n");
     let mut kept = [0u8; 135];
     let mut memory = [0u8; 136];
-    let mut d = fresh_desk();
-    d = ask_at(d, 255, 0x4E, b"", &mut kept, &mut memory);
-    d = ask_at(d, 1, 0x4E, b"", &mut kept, &mut memory);
-    d = ask_at(d, 32, 0x4E, b"", &mut kept, &mut memory);
-    d = note(d, 0x1E);
-    d = ask(d, 0x46, b"", &mut kept, &mut memory);
-    d = ask(d, 0x4C, b"\x05", &mut kept, &mut memory);
-    d = ask(d, 0x50, b"", &mut kept, &mut memory);
-    ask(d, 0x53, b"", &mut kept, &mut memory);
+    let d = addresses(fresh_desk(), &mut kept, &mut memory);
+    warnings(d, &mut kept, &mut memory);
 }
 
 fn main() {
