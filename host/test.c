@@ -374,6 +374,10 @@ static void test_fields(void) {
     line(EIGHT, "40 4A 02 00 01 55", "40 50 12");
     line(EIGHT, "40 4D 01 7F 55", "40 4D 01 7F");
     line(EIGHT, "40 4E", "40 4E 06 01");
+    line(EIGHT, "40 4D 01 C3 55", "40 4D 01 C3");
+    line(EIGHT, "40 4D 01 C6 55", "40 50 10");
+    line(EIGHT, "40 4D 01 C5 55", "40 4D 01 C5");
+    line(EIGHT, "40 4D 01 C6 55", "40 50 10");
 }
 
 static void test_codes_and_counter(void) {
@@ -391,6 +395,11 @@ static void test_codes_and_counter(void) {
     line(SHEET, "40 49 54", "40 50 0F");
     line(SHEET, "40 49 55", "40 49");
     line(SHEET, "40 46", "40 46 00 00 00");
+    line(SHEET, "40 4F 00 55 77", "40 4F 00");
+    line(SHEET, "40 49 55", "40 50 0F");
+    line(SHEET, "40 49 77", "40 49");
+    line(SHEET, "40 43 00 00 00 02 55", "40 50 0F");
+    line(SHEET, "40 43 00 00 00 02 77", "40 43");
     memset(lent.image + QS_IMAGE_COUNTER, 0xFF, 3);
     line(SHEET, "40 46", "40 46 FF FF FF");
     line(SHEET, "40 47", "40 C7");
