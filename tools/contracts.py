@@ -1,0 +1,93 @@
+#!/usr/bin/env python3
+"""Lists the public functions of every crate, and fails if docs/CONTRACTS.md lacks a row for one, or has one for none.
+
+contracts.py [--list]
+
+Public is what a crate hands out: a function that lib.rt passes on by `pub use` or that stands in a `pub mod`, a method of a type
+that is handed out so, and an exported `extern "C"` function. A row of the table begins with the function's name in backquotes,
+as `crate::Type::method`.
+"""
+
+import os
+import re
+import sys
+
+ROOT = os.path.dirname(os.path.dirname(os.path.abspath(__file__)))
+TABLE = os.path.join(ROOT, "docs", "CONTRACTS.md")
+IMPL = re.compile(r"^impl (\w+) \{")
+FUNCTION = re.compile(r"^(\s*)pub (?:extern \"C\" )?fn (\w+)")
+PASSED_ON = re.compile(r"^pub use (\w+)::(\w+);")
+OPEN_MODULE = re.compile(r"^pub mod (\w+);")
+
+
+def libraries():
+    """The crates that crates.txt lists and that are libraries."""
+    with open(os.path.join(ROOT, "crates.txt"), encoding="utf-8") as file:
+        names = [line.split(":")[0].strip() for line in file if ":" in line.split("#")[0]]
+    return [name for name in names if os.path.exists(os.path.join(ROOT, "crates", name, "src", "lib.rt"))]
+
+
+def lines_of(crate, module):
+    with open(os.path.join(ROOT, "crates", crate, "src", module + ".rt"), encoding="utf-8") as file:
+        return file.read().splitlines()
+
+
+def modules_of(crate):
+    files = os.listdir(os.path.join(ROOT, "crates", crate, "src"))
+    return sorted(name[:-3] for name in files if name.endswith(".rt") and name != "lib.rt")
+
+
+def functions_in(crate, module):
+    """Each `pub fn` of a file, as (type it is a method of or None, name)."""
+    inside = None
+    for line in lines_of(crate, module):
+        begun = IMPL.match(line)
+        if begun:
+            inside = begun.group(1)
+        elif line == "}":
+            inside = None
+        found = FUNCTION.match(line)
+        if found:
+            yield (inside if found.group(1) else None), found.group(2)
+
+
+def public_functions(crate):
+    passed, opened = {}, []
+    for line in lines_of(crate, "lib"):
+        on = PASSED_ON.match(line)
+        if on:
+            passed.setdefault(on.group(1), set()).add(on.group(2))
+        module = OPEN_MODULE.match(line)
+        if module:
+            opened.append(module.group(1))
+    for owner, name in functions_in(crate, "lib"):
+        yield "::".join(part for part in (crate, owner, name) if part)
+    types = set().union(*passed.values())
+    for module in modules_of(crate):
+        prefix = crate + "::" + module if module in opened else crate
+        for owner, name in functions_in(crate, module):
+            if module in opened or owner in types or name in passed.get(module, ()):
+                yield "::".join(part for part in (prefix, owner, name) if part)
+
+
+def rows():
+    with open(TABLE, encoding="utf-8") as file:
+        return [line.split("`")[1] for line in file if line.startswith("| `")]
+
+
+def main():
+    found = [name for crate in libraries() for name in public_functions(crate)]
+    if "--list" in sys.argv:
+        print("\n".join(found))
+        return
+    told = rows()
+    wrong = ["no row for " + name for name in found if name not in told]
+    wrong += ["a row for what is not there: " + name for name in told if name not in found]
+    wrong += ["two rows for " + name for name in sorted(set(told)) if told.count(name) > 1]
+    if wrong:
+        sys.exit("docs/CONTRACTS.md: " + "\ndocs/CONTRACTS.md: ".join(wrong))
+    print("contracts: %d public functions, a row each" % len(found))
+
+
+if __name__ == "__main__":
+    main()
