@@ -71,7 +71,7 @@ high-unknown c h =
       n 0x53 (omega arith),
     )
 
-unknown-never : (d : List ℕ) → asked unknown d ≡ false
+pub unknown-never : (d : List ℕ) → asked unknown d ≡ false
 unfolding asked row lengthFits
 unknown-never d = refl
 
