@@ -1,5 +1,5 @@
 // The frames of the bench sheet (01) and the worked example of 002, run; what comes back is compared with the stored output.
-use board::Board;
+use trial::counting;
 use trial::say;
 use trial::send;
 use trial::sheet_plate;
@@ -50,16 +50,13 @@ fn faulty() {
 // 01: the counter at FFFFFFh.
 fn counter_wraps() {
     let plate = sheet_plate(112, 24);
-    let fresh = board::fresh(plate);
-    let mut state = fresh.state;
-    let frame = fresh.frame;
-    state.counter = 0xFFFFFF;
-    let mut board = Board {
-        state: state,
-        frame: frame,
-    };
     let mut memory = [0u8; 1904];
-    board = send(plate, board, b"\x40\x47\x07", &mut memory);
+    let board = send(
+        plate,
+        counting(plate, 0xFFFFFF),
+        b"\x40\x47\x07",
+        &mut memory,
+    );
     send(plate, board, b"\x40\x50\x10", &mut memory);
 }
 

@@ -14,6 +14,17 @@ pub fn sheet_plate(total: u32, bits: u32) -> Plate {
     }
 }
 
+// A fresh board, but for its counter.
+pub fn counting(plate: Plate, counter: u32) -> Board {
+    let fresh = board::fresh(plate);
+    let state = fresh.state;
+    let frame = fresh.frame;
+    Board {
+        state: state.with_counter(counter),
+        frame: frame,
+    }
+}
+
 pub fn say(text: &[u8]) {
     io::write_all(1, text);
 }
@@ -325,4 +336,35 @@ pub fn long_frame(
         &mut room,
     );
     blanks_and_end(plate, begun, count, sum, &mut kept, memory, &mut room)
+}
+
+// One request of a script: command, number of data bytes, six places for them.
+fn scripted(plate: Plate, board: Board, script: &[u8], at: usize, memory: &mut [u8]) -> Board {
+    if 4096 < at {
+        return board;
+    }
+    if script.len() < at + 8 {
+        return board;
+    }
+    let count = script[at + 1] as usize;
+    if 6 < count {
+        return board;
+    }
+    let from = at + 2;
+    let to = from + count;
+    request(plate, board, script[at], &script[from..to], memory)
+}
+
+// The requests of a script, eight bytes each, one after the other; at most 64.
+pub fn play(plate: Plate, board: Board, script: &[u8], memory: &mut [u8]) -> Board {
+    let mut now = board;
+    let mut left: usize = 64;
+    while 0 < left {
+        left -= 1;
+        let at = 8 * (63 - left);
+        if at < script.len() {
+            now = scripted(plate, now, script, at, memory);
+        }
+    }
+    now
 }

@@ -1,7 +1,7 @@
 // Frames: the order of their checks, short and long ones, and the clock (01, "Characters become frames").
 use trial::ask;
 use trial::long_frame;
-use trial::request;
+use trial::play;
 use trial::say;
 use trial::sheet_plate;
 use trial::timed;
@@ -19,12 +19,18 @@ fn frame_checks() {
     board = long_frame(plate, board, 0x42, 297, 0, &mut memory);
     board = long_frame(plate, board, 0x44, 132, 0, &mut memory);
     board = long_frame(plate, board, 0x42, 132, 0, &mut memory);
-    board = request(plate, board, 0x44, b"\x01", &mut memory);
-    board = request(plate, board, 0xC2, b"", &mut memory);
-    board = request(plate, board, 0x42, b"\x00", &mut memory);
-    board = request(plate, board, 0x4B, b"\x00\x00", &mut memory);
-    board = request(plate, board, 0x4B, b"\x00\x00\x00\x55", &mut memory);
-    request(plate, board, 0x4B, b"\x00\x00\x02\x55\x01", &mut memory);
+    board = play(
+        plate,
+        board,
+        b"\x44\x01\x01\x00\x00\x00\x00\x00\xC2\x00\x00\x00\x00\x00\x00\x00\x42\x01\x00\x00\x00\x00\x00\x00\x4B\x02\x00\x00\x00\x00\x00\x00",
+        &mut memory,
+    );
+    play(
+        plate,
+        board,
+        b"\x4B\x04\x00\x00\x00\x55\x00\x00\x4B\x05\x00\x00\x02\x55\x01\x00",
+        &mut memory,
+    );
 }
 
 // 01, "Fewer than 3 bytes": silence even with a parity fault; a poll with no frame open does nothing.

@@ -1,7 +1,7 @@
 // The lent memory: rows 4Ah to 4Eh in each order position, unsound tables, dirty memory, T = 1 and T = 112.
 use board::Board;
 use line::Plate;
-use trial::request;
+use trial::play;
 use trial::say;
 use trial::sheet_plate;
 
@@ -10,20 +10,30 @@ fn fields_read() {
     let plate = sheet_plate(8, 24);
     let mut memory = [0u8; 136];
     let mut board = board::fresh(plate);
-    board = request(plate, board, 0x4D, b"\x00\xC9\x55", &mut memory);
-    board = request(plate, board, 0x4D, b"\x01\x98\x55", &mut memory);
-    board = request(plate, board, 0x4A, b"\x02\x00\x00\x00", &mut memory);
-    board = request(plate, board, 0x4A, b"\x00\xFF\x00\x00", &mut memory);
-    board = request(plate, board, 0x4A, b"\x00\xFF\x00\x55", &mut memory);
-    board = request(plate, board, 0x4A, b"\x00\xFF\x81\x55", &mut memory);
-    board = request(plate, board, 0x4A, b"\x00\xFF\x80\x55", &mut memory);
-    board = request(plate, board, 0x4A, b"\x00\x1F\x02\x55", &mut memory);
-    board = request(plate, board, 0x4A, b"\x00\x20\x01\x55", &mut memory);
-    board = request(plate, board, 0x4A, b"\x00\x1F\x01\x55", &mut memory);
-    board = request(plate, board, 0x4C, b"\x02", &mut memory);
-    board = request(plate, board, 0x4C, b"\xFF", &mut memory);
-    board = request(plate, board, 0x4C, b"\x01", &mut memory);
-    request(plate, board, 0x4E, b"", &mut memory);
+    board = play(
+        plate,
+        board,
+        b"\x4D\x03\x00\xC9\x55\x00\x00\x00\x4D\x03\x01\x98\x55\x00\x00\x00\x4A\x04\x02\x00\x00\x00\x00\x00\x4A\x04\x00\xFF\x00\x00\x00\x00",
+        &mut memory,
+    );
+    board = play(
+        plate,
+        board,
+        b"\x4A\x04\x00\xFF\x00\x55\x00\x00\x4A\x04\x00\xFF\x81\x55\x00\x00\x4A\x04\x00\xFF\x80\x55\x00\x00\x4A\x04\x00\x1F\x02\x55\x00\x00",
+        &mut memory,
+    );
+    board = play(
+        plate,
+        board,
+        b"\x4A\x04\x00\x20\x01\x55\x00\x00\x4A\x04\x00\x1F\x01\x55\x00\x00\x4C\x01\x02\x00\x00\x00\x00\x00\x4C\x01\xFF\x00\x00\x00\x00\x00",
+        &mut memory,
+    );
+    play(
+        plate,
+        board,
+        b"\x4C\x01\x01\x00\x00\x00\x00\x00\x4E\x00\x00\x00\x00\x00\x00\x00",
+        &mut memory,
+    );
 }
 
 // 01, row 4Bh: 12h, 0Fh, 0Eh, 11h in this order.
@@ -31,15 +41,24 @@ fn fields_stored() {
     let plate = sheet_plate(8, 24);
     let mut memory = [0u8; 136];
     let mut board = board::fresh(plate);
-    board = request(plate, board, 0x4D, b"\x00\xC9\x55", &mut memory);
-    board = request(plate, board, 0x4D, b"\x01\x98\x55", &mut memory);
-    board = request(plate, board, 0x4B, b"\x02\x00\x01\x00\x07", &mut memory);
-    board = request(plate, board, 0x4B, b"\x01\x10\x01\x00\x07", &mut memory);
-    board = request(plate, board, 0x4B, b"\x01\x10\x01\x55\x07", &mut memory);
-    board = request(plate, board, 0x4B, b"\x00\x20\x01\x55\x07", &mut memory);
-    board = request(plate, board, 0x4B, b"\x00\x1F\x02\x55\x07\x08", &mut memory);
-    board = request(plate, board, 0x4B, b"\x00\x1E\x02\x55\x07\x08", &mut memory);
-    request(plate, board, 0x4A, b"\x00\x1D\x03\x55", &mut memory);
+    board = play(
+        plate,
+        board,
+        b"\x4D\x03\x00\xC9\x55\x00\x00\x00\x4D\x03\x01\x98\x55\x00\x00\x00\x4B\x05\x02\x00\x01\x00\x07\x00\x4B\x05\x01\x10\x01\x00\x07\x00",
+        &mut memory,
+    );
+    board = play(
+        plate,
+        board,
+        b"\x4B\x05\x01\x10\x01\x55\x07\x00\x4B\x05\x00\x20\x01\x55\x07\x00\x4B\x06\x00\x1F\x02\x55\x07\x08\x4B\x06\x00\x1E\x02\x55\x07\x08",
+        &mut memory,
+    );
+    play(
+        plate,
+        board,
+        b"\x4A\x04\x00\x1D\x03\x55\x00\x00",
+        &mut memory,
+    );
 }
 
 // 01, "4Dh": 12h by the case, then 0Fh, then 10h; create, modify, delete.
@@ -47,27 +66,42 @@ fn shapes() {
     let plate = sheet_plate(8, 24);
     let mut memory = [0u8; 136];
     let mut board = board::fresh(plate);
-    board = request(plate, board, 0x4D, b"\x00\xC9\x55", &mut memory);
-    board = request(plate, board, 0x4D, b"\x01\xC8\x55", &mut memory);
-    board = request(plate, board, 0x4F, b"\x02\x55\x66", &mut memory);
-    board = request(plate, board, 0x4D, b"\x03\xC0\x00", &mut memory);
-    board = request(plate, board, 0x4D, b"\xFF\xC0\x55", &mut memory);
-    board = request(plate, board, 0x4D, b"\x02\x00\x00", &mut memory);
-    board = request(plate, board, 0x4D, b"\x02\xC7\x00", &mut memory);
-    board = request(plate, board, 0x4D, b"\x02\xC7\x55", &mut memory);
-    board = request(plate, board, 0x4D, b"\x02\xC0\x00", &mut memory);
-    board = request(plate, board, 0x4D, b"\x00\xE9\x66", &mut memory);
-    board = request(plate, board, 0x4D, b"\x00\xE9\x55", &mut memory);
-    board = request(plate, board, 0x4D, b"\x00\xE8\x55", &mut memory);
-    board = request(plate, board, 0x4D, b"\x00\xE8\x66", &mut memory);
-    board = request(plate, board, 0x4D, b"\x01\xCF\x55", &mut memory);
-    board = request(plate, board, 0x4D, b"\x01\xCD\x55", &mut memory);
-    board = request(plate, board, 0x4E, b"", &mut memory);
-    board = request(plate, board, 0x4D, b"\x01\xC8\x55", &mut memory);
-    board = request(plate, board, 0x4D, b"\x00\x69\x00", &mut memory);
-    board = request(plate, board, 0x4D, b"\x00\x69\x66", &mut memory);
-    board = request(plate, board, 0x4D, b"\x01\x07\x55", &mut memory);
-    request(plate, board, 0x4E, b"", &mut memory);
+    board = play(
+        plate,
+        board,
+        b"\x4D\x03\x00\xC9\x55\x00\x00\x00\x4D\x03\x01\xC8\x55\x00\x00\x00\x4F\x03\x02\x55\x66\x00\x00\x00\x4D\x03\x03\xC0\x00\x00\x00\x00",
+        &mut memory,
+    );
+    board = play(
+        plate,
+        board,
+        b"\x4D\x03\xFF\xC0\x55\x00\x00\x00\x4D\x03\x02\x00\x00\x00\x00\x00\x4D\x03\x02\xC7\x00\x00\x00\x00\x4D\x03\x02\xC7\x55\x00\x00\x00",
+        &mut memory,
+    );
+    board = play(
+        plate,
+        board,
+        b"\x4D\x03\x02\xC0\x00\x00\x00\x00\x4D\x03\x00\xE9\x66\x00\x00\x00\x4D\x03\x00\xE9\x55\x00\x00\x00\x4D\x03\x00\xE8\x55\x00\x00\x00",
+        &mut memory,
+    );
+    board = play(
+        plate,
+        board,
+        b"\x4D\x03\x00\xE8\x66\x00\x00\x00\x4D\x03\x01\xCF\x55\x00\x00\x00\x4D\x03\x01\xCD\x55\x00\x00\x00\x4E\x00\x00\x00\x00\x00\x00\x00",
+        &mut memory,
+    );
+    board = play(
+        plate,
+        board,
+        b"\x4D\x03\x01\xC8\x55\x00\x00\x00\x4D\x03\x00\x69\x00\x00\x00\x00\x4D\x03\x00\x69\x66\x00\x00\x00\x4D\x03\x01\x07\x55\x00\x00\x00",
+        &mut memory,
+    );
+    play(
+        plate,
+        board,
+        b"\x4E\x00\x00\x00\x00\x00\x00\x00",
+        &mut memory,
+    );
 }
 
 // 01, "03h": before 12h and all else.
@@ -77,11 +111,18 @@ fn gap_in_table() {
     let mut board = board::fresh(plate);
     memory[128] = 0x00;
     memory[129] = 0x80;
-    board = request(plate, board, 0x4A, b"\x09\x00\x00\x00", &mut memory);
-    board = request(plate, board, 0x4B, b"\x09\x00\x01\x00\x00", &mut memory);
-    board = request(plate, board, 0x4C, b"\x09", &mut memory);
-    board = request(plate, board, 0x4D, b"\x09\x00\x00", &mut memory);
-    request(plate, board, 0x4E, b"", &mut memory);
+    board = play(
+        plate,
+        board,
+        b"\x4A\x04\x09\x00\x00\x00\x00\x00\x4B\x05\x09\x00\x01\x00\x00\x00\x4C\x01\x09\x00\x00\x00\x00\x00\x4D\x03\x09\x00\x00\x00\x00\x00",
+        &mut memory,
+    );
+    play(
+        plate,
+        board,
+        b"\x4E\x00\x00\x00\x00\x00\x00\x00",
+        &mut memory,
+    );
 }
 
 // 01, "03h": before 12h and all else.
@@ -91,11 +132,18 @@ fn bit_7_clear() {
     let mut board = board::fresh(plate);
     memory[128] = 0x01;
     memory[129] = 0x00;
-    board = request(plate, board, 0x4A, b"\x09\x00\x00\x00", &mut memory);
-    board = request(plate, board, 0x4B, b"\x09\x00\x01\x00\x00", &mut memory);
-    board = request(plate, board, 0x4C, b"\x09", &mut memory);
-    board = request(plate, board, 0x4D, b"\x09\x00\x00", &mut memory);
-    request(plate, board, 0x4E, b"", &mut memory);
+    board = play(
+        plate,
+        board,
+        b"\x4A\x04\x09\x00\x00\x00\x00\x00\x4B\x05\x09\x00\x01\x00\x00\x00\x4C\x01\x09\x00\x00\x00\x00\x00\x4D\x03\x09\x00\x00\x00\x00\x00",
+        &mut memory,
+    );
+    play(
+        plate,
+        board,
+        b"\x4E\x00\x00\x00\x00\x00\x00\x00",
+        &mut memory,
+    );
 }
 
 // 01, "03h": before 12h and all else.
@@ -105,11 +153,18 @@ fn too_many_blocks() {
     let mut board = board::fresh(plate);
     memory[128] = 0x87;
     memory[129] = 0x80;
-    board = request(plate, board, 0x4A, b"\x09\x00\x00\x00", &mut memory);
-    board = request(plate, board, 0x4B, b"\x09\x00\x01\x00\x00", &mut memory);
-    board = request(plate, board, 0x4C, b"\x09", &mut memory);
-    board = request(plate, board, 0x4D, b"\x09\x00\x00", &mut memory);
-    request(plate, board, 0x4E, b"", &mut memory);
+    board = play(
+        plate,
+        board,
+        b"\x4A\x04\x09\x00\x00\x00\x00\x00\x4B\x05\x09\x00\x01\x00\x00\x00\x4C\x01\x09\x00\x00\x00\x00\x00\x4D\x03\x09\x00\x00\x00\x00\x00",
+        &mut memory,
+    );
+    play(
+        plate,
+        board,
+        b"\x4E\x00\x00\x00\x00\x00\x00\x00",
+        &mut memory,
+    );
 }
 
 // Of a memory that was AAh all over, the status table of 8 blocks.
@@ -136,17 +191,47 @@ fn dirty_memory() {
     let mut memory = [0xAAu8; 136];
     let mut board = board::fresh(plate);
     clear_table(&mut memory);
-    board = request(plate, board, 0x4D, b"\x00\xC1\x55", &mut memory);
+    board = play(
+        plate,
+        board,
+        b"\x4D\x03\x00\xC1\x55\x00\x00\x00",
+        &mut memory,
+    );
     show_places(&memory);
-    board = request(plate, board, 0x4D, b"\x00\xC2\x55", &mut memory);
+    board = play(
+        plate,
+        board,
+        b"\x4D\x03\x00\xC2\x55\x00\x00\x00",
+        &mut memory,
+    );
     show_places(&memory);
-    board = request(plate, board, 0x4B, b"\x00\x0F\x02\x55\x01\x02", &mut memory);
+    board = play(
+        plate,
+        board,
+        b"\x4B\x06\x00\x0F\x02\x55\x01\x02",
+        &mut memory,
+    );
     show_places(&memory);
-    board = request(plate, board, 0x4D, b"\x00\xC0\x55", &mut memory);
+    board = play(
+        plate,
+        board,
+        b"\x4D\x03\x00\xC0\x55\x00\x00\x00",
+        &mut memory,
+    );
     show_places(&memory);
-    board = request(plate, board, 0x4D, b"\x00\x00\x55", &mut memory);
+    board = play(
+        plate,
+        board,
+        b"\x4D\x03\x00\x00\x55\x00\x00\x00",
+        &mut memory,
+    );
     show_places(&memory);
-    request(plate, board, 0x4E, b"", &mut memory);
+    play(
+        plate,
+        board,
+        b"\x4E\x00\x00\x00\x00\x00\x00\x00",
+        &mut memory,
+    );
 }
 
 // 01, "total blocks T 1".
@@ -154,11 +239,18 @@ fn one_block() {
     let plate = sheet_plate(1, 24);
     let mut memory = [0u8; 17];
     let mut board = board::fresh(plate);
-    board = request(plate, board, 0x4D, b"\x00\xC1\x55", &mut memory);
-    board = request(plate, board, 0x4D, b"\x00\xC0\x55", &mut memory);
-    board = request(plate, board, 0x4D, b"\x01\xC0\x55", &mut memory);
-    board = request(plate, board, 0x4E, b"", &mut memory);
-    request(plate, board, 0x4A, b"\x00\x0F\x01\x00", &mut memory);
+    board = play(
+        plate,
+        board,
+        b"\x4D\x03\x00\xC1\x55\x00\x00\x00\x4D\x03\x00\xC0\x55\x00\x00\x00\x4D\x03\x01\xC0\x55\x00\x00\x00\x4E\x00\x00\x00\x00\x00\x00\x00",
+        &mut memory,
+    );
+    play(
+        plate,
+        board,
+        b"\x4A\x04\x00\x0F\x01\x00\x00\x00",
+        &mut memory,
+    );
 }
 
 // A 4Dh sent, and what comes of it not printed.
@@ -190,10 +282,12 @@ fn full_table() {
         board = quiet_request(plate, board, body, &mut memory);
         field += 1;
     }
-    board = request(plate, board, 0x4E, b"", &mut memory);
-    board = request(plate, board, 0x4D, b"\x70\xC0\x55", &mut memory);
-    board = request(plate, board, 0x4D, b"\x70\xC0\x00", &mut memory);
-    request(plate, board, 0x4C, b"\x6F", &mut memory);
+    play(
+        plate,
+        board,
+        b"\x4E\x00\x00\x00\x00\x00\x00\x00\x4D\x03\x70\xC0\x55\x00\x00\x00\x4D\x03\x70\xC0\x00\x00\x00\x00\x4C\x01\x6F\x00\x00\x00\x00\x00",
+        &mut memory,
+    );
 }
 
 pub fn run() {

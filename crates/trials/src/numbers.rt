@@ -1,7 +1,7 @@
 // Position, codes, counter and queue: rows 42h, 43h, 46h, 47h, 49h, 4Fh, 50h, 53h, and P = 1 and P = 32.
 use board::Board;
 use line::Plate;
-use trial::request;
+use trial::play;
 use trial::say;
 use trial::sheet_plate;
 
@@ -10,15 +10,20 @@ fn position_checks() {
     let plate = sheet_plate(112, 24);
     let mut memory = [0u8; 1904];
     let mut board = board::fault(plate, board::fresh(plate), 0x22).board;
-    board = request(plate, board, 0x42, b"\x00", &mut memory);
-    board = request(plate, board, 0x42, b"", &mut memory);
-    board = request(plate, board, 0x43, b"\x01\x00\x00\x00\x00", &mut memory);
+    board = play(
+        plate,
+        board,
+        b"\x42\x01\x00\x00\x00\x00\x00\x00\x42\x00\x00\x00\x00\x00\x00\x00\x43\x05\x01\x00\x00\x00\x00\x00",
+        &mut memory,
+    );
     let on = board::power_on(plate, board);
     board = on.board;
-    board = request(plate, board, 0x43, b"\x01\x00\x00\x00\x00", &mut memory);
-    board = request(plate, board, 0x43, b"\x01\x00\x00\x00\x55", &mut memory);
-    board = request(plate, board, 0x43, b"\x00\xFF\xFF\xFF\x55", &mut memory);
-    request(plate, board, 0x42, b"", &mut memory);
+    play(
+        plate,
+        board,
+        b"\x43\x05\x01\x00\x00\x00\x00\x00\x43\x05\x01\x00\x00\x00\x55\x00\x43\x05\x00\xFF\xFF\xFF\x55\x00\x42\x00\x00\x00\x00\x00\x00\x00",
+        &mut memory,
+    );
 }
 
 // 01, rows 4Fh, 49h, 47h, 46h, 53h.
@@ -26,32 +31,34 @@ fn codes_and_counter() {
     let plate = sheet_plate(112, 24);
     let mut memory = [0u8; 1904];
     let mut board = board::fresh(plate);
-    board = request(plate, board, 0x4F, b"\x04\x00\x01", &mut memory);
-    board = request(plate, board, 0x4F, b"\x03\x00\x01", &mut memory);
-    board = request(plate, board, 0x4F, b"\x00\x55\x01", &mut memory);
-    board = request(plate, board, 0x49, b"\x55", &mut memory);
-    board = request(plate, board, 0x47, b"", &mut memory);
-    board = request(plate, board, 0x46, b"", &mut memory);
-    board = request(plate, board, 0x49, b"\x01", &mut memory);
-    board = request(plate, board, 0x46, b"", &mut memory);
-    board = request(plate, board, 0x53, b"", &mut memory);
-    request(plate, board, 0x53, b"\x01", &mut memory);
+    board = play(
+        plate,
+        board,
+        b"\x4F\x03\x04\x00\x01\x00\x00\x00\x4F\x03\x03\x00\x01\x00\x00\x00\x4F\x03\x00\x55\x01\x00\x00\x00\x49\x01\x55\x00\x00\x00\x00\x00",
+        &mut memory,
+    );
+    board = play(
+        plate,
+        board,
+        b"\x47\x00\x00\x00\x00\x00\x00\x00\x46\x00\x00\x00\x00\x00\x00\x00\x49\x01\x01\x00\x00\x00\x00\x00\x46\x00\x00\x00\x00\x00\x00\x00",
+        &mut memory,
+    );
+    play(
+        plate,
+        board,
+        b"\x53\x00\x00\x00\x00\x00\x00\x00\x53\x01\x01\x00\x00\x00\x00\x00",
+        &mut memory,
+    );
 }
 
 // A board whose counter is at FFFFFFh, with these codes waiting.
 fn at_last_count(plate: Plate, first: u8, second: u8, third: u8, fourth: u8) -> Board {
-    let mut board = board::fresh(plate);
-    let mut state = board.state;
-    state.counter = 0xFFFFFF;
-    let frame = board.frame;
-    board = Board {
-        state: state,
-        frame: frame,
-    };
-    board = board::fault(plate, board, first).board;
-    board = board::fault(plate, board, second).board;
-    board = board::fault(plate, board, third).board;
-    board::fault(plate, board, fourth).board
+    let board = trial::counting(plate, 0xFFFFFF);
+    let one = board::fault(plate, board, first);
+    let two = board::fault(plate, one.board, second);
+    let three = board::fault(plate, two.board, third);
+    let four = board::fault(plate, three.board, fourth);
+    four.board
 }
 
 // 01, "a fifth, is dropped": 08h with four waiting.
@@ -59,13 +66,18 @@ fn counter_queue_full() {
     let plate = sheet_plate(112, 24);
     let mut memory = [0u8; 1904];
     let mut board = at_last_count(plate, 1, 2, 3, 4);
-    board = request(plate, board, 0x47, b"", &mut memory);
-    board = request(plate, board, 0x46, b"", &mut memory);
-    board = request(plate, board, 0x50, b"", &mut memory);
-    board = request(plate, board, 0x50, b"", &mut memory);
-    board = request(plate, board, 0x50, b"", &mut memory);
-    board = request(plate, board, 0x50, b"", &mut memory);
-    request(plate, board, 0x50, b"", &mut memory);
+    board = play(
+        plate,
+        board,
+        b"\x47\x00\x00\x00\x00\x00\x00\x00\x46\x00\x00\x00\x00\x00\x00\x00\x50\x00\x00\x00\x00\x00\x00\x00\x50\x00\x00\x00\x00\x00\x00\x00",
+        &mut memory,
+    );
+    play(
+        plate,
+        board,
+        b"\x50\x00\x00\x00\x00\x00\x00\x00\x50\x00\x00\x00\x00\x00\x00\x00\x50\x00\x00\x00\x00\x00\x00\x00",
+        &mut memory,
+    );
 }
 
 // 01, "one already waiting": 08h keeps its place; an error reply warns too.
@@ -73,11 +85,18 @@ fn counter_08_waiting() {
     let plate = sheet_plate(112, 24);
     let mut memory = [0u8; 1904];
     let mut board = at_last_count(plate, 8, 5, 0, 0);
-    board = request(plate, board, 0x47, b"", &mut memory);
-    board = request(plate, board, 0x44, b"", &mut memory);
-    board = request(plate, board, 0x50, b"", &mut memory);
-    board = request(plate, board, 0x50, b"", &mut memory);
-    request(plate, board, 0x50, b"", &mut memory);
+    board = play(
+        plate,
+        board,
+        b"\x47\x00\x00\x00\x00\x00\x00\x00\x44\x00\x00\x00\x00\x00\x00\x00\x50\x00\x00\x00\x00\x00\x00\x00\x50\x00\x00\x00\x00\x00\x00\x00",
+        &mut memory,
+    );
+    play(
+        plate,
+        board,
+        b"\x50\x00\x00\x00\x00\x00\x00\x00",
+        &mut memory,
+    );
 }
 
 // 01, "position bits P 1".
@@ -86,12 +105,19 @@ fn one_position_bit() {
     let mut memory = [0u8; 1904];
     let mut board = board::fresh(plate);
     board = board::measured(plate, board, 0xFFFFFFFF).board;
-    board = request(plate, board, 0x43, b"\x00\x00\x00\x02\x55", &mut memory);
-    board = request(plate, board, 0x42, b"", &mut memory);
-    board = request(plate, board, 0x43, b"\x00\x00\x00\x00\x55", &mut memory);
-    board = request(plate, board, 0x42, b"", &mut memory);
+    board = play(
+        plate,
+        board,
+        b"\x43\x05\x00\x00\x00\x02\x55\x00\x42\x00\x00\x00\x00\x00\x00\x00\x43\x05\x00\x00\x00\x00\x55\x00\x42\x00\x00\x00\x00\x00\x00\x00",
+        &mut memory,
+    );
     board = board::measured(plate, board, 2).board;
-    request(plate, board, 0x42, b"", &mut memory);
+    play(
+        plate,
+        board,
+        b"\x42\x00\x00\x00\x00\x00\x00\x00",
+        &mut memory,
+    );
 }
 
 // 01, "position bits P 32".
@@ -100,12 +126,26 @@ fn all_position_bits() {
     let mut memory = [0u8; 1904];
     let mut board = board::fresh(plate);
     board = board::measured(plate, board, 7).board;
-    board = request(plate, board, 0x43, b"\xFF\xFF\xFF\xFF\x55", &mut memory);
-    board = request(plate, board, 0x42, b"", &mut memory);
+    board = play(
+        plate,
+        board,
+        b"\x43\x05\xFF\xFF\xFF\xFF\x55\x00\x42\x00\x00\x00\x00\x00\x00\x00",
+        &mut memory,
+    );
     board = board::measured(plate, board, 8).board;
-    board = request(plate, board, 0x42, b"", &mut memory);
+    board = play(
+        plate,
+        board,
+        b"\x42\x00\x00\x00\x00\x00\x00\x00",
+        &mut memory,
+    );
     board = board::measured(plate, board, 0xFFFFFFFF).board;
-    request(plate, board, 0x42, b"", &mut memory);
+    play(
+        plate,
+        board,
+        b"\x42\x00\x00\x00\x00\x00\x00\x00",
+        &mut memory,
+    );
 }
 
 pub fn run() {
