@@ -15,11 +15,11 @@ use Rattle.bench.specs.declared.reply.Verdict.{Verdict}
 use Rattle.bench.specs.declared.reply.Verdict.the-variants.{Done, DoneWithWarning, Error, ErrorWithWarning, Refused}
 
 -- the paper's numbers and words lead back to the code's answer
-abbrev refusalAt : ℕ → Refusal
+abbrev pub refusalAt : ℕ → Refusal
 refusalAt n =
     pick (eqb n 0) B0 (pick (eqb n 1) B1 (pick (eqb n 2) B2 (pick (eqb n 3) B3 (pick (eqb n 4) B4 (pick (eqb n 5) B5 B6)))))
 
-abbrev verdictBack : meaning.Verdict → Verdict
+abbrev pub verdictBack : meaning.Verdict → Verdict
 verdictBack (meaning.refusal n) = Refused (refusalAt n)
 verdictBack (meaning.done w d) = pick w DoneWithWarning Done
 verdictBack (meaning.failed w e) = pick w (ErrorWithWarning e) (Error e)
@@ -33,7 +33,7 @@ number-back B4 = refl
 number-back B5 = refl
 number-back B6 = refl
 
-verdict-back : (v : Verdict) → verdictBack (verdictOf v) ≡ v
+pub verdict-back : (v : Verdict) → verdictBack (verdictOf v) ≡ v
 verdict-back Done = refl
 verdict-back DoneWithWarning = refl
 verdict-back (Error e) = refl

@@ -1,20 +1,19 @@
 -- Each command by its row: what it asks, and what it leaves as it was. Assumes nothing.
 use Prim.Native.Nat.{ℕ, _≤_}
-use mathlib.Core.Path.{_≡_, refl, sym, ap, _∙_}
-use mathlib.Core.Bool.{Bool, true, false, not, false≢true}
-use mathlib.Core.List.{List, [], _∷_}
+use mathlib.Core.Path.{_≡_, refl, sym, _∙_}
+use mathlib.Core.Bool.{Bool, true, false, false≢true}
+use mathlib.Core.List.{List, []}
 use borrow.Author.Tests.{eqb-true}
-use lib.Dec.{eqb, leb, ltb}
+use lib.Dec.{eqb}
 use lib.ListN.{length}
 use Rattle.meaning.specs.Bytes.{pick, either, among}
 use Rattle.meaning.specs.State as meaning
-use Rattle.meaning.specs.State.{none, plateOk}
-use Rattle.meaning.specs.Fields.{imageLength}
+use Rattle.meaning.specs.State.{none}
 use Rattle.meaning.specs.Commands as commands
-use Rattle.meaning.specs.Commands.{Command, c42, c43, c46, c47, c49, c4A, c4B, c4C, c4D, c4E, c4F, c50, c53, unknown, commandOf, asked, row, lengthFits, error, choose, onField, readPosition, setPosition, readCounter, stepCounter, clearCounter, readField, storeField, fieldStatus, create, modify, delete, shapeField, memoryStatus, setCode, readFault, reset, worked}
+use Rattle.meaning.specs.Commands.{Command, c43, c49, c4A, c4B, c4C, c4D, c4E, c4F, unknown, commandOf, asked, row, lengthFits, error, choose, onField, readPosition, setPosition, readCounter, stepCounter, clearCounter, readField, storeField, fieldStatus, create, modify, delete, shapeField, memoryStatus, setCode, readFault, reset, worked}
 use Rattle.frame.specs.declared.answer.Answer.{Answer}
 use Rattle.frame.specs.Answers.{memoryAfter, stateAfter, Works}
-use Rattle.fields.specs.Memory.{Fit, Lent}
+use Rattle.fields.specs.Memory.{Lent}
 use Rattle.fields.specs.Replies.{Asked}
 use Rattle.line.specs.declared.plate.Plate.{Plate}
 use Rattle.line.specs.Line.{plateOf}

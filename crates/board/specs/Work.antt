@@ -8,7 +8,7 @@ use Rattle.meaning.specs.Bytes.{among, part, put}
 use Rattle.meaning.specs.State as meaning
 use Rattle.meaning.specs.State.{none, plateOk}
 use Rattle.meaning.specs.Fields.{imageLength}
-use Rattle.meaning.specs.Commands.{commandOf, asked, worked}
+use Rattle.meaning.specs.Commands.{commandOf, asked}
 use Rattle.meaning.specs.Commands as commands
 use Rattle.meaning.specs.Frames.{closed, message, work}
 use Rattle.frame.specs.declared.answer.Answer.{Answer}

@@ -1,0 +1,170 @@
+-- A sent request is closed and judged: what comes back is what the specification's answer says. Assumes nothing.
+use Prim.Native.Nat.{ℕ, zero, suc, _+_, _-_, _*_, _%_, _^_, _<_, _≤_}
+use mathlib.Core.Path.{_≡_, refl, sym, ap, ap₂, _∙_, subst}
+use mathlib.Core.Bool.{Bool, true, false, false≢true}
+use mathlib.Core.List.{List, [], _∷_, _++_}
+use native.Mathlib.Omega.{arith}
+use native.Mathlib.Nat.{mul-le-mul-left}
+use lib.Dec.{T, eqb, leb, leb→le}
+use lib.ListN.{length, take, drop}
+use lib.Seq.{take-length, take-append-seam}
+use borrow.Author.Tests.{eqb-true, leb-true}
+use Rattle.meaning.specs.Bytes.{pick, both, either, among, put}
+use Rattle.meaning.specs.State.{Plate, State, Line, none, withLine, plateOk, between}
+use Rattle.meaning.specs.Frames.{Outcome, still, resting, over}
+use Rattle.meaning.specs.Run.{Call, poll, step, runFrom, closes}
+use Rattle.meaning.specs.Bench.{addressFor, request, judge}
+use Rattle.meaning.specs.Demands.{meant}
+use Rattle.meaning.proofs.Puts.{length-put}
+use Rattle.meaning.proofs.Rests.{meant-rests}
+use Rattle.meaning.proofs.Steps.{both-0, both-1}
+use Rattle.meaning.proofs.Limits.{replies-fit}
+use Rattle.frame.proofs.Laws.{put-front}
+use Rattle.line.proofs.Limits.{both-left, both-right, low-address}
+use Rattle.board.specs.declared.limits.Board.{Board}
+use Rattle.board.specs.declared.limits.Outcome as board
+use Rattle.board.specs.declared.limits.Outcome.the-variants.{Refused, Still, Over}
+use Rattle.board.specs.declared.limits.Stepped.{Stepped}
+use Rattle.board.specs.Board.{stateOf, Steps}
+use Rattle.board.specs.Promises.{DoesStep}
+use Rattle.board.proofs.Promises.{does-step, unrefused, stays-within}
+use Rattle.bench.specs.declared.reply.Verdict.{Verdict}
+use Rattle.bench.specs.Outcomes.{verdictOf, withoutData}
+use Rattle.exchange.specs.declared.sending.Sent.{Sent}
+use Rattle.exchange.specs.declared.asking.Ended.the-variants.{Heard}
+use Rattle.exchange.specs.declared.asking.Exchanged.{Exchanged}
+use Rattle.exchange.specs.Calls.{stampOf, sending, Clear, Taken, Sends}
+use Rattle.exchange.specs.Passing.{heard, reached, answerTo, verdictOn, Asks, Converses, countOf}
+use Rattle.exchange.proofs.Stepping.{kept-bytes}
+use Rattle.exchange.proofs.Taking.{put-nothing}
+use Rattle.exchange.proofs.Closing.{over-now, poll-answers, verdict-answers, request-long}
+
+-- ---- the pause as a number of ticks fits 32 bits
+
+abbrev low : ℕ → List ℕ → Bool
+low b [] = true
+low b (y ∷ l) = both (leb y b) (low b l)
+
+among-low : (b x : ℕ) (l : List ℕ) → T (low b l) → among x l ≡ true → x ≤ b
+unfolding among
+among-low b x [] h e = absurd (false≢true e)
+among-low b x (y ∷ l) h e = go (eqb x y) refl e (among-low b x l (both-1 (leb y b) (low b l) h))
+  where
+    go : (t : Bool) → eqb x y ≡ t → either t (among x l) ≡ true → (among x l ≡ true → x ≤ b) → x ≤ b
+    go true k e f = omega (arith, eqb-true x y k, leb→le y b (both-0 (leb y b) (low b l) h))
+    go false k e f = f e
+
+module _ (p : Plate) (ok : plateOk p ≡ true) where
+  abbrev ticks-known : Bool
+  ticks-known = among (p .ticks) (1 ∷ 2 ∷ 4 ∷ 8 ∷ 16 ∷ 32 ∷ 64 ∷ [])
+
+  abbrev pause-known : Bool
+  pause-known = among (p .pause) (22 ∷ 55 ∷ [])
+
+  known : both ticks-known pause-known ≡ true
+  unfolding plateOk
+  known =
+      both-right (leb (p .address) 31) (both ticks-known pause-known)
+      (both-right (between 1 32 (p .bits)) (both (leb (p .address) 31) (both ticks-known pause-known))
+      (both-right (between 1 112 (p .total)) (both (between 1 32 (p .bits)) (both (leb (p .address) 31) (both ticks-known pause-known))) ok))
+
+  pub pause-fits : p .pause * p .ticks < 2 ^ 32
+  pause-fits =
+      let few : p .ticks ≤ 64 = among-low 64 (p .ticks) (1 ∷ 2 ∷ 4 ∷ 8 ∷ 16 ∷ 32 ∷ 64 ∷ []) tt (both-left ticks-known pause-known known) in
+      omega (arith, mul-le-mul-left (p .pause) few, among-low 55 (p .pause) (22 ∷ 55 ∷ []) tt (both-right ticks-known pause-known known))
+
+-- ---- the poll
+
+-- after a request no frame is open
+answer-rests : (p : Plate) (s : State) (m : List ℕ) (a c : ℕ) (d : List ℕ) → (answerTo p s m a c d) .state .line ≡ s .line
+unfolding answerTo still
+answer-rests p s m a c d = go (reached p s a)
+  where
+    go : (t : Bool) → (pick t (meant p s m c d) (still s m)) .state .line ≡ s .line
+    go true = meant-rests p s m d c
+    go false = refl
+
+module _ (p : Plate) (b : Board) (tick spacing : ℕ) (q kept m w : List ℕ) (clear : Clear p b spacing q kept m w) where
+  pub clear-pause : p .pause * p .ticks < 2 ^ 32
+  clear-pause = pause-fits p (clear .within .plate)
+
+  module _ {e : Sent} {k₁ m₁ w₁ : List ℕ} (sent : Sends p b tick spacing q kept m w e k₁ m₁ w₁) (t : ℕ) {r : Stepped} {k₂ m₂ w₂ : List ℕ}
+      (s : Steps p (e .board) k₁ m₁ w₁ (poll t) r k₂ m₂ w₂) where
+    room-wide : 134 ≤ length w₁
+    room-wide = rw (sent .taken .room) (clear .wide)
+
+    polled : DoesStep p (e .board) k₁ m₁ w₁ (poll t) r k₂ m₂ w₂
+    polled = does-step p (e .board) k₁ m₁ w₁ (poll t) (unrefused p (e .board) k₁ m₁ (length w₁) (poll t) (sent .taken .within) room-wide) s
+
+    -- the reply lies within its room
+    pub reply-fits : countOf (r .outcome) ≤ length w₂
+    reply-fits = rw (polled .outcome) (go (closes p (stateOf (e .board) k₁) (poll t)))
+      where
+        o : Outcome
+        o = step p (stateOf (e .board) k₁) m₁ (poll t)
+
+        long : length w₂ ≡ length w₁
+        long = rw (polled .room) (length-put w₁ 0 (o .reply) (omega (arith, room-wide, replies-fit p (stateOf (e .board) k₁) m₁ (poll t))))
+
+        go : (c : Bool) → countOf (pick c (Over (length (o .reply))) Still) ≤ length w₂
+        go true = omega (arith, long, room-wide, replies-fit p (stateOf (e .board) k₁) m₁ (poll t))
+        go false = omega arith
+
+    -- Demand 2 in code: what the request comes to
+    module _ (low : tick < 2 ^ 32) (at : t ≡ (e .last + p .pause * p .ticks) % 2 ^ 32) (n c : ℕ) (d : List ℕ) (asks : Asks n c d q) where
+      abbrev a : ℕ
+      a = addressFor n
+
+      abbrev s₀ : State
+      s₀ = resting (stateOf b kept)
+
+      abbrev answer : Outcome
+      answer = answerTo p s₀ m a c d
+
+      short : length (request a c d) ≤ 135
+      short = rw (asks .bytes) at (clear .short)
+
+      tick-is : t ≡ (stampOf tick spacing (length (request a c d) - 1) + p .pause * p .ticks) % 2 ^ 32
+      tick-is = at ∙ ap (λ (x : ℕ). (x + p .pause * p .ticks) % 2 ^ 32) (sent .last ∙ ap (λ (l : List ℕ). stampOf tick spacing (length l - 1)) (asks .bytes))
+
+      state-is : stateOf (e .board) k₁ ≡ (runFrom p (stateOf b kept) m (sending tick spacing (request a c d) (length (request a c d)))) .state
+      state-is = sent .taken .state ∙ ap (λ (l : List ℕ). (runFrom p (stateOf b kept) m (sending tick spacing l (length l))) .state) (asks .bytes)
+
+      answered : step p (stateOf (e .board) k₁) m₁ (poll t) ≡ answer
+      answered =
+          ap₂ (λ (x : State) (y : List ℕ). step p x y (poll t)) state-is (sent .taken .memory)
+          ∙ ap (λ (x : ℕ). step p ((runFrom p (stateOf b kept) m (sending tick spacing (request a c d) (length (request a c d)))) .state) m (poll x)) tick-is
+          ∙ poll-answers p (stateOf b kept) m tick spacing a c d (clear .idle) low (clear .close) clear-pause short (low-address p (clear .within .plate)) (clear .within .size) (asks .may)
+
+      closed-now : closes p (stateOf (e .board) k₁) (poll t) ≡ true
+      unfolding closes
+      closed-now =
+          ap₂ (λ (x : State) (y : ℕ). over p x y) state-is tick-is
+          ∙ over-now p (stateOf b kept) m tick spacing a c d (clear .idle) low (clear .close) clear-pause short (low-address p (clear .within .plate)) (clear .within .size) (asks .may)
+
+      count-is : countOf (r .outcome) ≡ length (answer .reply)
+      count-is = rw (polled .outcome, closed-now, answered)
+
+      emptied : (k : List ℕ) → put k 0 (s₀ .line .kept) ≡ k
+      unfolding resting withLine none
+      emptied k = sym (put-nothing k)
+
+      pub converses : {k : ℕ} {v : Verdict} {x : Exchanged} → k ≡ countOf (r .outcome) → verdictOf v ≡ withoutData (judge q (take k w₂))
+          → x ≡ (record { board = r .board; ended = Heard (length q) k v }) → Converses p b n c d kept m w x k₂ m₂ w₂
+      converses {k} {v} {x} kk vv xx =
+          let room : w₂ ≡ put w 0 (answer .reply) = polled .room ∙ ap₂ (λ (l : List ℕ) (o : Outcome). put l 0 (o .reply)) (sent .taken .room) answered in
+          let heard-bytes : take k w₂ ≡ answer .reply
+          = rw (room, kk, count-is, put-front w (answer .reply)) (take-append-seam (answer .reply) (drop (length (answer .reply)) w)) in
+          let told : verdictOf v ≡ withoutData (verdictOn p s₀ m a c d)
+          = vv ∙ ap withoutData (ap₂ judge (asks .bytes) heard-bytes ∙ verdict-answers p s₀ m n c d (low-address p (clear .within .plate)) (clear .within .size) (asks .address) (asks .may)) in
+          record {
+            ended = rw (xx, told, kk, count-is, asks .bytes);
+            state = rw xx (polled .state ∙ ap (λ (o : Outcome). o .state) answered);
+            bytes =
+                kept-bytes p (e .board) k₁ m₁ w₁ (poll t) (sent .taken .within) room-wide s ∙ ap (λ (o : Outcome). put k₁ 0 (o .state .line .kept)) answered
+                ∙ ap (λ (l : Line). put k₁ 0 (l .kept)) (answer-rests p s₀ m a c d) ∙ emptied k₁
+                ∙ sent .taken .bytes ∙ ap (λ (l : List ℕ). put kept 0 l) (take-length q ∙ asks .bytes);
+            memory = polled .memory ∙ ap (λ (o : Outcome). o .memory) answered;
+            room = room;
+            few = rw xx (stays-within p (e .board) k₁ m₁ w₁ (poll t) (sent .taken .within) room-wide s .few);
+          }

@@ -1,0 +1,156 @@
+-- The refusals one by one, what writing the request leaves, and the whole of an exchange from its parts. Assumes nothing.
+use Prim.Native.Nat.{ℕ, _+_, _*_, _<_, _≤_}
+use mathlib.Core.Path.{_≡_, refl, sym, ap, _∙_, subst}
+use mathlib.Core.Bool.{Bool, true, false, not}
+use mathlib.Core.List.{List}
+use native.Mathlib.Omega.{arith}
+use lib.Dec.{T, eqb, leb, ltb}
+use lib.ListN.{length, take, drop, length-append}
+use lib.Seq.{take-append-seam}
+use borrow.Author.Tests.{eq-eqb, ne-eqb, le-leb, lt-leb, eqb-false}
+use Rattle.meaning.specs.Bytes.{pick, both, either, put}
+use Rattle.meaning.specs.State.{Plate, plateOk, stateOk}
+use Rattle.meaning.specs.Fields.{imageLength}
+use Rattle.meaning.specs.Commands.{commandOf}
+use Rattle.meaning.specs.Run.{Call, poll, lends, refusedBy}
+use Rattle.meaning.specs.Bench.{addressOk, addressFor, allowed, request, writes}
+use Rattle.meaning.specs.Bench as meaning
+use Rattle.meaning.proofs.Steps.{both-0, both-1}
+use Rattle.meaning.proofs.Wire.{writes-well}
+use Rattle.frame.proofs.Laws.{put-front}
+use Rattle.board.specs.declared.limits.Board.{Board}
+use Rattle.board.specs.Board.{stateOf, fitsIn, refusalOn}
+use Rattle.bench.specs.declared.request.Written.the-variants.{Request}
+use Rattle.bench.specs.declared.request.Written.the-variants as written
+use Rattle.bench.specs.Outcomes.{writtenOf}
+use Rattle.exchange.specs.declared.asking.Refusal.{Refusal}
+use Rattle.exchange.specs.declared.asking.Ended.the-variants.{Refused}
+use Rattle.exchange.specs.declared.asking.Exchanged.{Exchanged}
+use Rattle.exchange.specs.Passing.{numberOf, refused, refusalFor, Asks, Converses, passed, Passes}
+
+-- R1 to R3 have no higher number
+pub refusal-few : (p : Plate) (b : Board) (kept m : List ℕ) (r : ℕ) (g : Call) → refusalOn p b kept m r g ≤ 3
+unfolding refusalOn refusedBy
+refusal-few p b kept m r g =
+    go (fitsIn b kept) (either (not (plateOk p)) (not (stateOk p (stateOf b kept)))) (lends g) (not (eqb (length m) (imageLength (p .total)))) (ltb r 134)
+  where
+    go : (x y z u v : Bool) → pick x (pick y 1 (pick z (pick u 2 (pick v 3 0)) 0)) 1 ≤ 3
+    go false y z u v = omega arith
+    go true true z u v = omega arith
+    go true false false u v = omega arith
+    go true false true true v = omega arith
+    go true false true false true = omega arith
+    go true false true false false = omega arith
+
+-- ---- what writing leaves
+
+-- the request stands at the room's front, and is one that the bench writes
+pub record Wrote (n c k : ℕ) (d q q′ : List ℕ) : Type 0 where
+  pub asks : Asks n c d (take k q′)
+  pub room : q′ ≡ put q 0 (request (addressFor n) c d)
+  pub short : length (take k q′) ≤ 135
+  pub within : k ≤ length q′
+  pub unrefused : (writes n c d q) .refusal ≡ 0
+
+module _ (n c : ℕ) (d q q′ : List ℕ) where
+  abbrev asked : List ℕ
+  asked = request (addressFor n) c d
+
+  well : (k : ℕ) → T (both (addressOk n) (allowed (commandOf c) d)) → k ≡ length asked → q′ ≡ put q 0 asked → (writes n c d q) .refusal ≡ 0 → Wrote n c k d q q′
+  well k g e f z =
+      let right = both-0 (addressOk n) (allowed (commandOf c) d) g in
+      let may = both-1 (addressOk n) (allowed (commandOf c) d) g in
+      let front : take k q′ ≡ asked = rw (e, f, put-front q asked) (take-append-seam asked (drop (length asked) q)) in
+      record {
+        asks = record { address = right; may = may; bytes = front };
+        room = f;
+        short = rw front (writes-well n c d right may .1);
+        within = rw (e, f, put-front q asked) (omega (arith, length-append asked (drop (length asked) q)));
+        unrefused = z;
+      }
+
+  pub wrote : (k : ℕ) → writtenOf (Request k) q′ ≡ writes n c d q → Wrote n c k d q q′
+  unfolding writes
+  wrote k = go (ltb (length q) 135) (both (addressOk n) (allowed (commandOf c) d)) (λ g. g) refl
+    where
+      go : (s g : Bool) → (T g → T (both (addressOk n) (allowed (commandOf c) d)))
+          → writes n c d q ≡ pick s (writtenOf written.R4 q) (pick (not g) (writtenOf written.R5 q) (writtenOf (Request (length asked)) (put q 0 asked)))
+          → writtenOf (Request k) q′ ≡ pick s (writtenOf written.R4 q) (pick (not g) (writtenOf written.R5 q) (writtenOf (Request (length asked)) (put q 0 asked)))
+          → Wrote n c k d q q′
+      go true g l z e = absurd (eqb-false 0 4 refl (ap (λ (w : meaning.Written). w .refusal) e))
+      go false false l z e = absurd (eqb-false 0 5 refl (ap (λ (w : meaning.Written). w .refusal) e))
+      go false true l z e =
+          well k (l tt) (ap (λ (w : meaning.Written). w .count) e) (ap (λ (w : meaning.Written). w .room) e) (ap (λ (w : meaning.Written). w .refusal) z)
+
+  -- refused, the room is as it was
+  same-room : (k : ℕ) → (k ≡ 0 → ⊥) → (record { refusal = k; count = 0; room = q′ }) ≡ writes n c d q → q′ ≡ q
+  unfolding writes
+  same-room k h = go (ltb (length q) 135) (both (addressOk n) (allowed (commandOf c) d))
+    where
+      go : (s g : Bool)
+          → _≡_ {A = meaning.Written} (record { refusal = k; count = 0; room = q′ })
+          (pick s (writtenOf written.R4 q) (pick (not g) (writtenOf written.R5 q) (writtenOf (Request (length asked)) (put q 0 asked))))
+          → q′ ≡ q
+      go true g e = ap (λ (w : meaning.Written). w .room) e
+      go false false e = ap (λ (w : meaning.Written). w .room) e
+      go false true e = absurd (h (ap (λ (w : meaning.Written). w .refusal) e))
+
+-- ---- the whole
+
+module _ (p : Plate) (b : Board) (n c : ℕ) (d : List ℕ) (spacing : ℕ) (q kept m w : List ℕ) where
+  -- a refusal leaves all as it was
+  pub passes-refused : {k : ℕ} {x : Refusal} {r : Exchanged} → refusalFor p b n c d spacing q kept m w ≡ k → (k ≡ 0 → ⊥) → numberOf x ≡ k
+      → r ≡ (record { board = b; ended = Refused x }) → Passes p b n c d spacing q kept m w r q kept m w
+  unfolding passed
+  passes-refused {k} {x} e h i j =
+      let z : eqb k 0 ≡ false = ne-eqb k 0 h in
+      record {
+        ended = rw (j, e, z, i);
+        state = rw (j, e, z);
+        written = rw (e, z);
+        bytes = rw (e, z);
+        memory = rw (e, z);
+        room = rw (e, z);
+        few = λ y. absurd (h (sym e ∙ y));
+        untouched = λ y. rw j;
+      }
+
+  pub refused-board : {k : ℕ} → k ≡ refusalOn p b kept m (length w) (poll 0) → (k ≡ 0 → ⊥) → refusalFor p b n c d spacing q kept m w ≡ k
+  unfolding refusalFor
+  refused-board {k} e h = rw (← e, ne-eqb k 0 h)
+
+  module _ (e : refusalOn p b kept m (length w) (poll 0) ≡ 0) where
+    pub refused-open : b .frame .begun ≡ true → refusalFor p b n c d spacing q kept m w ≡ 6
+    unfolding refusalFor
+    refused-open o = rw (e, o)
+
+    module _ (i : b .frame .begun ≡ false) where
+      pub refused-slow : p .pause * p .ticks ≤ spacing → refusalFor p b n c d spacing q kept m w ≡ 7
+      unfolding refusalFor
+      refused-slow h = rw (e, i, le-leb (p .pause * p .ticks) spacing h)
+
+      pub refused-bench : spacing < p .pause * p .ticks → refusalFor p b n c d spacing q kept m w ≡ (writes n c d q) .refusal
+      unfolding refusalFor
+      refused-bench h = rw (e, i, lt-leb (p .pause * p .ticks) spacing h)
+
+      -- R4 and R5: the request's room too is as it was
+      pub passes-unwritten : spacing < p .pause * p .ticks → {k : ℕ} {q′ : List ℕ} {x : Refusal} {r : Exchanged} → (k ≡ 0 → ⊥)
+          → (record { refusal = k; count = 0; room = q′ }) ≡ writes n c d q → numberOf x ≡ k → r ≡ (record { board = b; ended = Refused x })
+          → Passes p b n c d spacing q kept m w r q′ kept m w
+      passes-unwritten near {k} h y z j =
+          rw (same-room n c d q _ k h y) (passes-refused (refused-bench near ∙ sym (ap (λ (u : meaning.Written). u .refusal) y)) h z j)
+
+  pub passes-heard : {k : ℕ} {q′ : List ℕ} {r : Exchanged} {kept′ m′ w′ : List ℕ} → refusalFor p b n c d spacing q kept m w ≡ 0
+      → Wrote n c k d q q′ → Converses p b n c d kept m w r kept′ m′ w′ → Passes p b n c d spacing q kept m w r q′ kept′ m′ w′
+  unfolding passed
+  passes-heard e f h =
+      record {
+        ended = rw e (h .ended);
+        state = rw e (h .state);
+        written = rw e (f .room);
+        bytes = rw e (h .bytes);
+        memory = rw e (h .memory);
+        room = rw e (h .room);
+        few = λ y. h .few;
+        untouched = λ y. absurd (y e);
+      }

@@ -1,0 +1,152 @@
+// One request and its reply (01, "The bench", "Named refusals").
+ghost use mathlib.Core.Path.{_≡_};
+ghost use mathlib.Core.List.{List};
+ghost use Prim.Native.Nat.{ℕ, _≤_};
+ghost use Rattle.line.specs.Line.{plateOf};
+ghost use Rattle.exchange.specs.Calls.{Clear};
+ghost use Rattle.exchange.specs.Passing.{numberOf, countOf, Asks, Converses, Passes};
+use crate::sending::pause_of;
+use crate::sending::send;
+use bench::Verdict;
+use bench::Written;
+use board::Board;
+use board::Outcome;
+use line::Plate;
+
+// Why nothing was sent, in the order of the tests: R1 to R3 of the board; a frame is open already; the spacing is not below the pause, so
+// that it would close the frame; R4 and R5 of the bench, last because the request is then written.
+pub enum Refusal {
+    R1,
+    R2,
+    R3,
+    FrameOpen,
+    TooSlow,
+    R4,
+    R5,
+}
+
+// Refused, and nothing is changed; or heard: the lengths of request and reply, which stand at the fronts of their rooms, and the verdict.
+pub enum Ended {
+    Refused(Refusal),
+    Heard {
+        request: usize,
+        reply: usize,
+        verdict: Verdict,
+    },
+}
+
+pub struct Exchanged {
+    pub board: Board,
+    pub ended: Ended,
+}
+
+fn unsent(board: Board, why: Refusal) -> Exchanged
+    ensures { λ r. ⌜ r ≡ record { board = board; ended = Ended.Refused why } ⌝ }
+{
+    Exchanged {
+        board,
+        ended: Ended::Refused(why),
+    }
+}
+
+// The board's refusals by name.
+fn named(number: u8) -> Refusal
+    requires { ⌜ (1 ≤ number) × (number ≤ 3) ⌝ }
+    ensures { λ r. ⌜ numberOf r ≡ number ⌝ }
+{
+    if number == 1 {
+        return Refusal::R1;
+    }
+    if number == 2 {
+        return Refusal::R2;
+    }
+    Refusal::R3
+}
+
+fn reply_length(outcome: Outcome) -> usize
+    ensures { λ r. ⌜ r ≡ countOf outcome ⌝ }
+{
+    match outcome {
+        Outcome::Over(sent) => sent,
+        Outcome::Still => 0,
+        Outcome::Refused(_) => 0,
+    }
+}
+
+// On a clear line: the characters, a poll one pause after the last, and the bench's verdict on what came back.
+fn converse(
+    plate: Plate,
+    board: Board,
+    tick: u32,
+    spacing: u32,
+    request: &[u8],
+    kept: &mut [u8],
+    memory: &mut [u8],
+    room: &mut [u8],
+) -> Exchanged
+    requires { ⌜ Clear (plateOf plate) board spacing (now request) (now kept) (now memory) (now room) ⌝ }
+    ensures { λ r. ⌜ ((n c : ℕ) (d : List ℕ) → Asks n c d (now (request .entry)) → Converses (plateOf plate) board n c d (now (kept .entry)) (now (memory .entry)) (now (room .entry)) r (now (kept .exit)) (now (memory .exit)) (now (room .exit))) ⌝ }
+{
+    let sent = send(plate, board, tick, spacing, request, kept, memory, room);
+    let over = line::stamp_after(sent.last, pause_of(plate));
+    let waiting = sent.board;
+    let closed = board::poll(plate, waiting, over, kept, memory, room);
+    let next = closed.board;
+    let outcome = closed.outcome;
+    let reply = reply_length(outcome);
+    let verdict = bench::judge(request, &room[..reply]);
+    Exchanged {
+        board: next,
+        ended: Ended::Heard {
+            request: request.len(),
+            reply,
+            verdict,
+        },
+    }
+}
+
+// The request for `address` (0 to 31, or 255 for broadcast) is written into `request`, sent from `tick` on with its characters `spacing` ticks
+// apart, and closed by a poll after the pause. `kept`, `memory` and `room` are the board's. For another board's address silence follows, B1.
+pub fn exchange(
+    plate: Plate,
+    board: Board,
+    address: u32,
+    command: u8,
+    body: &[u8],
+    tick: u32,
+    spacing: u32,
+    request: &mut [u8],
+    kept: &mut [u8],
+    memory: &mut [u8],
+    room: &mut [u8],
+) -> Exchanged
+    ensures { λ r. ⌜ Passes (plateOf plate) board address command (now (body .entry)) spacing (now (request .entry)) (now (kept .entry)) (now (memory .entry)) (now (room .entry)) r (now (request .exit)) (now (kept .exit)) (now (memory .exit)) (now (room .exit)) ⌝ }
+{
+    let refused = board::refusal(plate, board, kept.len(), memory.len(), room.len());
+    if refused != 0 {
+        return unsent(board, named(refused));
+    }
+    let frame = board.frame;
+    if frame.begun {
+        return unsent(board, Refusal::FrameOpen);
+    }
+    if pause_of(plate) <= spacing {
+        return unsent(board, Refusal::TooSlow);
+    }
+    match bench::write_request(address, command, body, request) {
+        Written::R4 => unsent(board, Refusal::R4),
+        Written::R5 => unsent(board, Refusal::R5),
+        Written::Request { len } => {
+            converse(
+                plate,
+                board,
+                tick,
+                spacing,
+                &request[..len],
+                kept,
+                memory,
+                room,
+            )
+        }
+    }
+}

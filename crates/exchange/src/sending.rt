@@ -1,0 +1,51 @@
+// A request on the line, character by character (01, "Characters become frames").
+ghost use mathlib.Core.Path.{_≡_};
+ghost use Prim.Native.Nat.{_+_, _-_, _*_};
+ghost use mathlib.Core.Bool.{true};
+ghost use Rattle.meaning.specs.State.{plateOk};
+ghost use Rattle.line.specs.Line.{plateOf};
+ghost use Rattle.exchange.specs.Calls.{Clear, Sends};
+use board::Board;
+use line::Plate;
+
+// The board after the last character, and that character's stamp.
+pub struct Sent {
+    pub board: Board,
+    pub last: u32,
+}
+
+// 01, "pause × ticks-per-bit": the gap that closes a frame, in ticks.
+pub fn pause_of(plate: Plate) -> u32
+    requires { ⌜ plateOk (plateOf plate) ≡ true ⌝ }
+    ensures { λ r. ⌜ r ≡ plate .pause * plate .ticks ⌝ }
+{
+    plate.pause * plate.ticks
+}
+
+// The first character ends at `tick`, each further one a spacing after the last.
+pub fn send(
+    plate: Plate,
+    board: Board,
+    tick: u32,
+    spacing: u32,
+    request: &[u8],
+    kept: &mut [u8],
+    memory: &mut [u8],
+    room: &mut [u8],
+) -> Sent
+    requires { ⌜ Clear (plateOf plate) board spacing (now request) (now kept) (now memory) (now room) ⌝ }
+    ensures { λ r. ⌜ Sends (plateOf plate) board tick spacing (now (request .entry)) (now (kept .entry)) (now (memory .entry)) (now (room .entry)) r (now (kept .exit)) (now (memory .exit)) (now (room .exit)) ⌝ }
+{
+    let mut taken = board;
+    let mut last = tick;
+    let mut stamp = tick;
+    let mut i = 0;
+    while i < request.len() {
+        last = stamp;
+        let stepped = board::character(plate, taken, stamp, request[i], false, kept, memory, room);
+        taken = stepped.board;
+        stamp = line::stamp_after(stamp, spacing);
+        i += 1;
+    }
+    Sent { board: taken, last }
+}
