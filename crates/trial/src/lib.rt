@@ -338,6 +338,10 @@ pub fn long_frame(
     blanks_and_end(plate, begun, count, sum, &mut kept, memory, &mut room)
 }
 
+fn wide(value: u8) -> usize {
+    value as usize
+}
+
 // One request of a script: command, number of data bytes, six places for them.
 fn scripted(plate: Plate, board: Board, script: &[u8], at: usize, memory: &mut [u8]) -> Board {
     if 4096 < at {
@@ -346,7 +350,7 @@ fn scripted(plate: Plate, board: Board, script: &[u8], at: usize, memory: &mut [
     if script.len() < at + 8 {
         return board;
     }
-    let count = script[at + 1] as usize;
+    let count = wide(script[at + 1]);
     if 6 < count {
         return board;
     }
