@@ -15,6 +15,8 @@ import sys
 ROOT = os.path.dirname(os.path.dirname(os.path.abspath(__file__)))
 TABLE = os.path.join(ROOT, "docs", "CONTRACTS.md")
 IMPL = re.compile(r"^impl (\w+) \{")
+# What only the test programs call: it prints, and is run and compared.
+TEST_LIBRARIES = ["trial"]
 FUNCTION = re.compile(r"^(\s*)pub (?:extern \"C\" )?fn (\w+)")
 PASSED_ON = re.compile(r"^pub use (\w+)::(\w+);")
 OPEN_MODULE = re.compile(r"^pub mod (\w+);")
@@ -24,7 +26,8 @@ def libraries():
     """The crates that crates.txt lists and that are libraries."""
     with open(os.path.join(ROOT, "crates.txt"), encoding="utf-8") as file:
         names = [line.split(":")[0].strip() for line in file if ":" in line.split("#")[0]]
-    return [name for name in names if os.path.exists(os.path.join(ROOT, "crates", name, "src", "lib.rt"))]
+    libraries = [name for name in names if os.path.exists(os.path.join(ROOT, "crates", name, "src", "lib.rt"))]
+    return [name for name in libraries if name not in TEST_LIBRARIES]
 
 
 def lines_of(crate, module):

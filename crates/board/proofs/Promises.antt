@@ -1,10 +1,10 @@
 -- The board does the meaning's step, stays within the limits, and its contracts leave no choice. Assumes nothing.
-use Prim.Native.Nat.{ℕ, _≤_}
+use Prim.Native.Nat.{ℕ, zero, suc, _≤_}
 use native.Mathlib.Omega.{arith}
 use native.Mathlib.Decide.{ℕ-discrete}
 use mathlib.Core.Path.{_≡_, refl, sym, ap, _∙_}
 use mathlib.Core.Bool.{Bool, true, false}
-use mathlib.Core.List.{List, []}
+use mathlib.Core.List.{List, [], _∷_}
 use borrow.Author.Tests.{le-leb, eq-eqb, le-ltb, eqb-true}
 use lib.Dec.{T, eqb, leb}
 use lib.ListN.{length, take, length-take, length-replicate}
@@ -171,3 +171,17 @@ pub close-tight : (p : Plate) (s : State) (f : Frame) (k m w : List ℕ) (r t : 
     → (r ≡ t) × (m′ ≡ m″) × (w′ ≡ w″)
 close-tight p s f k m w r t m′ m″ w′ w″ h i =
     (closings (same-state (r .state) (t .state) meaning.none meaning.none (h .state ∙ sym (i .state))) (h .sent ∙ sym (i .sent)), h .memory ∙ sym (i .memory), h .room ∙ sym (i .room))
+
+-- a fresh board keeps no byte
+pub fresh-empty : (p : Plate) (b : Board) → ((kept : List ℕ) → stateOf b kept ≡ fresh p) → b .frame .len ≡ 0
+unfolding fresh meaning.none
+fresh-empty p b h = go (b .frame .len) (ap (λ (x : meaning.State). x .line .kept) (h (0 ∷ [])))
+  where
+    go : (n : ℕ) → take {A = ℕ} n (0 ∷ []) ≡ [] → n ≡ 0
+    go zero e = refl
+    go (suc n) e = absurd (omega (arith, ap length e))
+
+pub fresh-tight : (p : Plate) (a b : Board) → ((kept : List ℕ) → stateOf a kept ≡ fresh p) → ((kept : List ℕ) → stateOf b kept ≡ fresh p) → a ≡ b
+fresh-tight p a b h i =
+    same-state-same-board a b (zeros 135) (omega (arith, fresh-empty p a h)) (omega (arith, fresh-empty p b i)) (omega (arith, length-replicate {A = ℕ} 135 0))
+    (h (zeros 135) ∙ sym (i (zeros 135)))

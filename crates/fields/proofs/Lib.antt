@@ -7,3 +7,4 @@ pub mod Accesses
 pub mod Signed
 pub mod Over
 pub mod Shapes
+pub mod Tight

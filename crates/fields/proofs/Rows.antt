@@ -9,7 +9,7 @@ use borrow.Author.Tests.{eqb-true, leb-true}
 use types.Run.{OneOf}
 use denote.Enum.Declared.{tagOf}
 use Rattle.meaning.specs.Bytes.{arg, both}
-use Rattle.meaning.specs.State.{Plate, State, fresh, withCodes}
+use Rattle.meaning.specs.State.{Plate, State}
 use Rattle.meaning.specs.Fields.{Survey, survey}
 use Rattle.meaning.specs.Commands as meaning
 use Rattle.meaning.specs.Commands.{asked, row, lengthFits, refuse, accept, error, onField, fieldStatus, memoryStatus, freeByte, c4A, c4B, c4C, c4D}
@@ -22,20 +22,6 @@ use Rattle.fields.specs.declared.find.Found.{Found}
 use Rattle.fields.specs.declared.find.Found.the-variants.{Field}
 use Rattle.fields.proofs.find.Found as declared
 use Rattle.fields.proofs.Finds.{refused-is}
-
--- no two differing outcomes satisfy a row's contract
-pub works-one : {a : meaning.Answer} {m w : List ℕ} {r r₂ : Answer} {m₁ m₂ w₁ w₂ : List ℕ} → Works a m w r m₁ w₁ → Works a m w r₂ m₂ w₂ → (r ≡ r₂) × (m₁ ≡ m₂) × (w₁ ≡ w₂)
-works-one x y = (x .answer ∙ sym (y .answer), x .memory ∙ sym (y .memory), x .room ∙ sym (y .room))
-
--- .. for every plate with these blocks and every state with these codes: there are such
-pub row-one : (row : Plate → State → meaning.Answer) (t : ℕ) (codes m w : List ℕ) (r r₂ : Answer) (m₁ m₂ w₁ w₂ : List ℕ)
-    → ((p : Plate) (s : State) → p .total ≡ t → s .codes ≡ codes → Works (row p s) m w r m₁ w₁)
-    → ((p : Plate) (s : State) → p .total ≡ t → s .codes ≡ codes → Works (row p s) m w r₂ m₂ w₂) → (r ≡ r₂) × (m₁ ≡ m₂) × (w₁ ≡ w₂)
-unfolding withCodes
-row-one row t codes m w r r₂ m₁ m₂ w₁ w₂ x y =
-    let p : Plate = record { total = t; bits = 1; address = 0; ticks = 1; pause = 22 } in
-    let s : State = withCodes (fresh p) codes in
-    works-one (x p s refl refl) (y p s refl refl)
 
 -- an error code leaves all as it was
 pub works-refuse : (a : meaning.Answer) (m w : List ℕ) (e : ℕ) → a ≡ refuse e → Works a m w (Refuse e) m w

@@ -17,6 +17,11 @@ pub record Lent (total : ℕ) (m w : List ℕ) : Type 0 where
   pub fit : Fit total m
   pub room : 134 ≤ length w
 
+-- as many status bytes as blocks
+pub record Statuses (total : ℕ) (l : List ℕ) : Type 0 where
+  pub few : total ≤ 65535
+  pub long : length l ≡ total
+
 -- 01, "03h": the fields at the front of some status bytes, and their blocks
 pub record Tallied (statuses : List ℕ) (r : Tally) : Type 0 where
   pub fields : r .fields ≡ meaning.fieldCount statuses

@@ -27,6 +27,10 @@ pub record Replied (d w : List ℕ) (r : Answer) (w′ : List ℕ) : Type 0 wher
 abbrev pub named : List ℕ → List ℕ
 named d = arg d 0 ∷ arg d 1 ∷ arg d 2 ∷ []
 
+pub record Repeatable (d w : List ℕ) : Type 0 where
+  pub long : 4 ≤ length d
+  pub room : 134 ≤ length w
+
 -- 4Ah: a count that a reply has room for
 pub record Readable (d w : List ℕ) : Type 0 where
   pub long : length d ≡ 4

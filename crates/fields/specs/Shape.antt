@@ -4,6 +4,8 @@ use mathlib.Core.Bool.{true}
 use mathlib.Core.Path.{_≡_}
 use mathlib.Core.List.{List, [], _∷_}
 use lib.ListN.{length}
+use lib.IntN.{ℤ}
+use lib.Signed.{mag}
 use Rattle.meaning.specs.Bytes.{arg}
 use Rattle.meaning.specs.State.{Plate, State}
 use Rattle.meaning.specs.Fields.{Survey, survey, putStatus}
@@ -12,6 +14,11 @@ use Rattle.fields.specs.declared.change.Change.{Change}
 use Rattle.fields.specs.declared.shape.Grant.{Grant}
 use Rattle.fields.specs.declared.shape.Grant.the-variants.{Granted, Refused}
 use Rattle.fields.specs.Memory.{Fit, Sits}
+
+-- small enough for a signed number of 32 bits
+pub record Chargeable (free : ℕ) (change : ℤ) : Type 0 where
+  pub few : free ≤ 65535
+  pub small : mag change < 1024
 
 -- what is granted is done and told, with the status that was asked for; else the error code
 abbrev pub shaped : Grant → ℕ → State → List ℕ → ℕ → ℕ → Answer
@@ -42,9 +49,14 @@ pub record Judged (codes : List ℕ) (t f asked : ℕ) (row : State → List ℕ
   pub answer : (s : State) (m : List ℕ) → s .codes ≡ codes → row s m ≡ shaped r t s m f asked
   pub place : Placed t f r
 
+-- free blocks among a number of blocks
+pub record Blocks (t free : ℕ) : Type 0 where
+  pub few : t ≤ 65535
+  pub free-few : free ≤ t
+
 -- what the judge is given: a request's data of three bytes, and a survey for the field that it names
 pub record Surveyed (t : ℕ) (v : Survey) (d : List ℕ) : Type 0 where
-  pub few : t ≤ 112
+  pub few : t ≤ 65535
   pub free : v .free ≤ t
   pub sits : v .trusted ≡ true → Sits t v (arg d 0)
   pub long : length d ≡ 3

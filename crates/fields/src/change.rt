@@ -1,14 +1,13 @@
 // A change in a field's blocks: counted with its sign, and done in memory (01, "The change in blocks is a signed number").
 ghost use mathlib.Core.Path.{_≡_};
-ghost use Prim.Native.Nat.{_+_, _≤_, _<_};
+ghost use Prim.Native.Nat.{_+_, _≤_};
 ghost use lib.ListN.{length};
 ghost use lib.Dec.{ltb};
 ghost use lib.IntN.{pos, _-ℤ_};
-ghost use lib.Signed.{mag};
 ghost use Rattle.meaning.specs.Bytes.{zeros};
 ghost use Rattle.meaning.specs.Fields.{putStatus};
 ghost use Rattle.meaning.specs.Commands.{resize};
-ghost use Rattle.fields.specs.Shape.{Settable};
+ghost use Rattle.fields.specs.Shape.{Chargeable, Settable};
 use crate::sizes::bytes_of;
 use crate::sizes::least;
 use crate::sizes::most;
@@ -30,7 +29,7 @@ fn change_of(new: u8, old: u8) -> i32
 
 // The free blocks once the change is charged to them, or given back; below 0 where they do not suffice.
 fn charged(free: usize, change: i32) -> i32
-    requires { ⌜ (free ≤ 65535) × (mag change < 1024) ⌝ }
+    requires { ⌜ Chargeable free change ⌝ }
     ensures { λ r. ⌜ r ≡ pos free -ℤ change ⌝ }
 {
     free as i32 - change

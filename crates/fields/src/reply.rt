@@ -4,7 +4,7 @@ ghost use Prim.Native.Nat.{_≤_};
 ghost use mathlib.Core.List.{[], _∷_};
 ghost use lib.ListN.{length};
 ghost use Rattle.meaning.specs.Bytes.{put};
-ghost use Rattle.fields.specs.Replies.{Replied, named};
+ghost use Rattle.fields.specs.Replies.{Repeatable, Replied, named};
 use frame::Answer;
 
 pub(crate) fn reply_two(first: u8, second: u8, room: &mut [u8]) -> Answer
@@ -18,7 +18,7 @@ pub(crate) fn reply_two(first: u8, second: u8, room: &mut [u8]) -> Answer
 
 // Field, offset and count, as the request has them.
 pub(crate) fn repeat_three(request: &[u8], room: &mut [u8])
-    requires { ⌜ (4 ≤ length (now request)) × (134 ≤ length (now room)) ⌝ }
+    requires { ⌜ Repeatable (now request) (now room) ⌝ }
     ensures { λ _. ⌜ now (room .exit) ≡ put (now (room .entry)) 2 (named (now (request .entry))) ⌝ }
 {
     room[2] = request[0];

@@ -9,7 +9,7 @@ ghost use Rattle.frame.specs.declared.answer.Answer.the-variants as told;
 ghost use Rattle.frame.specs.Answers.{Works};
 ghost use Rattle.fields.specs.Memory.{Sits, surveyOf};
 ghost use Rattle.fields.specs.Replies.{Asked};
-ghost use Rattle.fields.specs.Shape.{Judged, Shapes, Surveyed, codeOf};
+ghost use Rattle.fields.specs.Shape.{Blocks, Judged, Shapes, Surveyed, codeOf};
 use crate::change::Change;
 use crate::change::apply;
 use crate::change::lacks_room;
@@ -39,7 +39,7 @@ fn is_held(seen: Survey, field: u8, new: u8, old: u8) -> bool
 
 // 0Fh unless the code equals the one the new status names, whatever bit 3 says; 10h.
 fn judge_create(seen: Survey, total: usize, codes: [u8; 4], new: u8, code: u8) -> Grant
-    requires { ⌜ (total ≤ 112) × (seen .free ≤ total) ⌝ }
+    requires { ⌜ Blocks total (seen .free) ⌝ }
     ensures { λ r. ⌜ ((f : ℕ) → Sits total (surveyOf seen) f → f ≡ seen .fields
         → Judged codes total f new (λ (s : State) (m : List ℕ). create total s m (surveyOf seen) f new code) r) ⌝ }
 {

@@ -5,7 +5,7 @@ ghost use mathlib.Core.List.{List};
 ghost use lib.ListN.{length, take, drop};
 ghost use Rattle.meaning.specs.Bytes.{blank, both};
 ghost use Rattle.meaning.specs.Fields.{survey, statusAt, table};
-ghost use Rattle.fields.specs.Memory.{Fit, Tallied, surveyOf};
+ghost use Rattle.fields.specs.Memory.{Fit, Statuses, Tallied, surveyOf};
 use crate::seen::Survey;
 use crate::sizes::bytes_of;
 use crate::sizes::least;
@@ -21,7 +21,7 @@ pub struct Tally {
 
 // 01, "its first n bytes have bit 7 set": the status bytes at the front that have it.
 pub(crate) fn count_fields(statuses: &[u8]) -> Tally
-    requires { ⌜ length (now statuses) ≤ 112 ⌝ }
+    requires { ⌜ length (now statuses) ≤ 65535 ⌝ }
     ensures { λ r. ⌜ Tallied (now (statuses .entry)) r ⌝ }
 {
     let mut blocks: usize = 0;
@@ -78,7 +78,7 @@ fn status_at(table: &[u8], field: usize) -> u8
 
 // The walk halts at the named field, to note where it starts, and goes on from there: no status is passed twice.
 fn walk(statuses: &[u8], total: usize, field: usize) -> Survey
-    requires { ⌜ (total ≤ 112) × (length (now statuses) ≡ total) ⌝ }
+    requires { ⌜ Statuses total (now statuses) ⌝ }
     ensures { λ r. ⌜ ((m : List ℕ) → table total m ≡ now (statuses .entry) → surveyOf r ≡ survey total m field) ⌝ }
 {
     let before = count_fields(front(statuses, field));
@@ -95,6 +95,7 @@ fn walk(statuses: &[u8], total: usize, field: usize) -> Survey
     }
 }
 
+// 01, "Memory": all that a command reads of the table, whether it is sound or not.
 pub fn survey(memory: &[u8], total: usize, field: u8) -> Survey
     requires { ⌜ Fit total (now memory) ⌝ }
     ensures { λ r. ⌜ surveyOf r ≡ survey total (now (memory .entry)) field ⌝ }

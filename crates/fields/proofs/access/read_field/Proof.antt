@@ -1,15 +1,15 @@
 -- `fields::access::read_field` meets its contract. Assumes nothing.
-use Rattle.fields.proofs.Accesses.{read-refused, read-zero, read-many, read-own}
-use Rattle.fields.proofs.Rows.{asked-4A, works-refuse}
+use mathlib.Core.Path.{subst}
+use native.Mathlib.Omega.{arith}
+use borrow.Author.Needs.{needs}
+use Rattle.meaning.specs.Commands.{Answer}
+use Rattle.meaning.specs.Bytes.{arg}
+use Rattle.frame.specs.Answers.{Works}
 use Rattle.fields.specs.declared.find.Found.the-variants.{Field}
 use Rattle.fields.specs.declared.find.Found.{Found}
 use Rattle.fields.specs.Found.{OpenTo}
-use Rattle.frame.specs.Answers.{Works}
-use Rattle.meaning.specs.Commands.{Answer}
-use Rattle.meaning.specs.Bytes.{arg}
-use native.Mathlib.Omega.{arith}
-use mathlib.Core.Path.{subst}
-use borrow.Author.Needs.{needs}
+use Rattle.fields.proofs.Accesses.{read-refused, read-zero, read-many, read-own}
+use Rattle.fields.proofs.Rows.{asked-4A, works-refuse}
 use Rattle.fields.proofs.access.read_field.Statement.{statement}
 use Rattle.fields.proofs.access.read_field.Tie as tie
 

@@ -1,8 +1,8 @@
 -- `fields::access::read_own` meets its contract. Assumes nothing.
-use Rattle.fields.proofs.Accesses.{read-past, read-within, read-told}
-use Rattle.fields.proofs.Rows.{works-refuse, works-accept}
 use native.Mathlib.Omega.{arith}
 use borrow.Author.Needs.{needs}
+use Rattle.fields.proofs.Accesses.{read-past, read-within, read-told}
+use Rattle.fields.proofs.Rows.{works-refuse, works-accept}
 use Rattle.fields.proofs.access.read_own.Statement.{statement}
 use Rattle.fields.proofs.access.read_own.Tie as tie
 

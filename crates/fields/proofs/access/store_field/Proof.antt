@@ -1,16 +1,16 @@
 -- `fields::access::store_field` meets its contract. Assumes nothing.
-use borrow.Author.Tests.{not-true, not-false}
-use lib.ListN.{length-drop}
 use mathlib.Core.Path.{sym, _∙_}
-use Rattle.fields.proofs.Accesses.{store-refused, store-locked, store-own}
-use Rattle.fields.proofs.Rows.{asked-4B, works-refuse}
+use mathlib.Core.Path.{subst}
+use native.Mathlib.Omega.{arith}
+use lib.ListN.{length-drop}
+use borrow.Author.Tests.{not-true, not-false}
+use borrow.Author.Needs.{needs}
+use Rattle.meaning.specs.Bytes.{arg}
 use Rattle.fields.specs.declared.find.Found.the-variants.{Field}
 use Rattle.fields.specs.declared.find.Found.{Found}
 use Rattle.fields.specs.Found.{OpenTo}
-use Rattle.meaning.specs.Bytes.{arg}
-use native.Mathlib.Omega.{arith}
-use mathlib.Core.Path.{subst}
-use borrow.Author.Needs.{needs}
+use Rattle.fields.proofs.Accesses.{store-refused, store-locked, store-own}
+use Rattle.fields.proofs.Rows.{asked-4B, works-refuse}
 use Rattle.fields.proofs.access.store_field.Statement.{statement}
 use Rattle.fields.proofs.access.store_field.Tie as tie
 

@@ -1,9 +1,9 @@
 -- `fields::access::store_own` meets its contract. Assumes nothing.
+use mathlib.Core.Path.{refl}
+use native.Mathlib.Omega.{arith}
+use borrow.Author.Needs.{needs}
 use Rattle.fields.proofs.Accesses.{store-past, store-within, store-told}
 use Rattle.fields.proofs.Rows.{works-refuse, works-accept}
-use native.Mathlib.Omega.{arith}
-use mathlib.Core.Path.{refl}
-use borrow.Author.Needs.{needs}
 use Rattle.fields.proofs.access.store_own.Statement.{statement}
 use Rattle.fields.proofs.access.store_own.Tie as tie
 

@@ -1,7 +1,7 @@
 -- `fields::change::apply` meets its contract. Assumes nothing.
-use Rattle.fields.proofs.Shapes.{applied}
 use native.Mathlib.Omega.{arith}
 use borrow.Author.Needs.{needs}
+use Rattle.fields.proofs.Shapes.{applied}
 use Rattle.fields.proofs.change.apply.Statement.{statement}
 use Rattle.fields.proofs.change.apply.Tie as tie
 

@@ -1,10 +1,10 @@
 -- `fields::change::change_of` meets its contract. Assumes nothing.
-use Rattle.fields.proofs.Signed.{small-fits, bytes-fit}
+use native.Mathlib.Omega.{arith}
+use lib.IntN.{pos}
 use mir.Facts.{toZ-pos, toZ-ofZ}
 use mir.Syntax.{w32}
-use lib.IntN.{pos}
-use native.Mathlib.Omega.{arith}
 use borrow.Author.Needs.{needs}
+use Rattle.fields.proofs.Signed.{small-fits, bytes-fit}
 use Rattle.fields.proofs.change.change_of.Statement.{statement}
 use Rattle.fields.proofs.change.change_of.Tie as tie
 

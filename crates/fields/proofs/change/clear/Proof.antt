@@ -1,8 +1,8 @@
 -- `fields::change::clear` meets its contract. Assumes nothing.
-use Rattle.fields.proofs.Over.{Over, over-start, over-turn, over-end}
-use lib.ListN.{length, replicate, length-replicate, getD-replicate}
-use native.Mathlib.Omega.{arith}
 use Prim.Native.Nat.{_-_}
+use native.Mathlib.Omega.{arith}
+use lib.ListN.{length, replicate, length-replicate, getD-replicate}
+use Rattle.fields.proofs.Over.{Over, over-start, over-turn, over-end}
 use Rattle.fields.proofs.change.clear.Statement.{statement}
 use Rattle.fields.proofs.change.clear.Tie as tie
 

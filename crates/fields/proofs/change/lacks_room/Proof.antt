@@ -1,13 +1,13 @@
 -- `fields::change::lacks_room` meets its contract. Assumes nothing.
-use Rattle.fields.proofs.Signed.{small-fits, small-mag, short-is}
+use mathlib.Core.Path.{_≡_, ap, _∙_}
+use native.Mathlib.Omega.{arith}
+use lib.Signed.{ltZ}
+use lib.IntN.{ℤ, pos, _-ℤ_}
 use mir.Facts.{toZ-ofZ}
 use mir.Val.{toZ, ofZ}
 use mir.Syntax.{w32}
-use lib.Signed.{ltZ}
-use lib.IntN.{ℤ, pos, _-ℤ_}
-use native.Mathlib.Omega.{arith}
-use mathlib.Core.Path.{_≡_, ap, _∙_}
 use borrow.Author.Needs.{needs}
+use Rattle.fields.proofs.Signed.{small-fits, small-mag, short-is}
 use Rattle.fields.proofs.change.lacks_room.Statement.{statement}
 use Rattle.fields.proofs.change.lacks_room.Tie as tie
 
@@ -23,7 +23,7 @@ change-of-requires c κs = search needs
 charged-requires : tie.Need-charged-requires
 charged-requires c κs =
     let a = c .before .args in
-    (c .before .pre, rw (change-is c) (small-mag (a .new) (a .old) (omega arith) (omega arith)))
+    record { few = c .before .pre; small = rw (change-is c) (small-mag (a .new) (a .old) (omega arith) (omega arith)) }
 
 returns : tie.Need-returns
 returns c =

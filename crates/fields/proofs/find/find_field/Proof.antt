@@ -1,11 +1,11 @@
 -- `fields::find::find_field` meets its contract. Assumes nothing.
+use mathlib.Core.Path.{refl}
+use native.Mathlib.Omega.{arith}
+use borrow.Author.Tests.{not-true, not-false}
+use borrow.Author.Needs.{needs}
+use Rattle.fields.specs.Memory.{Sits, surveyOf}
 use Rattle.fields.proofs.Finds.{found-unsound, found-none, found-there}
 use Rattle.fields.proofs.Tables.{sits}
-use Rattle.fields.specs.Memory.{Sits, surveyOf}
-use borrow.Author.Tests.{not-true, not-false}
-use native.Mathlib.Omega.{arith}
-use mathlib.Core.Path.{refl}
-use borrow.Author.Needs.{needs}
 use Rattle.fields.proofs.find.find_field.Statement.{statement}
 use Rattle.fields.proofs.find.find_field.Tie as tie
 

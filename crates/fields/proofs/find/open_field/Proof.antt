@@ -1,10 +1,10 @@
 -- `fields::find::open_field` meets its contract. Assumes nothing.
-use Rattle.fields.proofs.Finds.{open-refused, open-barred, open-there}
+use mathlib.Core.Path.{sym, subst, _∙_}
+use borrow.Author.Needs.{needs}
 use Rattle.fields.specs.declared.find.Found.the-variants.{Field}
 use Rattle.fields.specs.declared.find.Found.{Found}
 use Rattle.fields.specs.Found.{FoundIn}
-use mathlib.Core.Path.{sym, subst, _∙_}
-use borrow.Author.Needs.{needs}
+use Rattle.fields.proofs.Finds.{open-refused, open-barred, open-there}
 use Rattle.fields.proofs.find.open_field.Statement.{statement}
 use Rattle.fields.proofs.find.open_field.Tie as tie
 

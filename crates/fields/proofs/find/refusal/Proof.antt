@@ -1,9 +1,9 @@
 -- `fields::find::refusal` meets its contract. Assumes nothing.
-use Rattle.fields.specs.declared.find.Found.{Found}
-use Rattle.fields.specs.Found.{codeIn}
-use Rattle.frame.specs.declared.answer.Answer.the-variants.{Refuse}
 use mathlib.Core.Path.{sym, ap}
 use borrow.Author.Needs.{needs}
+use Rattle.frame.specs.declared.answer.Answer.the-variants.{Refuse}
+use Rattle.fields.specs.declared.find.Found.{Found}
+use Rattle.fields.specs.Found.{codeIn}
 use Rattle.fields.proofs.find.refusal.Statement.{statement}
 use Rattle.fields.proofs.find.refusal.Tie as tie
 

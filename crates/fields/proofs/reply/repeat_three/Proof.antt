@@ -1,9 +1,9 @@
 -- `fields::reply::repeat_three` meets its contract. Assumes nothing.
-use Rattle.fields.proofs.Pieces.{stored-is-put}
-use Rattle.fields.specs.Replies.{named}
-use lib.ListN.{length-set}
 use native.Mathlib.Omega.{arith}
+use lib.ListN.{length-set}
 use borrow.Author.Needs.{needs}
+use Rattle.fields.specs.Replies.{named}
+use Rattle.fields.proofs.Pieces.{stored-is-put}
 use Rattle.fields.proofs.reply.repeat_three.Statement.{statement}
 use Rattle.fields.proofs.reply.repeat_three.Tie as tie
 

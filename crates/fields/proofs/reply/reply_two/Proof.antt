@@ -1,10 +1,10 @@
 -- `fields::reply::reply_two` meets its contract. Assumes nothing.
-use Rattle.fields.proofs.Pieces.{stored-is-put}
-use lib.ListN.{length-set}
 use mathlib.Core.List.{[], _∷_}
 use mathlib.Core.Path.{refl}
 use native.Mathlib.Omega.{arith}
+use lib.ListN.{length-set}
 use borrow.Author.Needs.{needs}
+use Rattle.fields.proofs.Pieces.{stored-is-put}
 use Rattle.fields.proofs.reply.reply_two.Statement.{statement}
 use Rattle.fields.proofs.reply.reply_two.Tie as tie
 

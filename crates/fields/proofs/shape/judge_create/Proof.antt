@@ -1,8 +1,8 @@
 -- `fields::shape::judge_create` meets its contract. Assumes nothing.
-use Rattle.fields.proofs.Shapes.{create-barred, create-short, create-granted}
-use Rattle.fields.specs.Memory.{surveyOf}
 use mathlib.Core.Path.{sym, _∙_}
 use borrow.Author.Needs.{needs}
+use Rattle.fields.specs.Memory.{surveyOf}
+use Rattle.fields.proofs.Shapes.{create-barred, create-short, create-granted}
 use Rattle.fields.proofs.shape.judge_create.Statement.{statement}
 use Rattle.fields.proofs.shape.judge_create.Tie as tie
 

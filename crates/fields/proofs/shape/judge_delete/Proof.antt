@@ -1,8 +1,8 @@
 -- `fields::shape::judge_delete` meets its contract. Assumes nothing.
-use Rattle.fields.proofs.Shapes.{delete-barred, delete-held, delete-granted}
-use Rattle.fields.specs.Memory.{surveyOf}
 use mathlib.Core.Path.{sym, _∙_}
 use borrow.Author.Needs.{needs}
+use Rattle.fields.specs.Memory.{surveyOf}
+use Rattle.fields.proofs.Shapes.{delete-barred, delete-held, delete-granted}
 use Rattle.fields.proofs.shape.judge_delete.Statement.{statement}
 use Rattle.fields.proofs.shape.judge_delete.Tie as tie
 

@@ -1,8 +1,8 @@
 -- `fields::shape::judge_modify` meets its contract. Assumes nothing.
-use Rattle.fields.proofs.Shapes.{modify-barred, modify-held, modify-short, modify-granted}
-use Rattle.fields.specs.Memory.{surveyOf}
 use mathlib.Core.Path.{sym, _∙_}
 use borrow.Author.Needs.{needs}
+use Rattle.fields.specs.Memory.{surveyOf}
+use Rattle.fields.proofs.Shapes.{modify-barred, modify-held, modify-short, modify-granted}
 use Rattle.fields.proofs.shape.judge_modify.Statement.{statement}
 use Rattle.fields.proofs.shape.judge_modify.Tie as tie
 

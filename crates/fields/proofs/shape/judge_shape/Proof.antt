@@ -1,13 +1,13 @@
 -- `fields::shape::judge_shape` meets its contract. Assumes nothing.
-use Rattle.fields.proofs.Shapes.{shape-unsound, shape-past, shape-none, shape-create, shape-modify, shape-delete}
-use Rattle.fields.specs.Memory.{surveyOf}
-use Rattle.meaning.specs.Bytes.{arg}
-use borrow.Author.Tests.{not-true, not-false}
-use native.Mathlib.Omega.{arith}
-use mathlib.Core.Path.{_≡_, sym, _∙_}
 use Prim.Native.Nat.{_<_}
+use mathlib.Core.Path.{_≡_, sym, _∙_}
 use mathlib.Core.Bool.{true}
+use native.Mathlib.Omega.{arith}
+use borrow.Author.Tests.{not-true, not-false}
 use borrow.Author.Needs.{needs}
+use Rattle.meaning.specs.Bytes.{arg}
+use Rattle.fields.specs.Memory.{surveyOf}
+use Rattle.fields.proofs.Shapes.{shape-unsound, shape-past, shape-none, shape-create, shape-modify, shape-delete}
 use Rattle.fields.proofs.shape.judge_shape.Statement.{statement}
 use Rattle.fields.proofs.shape.judge_shape.Tie as tie
 

@@ -1,9 +1,9 @@
 -- `fields::shape::no_grant` meets its contract. Assumes nothing.
-use Rattle.fields.specs.declared.shape.Grant.{Grant}
-use Rattle.fields.specs.Shape.{codeOf}
-use Rattle.frame.specs.declared.answer.Answer.the-variants.{Refuse}
 use mathlib.Core.Path.{sym, ap}
 use borrow.Author.Needs.{needs}
+use Rattle.frame.specs.declared.answer.Answer.the-variants.{Refuse}
+use Rattle.fields.specs.declared.shape.Grant.{Grant}
+use Rattle.fields.specs.Shape.{codeOf}
 use Rattle.fields.proofs.shape.no_grant.Statement.{statement}
 use Rattle.fields.proofs.shape.no_grant.Tie as tie
 

@@ -1,15 +1,15 @@
 -- `fields::shape::shape_field` meets its contract. Assumes nothing.
-use Rattle.fields.proofs.Shapes.{not-granted}
-use Rattle.fields.proofs.Rows.{asked-4D, works-refuse, works-accept}
-use Rattle.fields.proofs.Tables.{sits, free-le}
+use mathlib.Core.Path.{subst, _∙_}
+use native.Mathlib.Omega.{arith}
+use borrow.Author.Needs.{needs}
+use Rattle.meaning.specs.Bytes.{arg}
 use Rattle.fields.specs.declared.shape.Grant.the-variants.{Granted}
 use Rattle.fields.specs.declared.shape.Grant.{Grant}
 use Rattle.fields.specs.Shape.{Shapes}
 use Rattle.fields.specs.Memory.{surveyOf}
-use Rattle.meaning.specs.Bytes.{arg}
-use native.Mathlib.Omega.{arith}
-use mathlib.Core.Path.{subst, _∙_}
-use borrow.Author.Needs.{needs}
+use Rattle.fields.proofs.Shapes.{not-granted}
+use Rattle.fields.proofs.Rows.{asked-4D, works-refuse, works-accept}
+use Rattle.fields.proofs.Tables.{sits, free-le}
 use Rattle.fields.proofs.shape.shape_field.Statement.{statement}
 use Rattle.fields.proofs.shape.shape_field.Tie as tie
 
@@ -39,7 +39,7 @@ judge-shape-requires c κs =
     let d = a .request .now in
     let v = surveyOf (c .survey .result) in
     record {
-      few = b .pre .lent .fit .few;
+      few = omega (arith, b .pre .lent .fit .few);
       free = free-le (a .total) (a .memory .now) (arg d 0) v (c .survey .ensures);
       sits = λ h. sits (a .total) (a .memory .now) (arg d 0) v (c .survey .ensures) h;
       long = asked-4D d (b .pre .wanted);

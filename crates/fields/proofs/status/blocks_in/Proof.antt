@@ -1,6 +1,6 @@
 -- `fields::status::blocks_in` meets its contract. Assumes nothing.
-use Rattle.meaning.specs.Fields.{blocks}
 use borrow.Author.Needs.{needs}
+use Rattle.meaning.specs.Fields.{blocks}
 use Rattle.fields.proofs.status.blocks_in.Statement.{statement}
 use Rattle.fields.proofs.status.blocks_in.Tie as tie
 

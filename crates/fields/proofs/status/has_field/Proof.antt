@@ -1,6 +1,6 @@
 -- `fields::status::has_field` meets its contract. Assumes nothing.
-use Rattle.meaning.specs.Fields.{exists}
 use borrow.Author.Needs.{needs}
+use Rattle.meaning.specs.Fields.{exists}
 use Rattle.fields.proofs.status.has_field.Statement.{statement}
 use Rattle.fields.proofs.status.has_field.Tie as tie
 

@@ -1,6 +1,6 @@
 -- `fields::status::is_barred` meets its contract. Assumes nothing.
-use borrow.Author.Tests.{not-true, not-false}
 use mathlib.Core.Path.{sym, _∙_}
+use borrow.Author.Tests.{not-true, not-false}
 use borrow.Author.Needs.{needs}
 use Rattle.fields.proofs.status.is_barred.Statement.{statement}
 use Rattle.fields.proofs.status.is_barred.Tie as tie

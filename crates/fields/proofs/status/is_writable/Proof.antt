@@ -1,6 +1,6 @@
 -- `fields::status::is_writable` meets its contract. Assumes nothing.
-use Rattle.meaning.specs.Fields.{writable}
 use borrow.Author.Needs.{needs}
+use Rattle.meaning.specs.Fields.{writable}
 use Rattle.fields.proofs.status.is_writable.Statement.{statement}
 use Rattle.fields.proofs.status.is_writable.Tie as tie
 

@@ -1,8 +1,8 @@
 -- `fields::status::is_wrong_code` meets its contract. Assumes nothing.
+use borrow.Author.Needs.{needs}
 use Rattle.meaning.specs.Commands.{wrongCode}
 use Rattle.meaning.specs.State.{code}
 use Rattle.meaning.specs.Fields.{codeNo}
-use borrow.Author.Needs.{needs}
 use Rattle.fields.proofs.status.is_wrong_code.Statement.{statement}
 use Rattle.fields.proofs.status.is_wrong_code.Tie as tie
 

@@ -1,6 +1,6 @@
 -- `fields::status::wants_code` meets its contract. Assumes nothing.
-use Rattle.meaning.specs.Fields.{coded}
 use borrow.Author.Needs.{needs}
+use Rattle.meaning.specs.Fields.{coded}
 use Rattle.fields.proofs.status.wants_code.Statement.{statement}
 use Rattle.fields.proofs.status.wants_code.Tie as tie
 

@@ -1,13 +1,13 @@
 -- `fields::table::count_fields` meets its contract. Assumes nothing.
+use Prim.Native.Nat.{_≤_, _-_, _+_, _*_}
+use mathlib.Core.Path.{_≡_, sym, _∙_}
+use native.Mathlib.Omega.{arith}
+use lib.ListN.{length, drop, getD}
+use borrow.Author.Tests.{not-true, not-false}
+use borrow.Author.Needs.{needs}
+use Rattle.meaning.specs.Fields.{blocks, fieldCount, used}
 use Rattle.fields.proofs.Tables.{blocks-most}
 use Rattle.fields.proofs.Walk.{count-more, count-stop, count-end, used-more, used-stop, used-end}
-use Rattle.meaning.specs.Fields.{blocks, fieldCount, used}
-use borrow.Author.Tests.{not-true, not-false}
-use lib.ListN.{length, drop, getD}
-use native.Mathlib.Omega.{arith}
-use mathlib.Core.Path.{_≡_, sym, _∙_}
-use Prim.Native.Nat.{_≤_, _-_, _+_, _*_}
-use borrow.Author.Needs.{needs}
 use Rattle.fields.proofs.table.count_fields.Statement.{statement}
 use Rattle.fields.proofs.table.count_fields.Tie as tie
 

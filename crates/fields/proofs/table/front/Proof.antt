@@ -1,11 +1,11 @@
 -- `fields::table::front` meets its contract. Assumes nothing.
-use Rattle.fields.proofs.Tables.{take-least}
+use Prim.Native.Nat.{ℕ}
+use mathlib.Core.Path.{ap, sym, _∙_}
+use native.Mathlib.Omega.{arith}
 use lib.Seq.{length-take-le}
 use lib.ListN.{take}
-use native.Mathlib.Omega.{arith}
-use mathlib.Core.Path.{ap, sym, _∙_}
-use Prim.Native.Nat.{ℕ}
 use borrow.Author.Needs.{needs}
+use Rattle.fields.proofs.Tables.{take-least}
 use Rattle.fields.proofs.table.front.Statement.{statement}
 use Rattle.fields.proofs.table.front.Tie as tie
 

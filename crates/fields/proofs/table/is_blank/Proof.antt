@@ -1,11 +1,11 @@
 -- `fields::table::is_blank` meets its contract. Assumes nothing.
-use Rattle.fields.proofs.Walk.{blank-more, blank-end}
-use Rattle.meaning.specs.Bytes.{both, blank}
+use Prim.Native.Nat.{_≤_, _-_}
+use mathlib.Core.Path.{_≡_, refl, sym, _∙_}
+use native.Mathlib.Omega.{arith}
 use lib.Dec.{eqb}
 use lib.ListN.{length, drop}
-use native.Mathlib.Omega.{arith}
-use mathlib.Core.Path.{_≡_, refl, sym, _∙_}
-use Prim.Native.Nat.{_≤_, _-_}
+use Rattle.meaning.specs.Bytes.{both, blank}
+use Rattle.fields.proofs.Walk.{blank-more, blank-end}
 use Rattle.fields.proofs.table.is_blank.Statement.{statement}
 use Rattle.fields.proofs.table.is_blank.Tie as tie
 

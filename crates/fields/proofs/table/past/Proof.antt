@@ -1,6 +1,6 @@
 -- `fields::table::past` meets its contract. Assumes nothing.
-use Rattle.fields.proofs.Tables.{rest-is}
 use borrow.Author.Needs.{needs}
+use Rattle.fields.proofs.Tables.{rest-is}
 use Rattle.fields.proofs.table.past.Statement.{statement}
 use Rattle.fields.proofs.table.past.Tie as tie
 

@@ -1,8 +1,8 @@
 -- `fields::table::status_at` meets its contract. Assumes nothing.
-use Rattle.meaning.specs.Fields.{statusAt}
-use lib.ListN.{List·getD-eq-default}
 use mathlib.Core.Path.{refl, sym}
+use lib.ListN.{List·getD-eq-default}
 use borrow.Author.Needs.{needs}
+use Rattle.meaning.specs.Fields.{statusAt}
 use Rattle.fields.proofs.table.status_at.Statement.{statement}
 use Rattle.fields.proofs.table.status_at.Tie as tie
 

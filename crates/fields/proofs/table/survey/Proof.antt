@@ -1,10 +1,10 @@
 -- `fields::table::survey` meets its contract. Assumes nothing.
-use Rattle.meaning.specs.Fields.{table}
-use lib.ListN.{drop, length-drop}
-use native.Mathlib.Omega.{arith}
-use mathlib.Core.Path.{sym, ap, _∙_}
 use Prim.Native.Nat.{ℕ}
+use mathlib.Core.Path.{sym, ap, _∙_}
+use native.Mathlib.Omega.{arith}
+use lib.ListN.{drop, length-drop}
 use borrow.Author.Needs.{needs}
+use Rattle.meaning.specs.Fields.{table}
 use Rattle.fields.proofs.table.survey.Statement.{statement}
 use Rattle.fields.proofs.table.survey.Tie as tie
 
@@ -15,7 +15,7 @@ past-requires : tie.Need-past-requires
 past-requires c κs = search needs
 
 walk-requires : tie.Need-walk-requires
-walk-requires c κs = (search needs, simp (c .past .ensures, length-drop) (omega (arith, c .before .bytes-of .ensures)))
+walk-requires c κs = record { few = search needs; long = simp (c .past .ensures, length-drop) (omega (arith, c .before .bytes-of .ensures)) }
 
 returns : tie.Need-returns
 unfolding table

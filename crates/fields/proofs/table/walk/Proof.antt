@@ -1,12 +1,12 @@
 -- `fields::table::walk` meets its contract. Assumes nothing.
-use Rattle.fields.proofs.Tables.{count-le, used-le, walk-fields, walk-used, survey-is}
+use Prim.Native.Nat.{_+_}
+use mathlib.Core.Path.{_≡_, ap, _∙_}
+use native.Mathlib.Omega.{arith}
+use lib.ListN.{take, length-take, length-drop}
+use borrow.Author.Needs.{needs}
 use Rattle.meaning.specs.Fields.{fieldCount, used}
 use Rattle.meaning.specs.Bytes.{blank, both}
-use lib.ListN.{take, length-take, length-drop}
-use native.Mathlib.Omega.{arith}
-use mathlib.Core.Path.{_≡_, ap, _∙_}
-use Prim.Native.Nat.{_+_}
-use borrow.Author.Needs.{needs}
+use Rattle.fields.proofs.Tables.{count-le, used-le, walk-fields, walk-used, survey-is}
 use Rattle.fields.proofs.table.walk.Statement.{statement}
 use Rattle.fields.proofs.table.walk.Tie as tie
 

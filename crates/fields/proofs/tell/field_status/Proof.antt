@@ -1,12 +1,12 @@
 -- `fields::tell::field_status` meets its contract. Assumes nothing.
-use Rattle.fields.proofs.Rows.{asked-4C, works-refuse, works-accept, status-refused, status-told}
+use mathlib.Core.Path.{subst}
+use native.Mathlib.Omega.{arith}
+use borrow.Author.Needs.{needs}
+use Rattle.meaning.specs.Bytes.{arg}
 use Rattle.fields.specs.declared.find.Found.the-variants.{Field}
 use Rattle.fields.specs.declared.find.Found.{Found}
 use Rattle.fields.specs.Found.{FoundIn}
-use Rattle.meaning.specs.Bytes.{arg}
-use native.Mathlib.Omega.{arith}
-use mathlib.Core.Path.{subst}
-use borrow.Author.Needs.{needs}
+use Rattle.fields.proofs.Rows.{asked-4C, works-refuse, works-accept, status-refused, status-told}
 use Rattle.fields.proofs.tell.field_status.Statement.{statement}
 use Rattle.fields.proofs.tell.field_status.Tie as tie
 

@@ -1,6 +1,6 @@
 -- `fields::tell::free_byte` meets its contract. Assumes nothing.
-use Rattle.meaning.specs.Commands.{freeByte}
 use borrow.Author.Needs.{needs}
+use Rattle.meaning.specs.Commands.{freeByte}
 use Rattle.fields.proofs.tell.free_byte.Statement.{statement}
 use Rattle.fields.proofs.tell.free_byte.Tie as tie
 

@@ -1,10 +1,10 @@
 -- `fields::tell::memory_status` meets its contract. Assumes nothing.
+use native.Mathlib.Omega.{arith}
+use borrow.Author.Tests.{not-true, not-false}
+use borrow.Author.Needs.{needs}
+use Rattle.fields.specs.Memory.{surveyOf}
 use Rattle.fields.proofs.Rows.{works-refuse, works-accept, memory-unsound, memory-told}
 use Rattle.fields.proofs.Tables.{sits, free-le}
-use Rattle.fields.specs.Memory.{surveyOf}
-use borrow.Author.Tests.{not-true, not-false}
-use native.Mathlib.Omega.{arith}
-use borrow.Author.Needs.{needs}
 use Rattle.fields.proofs.tell.memory_status.Statement.{statement}
 use Rattle.fields.proofs.tell.memory_status.Tie as tie
 

@@ -1,0 +1,213 @@
+/* What C calls of Quicksetter: the board's calls and the bench's, on numbers and byte slices. Link libquicksetter.a.
+ *
+ * The board. The host keeps three buffers for each board:
+ *   image   QS_IMAGE_LENGTH bytes, the board's state (layout below); qs_fresh makes it, and every other call takes it and leaves the new one in it.
+ *   memory  QS_MEMORY_LENGTH(total) bytes, the motor's data fields: all 00h on a new board, later what the last call left there.
+ *   room    at least QS_REPLY_ROOM bytes; a reply fills its front.
+ * Each received character goes to qs_character with the tick of its end. Between characters the host calls qs_poll, so that a frame is closed and answered
+ * when its pause is over. Both may return a reply: the one to the frame that this very call closed.
+ *
+ * The plate, five numbers handed to every call of a board, always the same five:
+ *   total    blocks of QS_BLOCK bytes in memory, 1 to 112
+ *   bits     position bits, 1 to 32
+ *   address  0 to 31; the board's address byte is 40h + address
+ *   ticks    ticks per bit, one of 1, 2, 4, 8, 16, 32, 64; a tick is 1/38400 s
+ *   pause    bit times without a character that close a frame, 22 or 55
+ *
+ * The host's duties, which no call can test:
+ *   - no pointer is null, also where its length is 0;
+ *   - each pointer has at least as many bytes behind it as the length beside it says;
+ *   - the buffers of one call do not overlap; request and reply of qs_judge and qs_data_part are only read and may;
+ *   - a board's buffers are in one call at a time: no interrupt calls on them while another call runs.
+ * Any alignment will do. The library keeps nothing of its own, allocates nothing, always returns and calls nothing of the host's.
+ *
+ * Refusals. A call refuses in the order of the numbers, and then it has done nothing: every buffer is as it was. */
+#ifndef QUICKSETTER_H
+#define QUICKSETTER_H
+
+#include <stddef.h>
+#include <stdint.h>
+
+#ifdef __cplusplus
+extern "C" {
+#endif
+
+/* ---- sizes ---------------------------------------------------------------------------------------------------------------------------------------------- */
+
+#define QS_BLOCK 16                                             /* bytes of a block */
+#define QS_MEMORY_LENGTH(total) ((size_t)(total) * (QS_BLOCK + 1)) /* total blocks of data, then one status byte for each possible field */
+#define QS_IMAGE_LENGTH 165                                     /* the state image */
+#define QS_KEPT_BYTES 135                                       /* bytes kept of a frame; a longer one is answered with 0Ch */
+#define QS_REPLY_ROOM 134                                       /* the longest reply */
+#define QS_REQUEST_ROOM 135                                     /* the longest request */
+#define QS_BROADCAST 255                                        /* address number of a request to every board */
+
+/* ---- results -------------------------------------------------------------------------------------------------------------------------------------------- */
+
+/* Board calls and qs_request return a number of bytes, or QS_REFUSED and the number of the refusal. */
+#define QS_REFUSED 256
+#define QS_R1 (QS_REFUSED + 1) /* a plate or state number beyond its limit, or an image that is not QS_IMAGE_LENGTH bytes long */
+#define QS_R2 (QS_REFUSED + 2) /* memory not QS_MEMORY_LENGTH(total) bytes long */
+#define QS_R3 (QS_REFUSED + 3) /* reply room under QS_REPLY_ROOM bytes, needed or not */
+#define QS_R4 (QS_REFUSED + 4) /* request room under QS_REQUEST_ROOM bytes, needed or not */
+#define QS_R5 (QS_REFUSED + 5) /* a request that the bench does not write */
+#define QS_IS_REFUSED(result) ((result) > QS_REFUSED)
+
+/* qs_judge returns one of these. */
+#define QS_VERDICT_DONE 0
+#define QS_VERDICT_DONE_WITH_WARNING 1    /* a fault code waits on the board */
+#define QS_VERDICT_ERROR 256              /* and the error code: 256 to 511 */
+#define QS_VERDICT_ERROR_WITH_WARNING 512 /* and the error code: 512 to 767 */
+#define QS_VERDICT_REFUSED 1024           /* and the number of the refusal, B0 to B6 */
+#define QS_B0 (QS_VERDICT_REFUSED + 0)    /* the request is not one that the bench writes */
+#define QS_B1 (QS_VERDICT_REFUSED + 1)    /* reply under 3 bytes */
+#define QS_B2 (QS_VERDICT_REFUSED + 2)    /* its checksum is wrong */
+#define QS_B3 (QS_VERDICT_REFUSED + 3)    /* its address is not the asked one; to a broadcast, not 40h to 5Fh */
+#define QS_B4 (QS_VERDICT_REFUSED + 4)    /* its command without bit 7 is neither the request's nor 50h */
+#define QS_B5 (QS_VERDICT_REFUSED + 5)    /* its data length is not the command's, or not 1 in an error reply */
+#define QS_B6 (QS_VERDICT_REFUSED + 6)    /* a field, offset, count, code number or 4Dh status that it returns differs from the request's */
+
+/* ---- commands, and the codes of error replies ----------------------------------------------------------------------------------------------------------- */
+
+#define QS_READ_POSITION 0x42
+#define QS_SET_POSITION 0x43
+#define QS_READ_COUNTER 0x46
+#define QS_INCREMENT_COUNTER 0x47
+#define QS_RESET_COUNTER 0x49
+#define QS_READ_DATA 0x4A
+#define QS_STORE_DATA 0x4B
+#define QS_FIELD_STATUS 0x4C
+#define QS_CREATE_FIELD 0x4D /* also changes and deletes one */
+#define QS_MEMORY_STATUS 0x4E
+#define QS_SET_ACCESS_CODE 0x4F
+#define QS_READ_STATUS 0x50 /* reads the oldest waiting fault code; 50h is also the command byte of every error reply */
+#define QS_RESET 0x53       /* has no reply */
+#define QS_WARNING_BIT 0x80 /* set in a reply's command byte exactly if a fault code waits after the request was worked */
+
+#define QS_ERROR_POSITION_LOCKED 0x02
+#define QS_ERROR_TABLE_UNSOUND 0x03
+#define QS_ERROR_COUNTER_OVERFLOW 0x08 /* noted by 47h; never an error reply of its own */
+#define QS_ERROR_PARITY 0x09
+#define QS_ERROR_CHECKSUM 0x0A
+#define QS_ERROR_UNKNOWN_COMMAND 0x0B
+#define QS_ERROR_WRONG_LENGTH 0x0C
+#define QS_ERROR_WRONG_ARGUMENT 0x0D
+#define QS_ERROR_READ_ONLY 0x0E
+#define QS_ERROR_WRONG_CODE 0x0F
+#define QS_ERROR_NO_ROOM 0x10
+#define QS_ERROR_BEYOND_FIELD 0x11
+#define QS_ERROR_NO_FIELD 0x12
+
+/* Fault codes that lock the position until power-on; they never wait. */
+#define QS_FAULT_LOCKS_A 0x22
+#define QS_FAULT_LOCKS_B 0x24
+
+/* A field's status byte. */
+#define QS_STATUS_BLOCKS 0x07        /* blocks less one */
+#define QS_STATUS_CODE_WANTED 0x08
+#define QS_STATUS_CODE_NUMBER 0x30   /* shifted left by 4 */
+#define QS_STATUS_WRITE_ENABLED 0x40
+#define QS_STATUS_EXISTS 0x80
+
+/* ---- the state image ------------------------------------------------------------------------------------------------------------------------------------ */
+
+/* Place and size of each part. Numbers of four bytes are little-endian. A host may store the image as it stands and hand it in again after a restart
+ * (qs_power_on then says that the supply was off); it may also read and write its parts within the limits. */
+#define QS_IMAGE_CODES 0         /* the four access codes, any bytes */
+#define QS_IMAGE_CODES_SIZE 4
+#define QS_IMAGE_COUNTER 4       /* at most FFFFFFh */
+#define QS_IMAGE_COUNTER_SIZE 4
+#define QS_IMAGE_OFFSET 8        /* of the position, below 2^bits */
+#define QS_IMAGE_OFFSET_SIZE 4
+#define QS_IMAGE_MEASURED 12     /* the measured position as it was given, any number */
+#define QS_IMAGE_MEASURED_SIZE 4
+#define QS_IMAGE_WAITING 16      /* the waiting fault codes, oldest first; all different, none of them 22h or 24h */
+#define QS_IMAGE_WAITING_SIZE 4
+#define QS_IMAGE_LOCKED 20       /* 1 while the position is locked, else 0 */
+#define QS_IMAGE_LOCKED_SIZE 1
+#define QS_IMAGE_OPEN 21         /* 1 while a frame is open, else 0 */
+#define QS_IMAGE_OPEN_SIZE 1
+#define QS_IMAGE_LONGER 22       /* 1 if the open frame has more than QS_KEPT_BYTES bytes, else 0 */
+#define QS_IMAGE_LONGER_SIZE 1
+#define QS_IMAGE_PARITY 23       /* 1 if a character of the open frame had a parity fault, else 0 */
+#define QS_IMAGE_PARITY_SIZE 1
+#define QS_IMAGE_LAST 24         /* the tick of the open frame's last character, any number */
+#define QS_IMAGE_LAST_SIZE 4
+#define QS_IMAGE_SUM 28          /* the XOR of all bytes of the open frame, any byte */
+#define QS_IMAGE_SUM_SIZE 1
+#define QS_IMAGE_KEPT_NUMBER 29  /* the number of its kept bytes, at most QS_KEPT_BYTES */
+#define QS_IMAGE_KEPT_NUMBER_SIZE 1
+#define QS_IMAGE_KEPT 30         /* its kept bytes */
+#define QS_IMAGE_KEPT_SIZE QS_KEPT_BYTES
+
+/* R1 for an image: a counter over FFFFFFh; an offset of 2^bits or more; two waiting codes that are equal; 22h or 24h waiting; a code that waits behind an
+ * empty place; locked, open, longer or parity other than 0 and 1; a number of kept bytes over QS_KEPT_BYTES. Each also with no frame open.
+ * No step leads out of the limits: a host that hands in what the last call left never meets R1 for its image.
+ *
+ * Places that carry no meaning follow one rule each:
+ *   - kept bytes beyond their number are left as they were, and are not read;
+ *   - places of the queue beyond the waiting codes are 00h;
+ *   - a call that closes or drops a frame and opens none, and every qs_power_on, leaves open, longer, parity, last, sum and the number of kept bytes all 0.
+ *     With no frame open, longer, parity, last, sum and the number of kept bytes are not read but for R1, and calls that open none leave them as they were. */
+
+/* ---- the board ------------------------------------------------------------------------------------------------------------------------------------------ */
+
+/* Makes the state image of a fresh board: codes 55h, nothing counted, no offset, nothing measured, no fault, no frame open. The kept bytes are left as they
+ * were. The host clears memory itself where the board is new.
+ * Returns 0. Refuses QS_R1: a plate number beyond its limit, or image_length not QS_IMAGE_LENGTH. */
+size_t qs_fresh(uint32_t total, uint32_t bits, uint32_t address, uint32_t ticks, uint32_t pause, uint8_t *image, size_t image_length);
+
+/* A character came. tick is the time of its end on a counter that wraps around at 2^32; parity is 0, or anything else if the character had a parity fault.
+ * If its gap to the last character is at least pause * ticks, it closes the open frame, which is then answered, and opens the next one.
+ * Returns the length of the reply to the closed frame, 1 to QS_REPLY_ROOM bytes at the room's front with the rest of the room as it was, or 0 for none; then
+ * all of the room is as it was.
+ * Refuses QS_R1, QS_R2, QS_R3 in this order. */
+size_t qs_character(uint8_t *image, size_t image_length, uint32_t tick, uint8_t value, uint8_t parity, uint32_t total, uint32_t bits, uint32_t address,
+                    uint32_t ticks, uint32_t pause, uint8_t *memory, size_t memory_length, uint8_t *room, size_t room_length);
+
+/* The host looks whether the open frame is over: it is closed and answered if tick is at least pause * ticks after its last character. With no frame open,
+ * or too early, nothing changes.
+ * Returns and refuses as qs_character does. */
+size_t qs_poll(uint8_t *image, size_t image_length, uint32_t tick, uint32_t total, uint32_t bits, uint32_t address, uint32_t ticks, uint32_t pause,
+               uint8_t *memory, size_t memory_length, uint8_t *room, size_t room_length);
+
+/* The host gives the measured position, any number; 42h and 43h reduce it mod 2^bits. It holds for frames that close later, open ones included.
+ * Returns 0. Refuses QS_R1. */
+size_t qs_measured(uint8_t *image, size_t image_length, uint32_t position, uint32_t total, uint32_t bits, uint32_t address, uint32_t ticks, uint32_t pause);
+
+/* The host notes a fault code. 00h is ignored; 22h and 24h lock the position; any other joins the queue of four, unless it waits already or four wait.
+ * Returns 0. Refuses QS_R1. */
+size_t qs_fault(uint8_t *image, size_t image_length, uint8_t code, uint32_t total, uint32_t bits, uint32_t address, uint32_t ticks, uint32_t pause);
+
+/* The supply came on: the queue is emptied, an open frame is dropped without an answer, the position is unlocked; all else stays.
+ * Returns 0. Refuses QS_R1. */
+size_t qs_power_on(uint8_t *image, size_t image_length, uint32_t total, uint32_t bits, uint32_t address, uint32_t ticks, uint32_t pause);
+
+/* ---- the bench ------------------------------------------------------------------------------------------------------------------------------------------ */
+
+/* Writes a request to the front of the room: address byte, command, data, checksum. address is 0 to 31 or QS_BROADCAST.
+ * Returns its length, 3 to QS_REQUEST_ROOM; the rest of the room is as it was.
+ * Refuses QS_R4, then QS_R5: another address; a command that is not one of the above; data of a length that the command does not allow; a count of 0 or over
+ * 128 in 4Ah; a code number over 3 in 4Fh. */
+size_t qs_request(uint32_t address, uint8_t command, const uint8_t *data, size_t data_length, uint8_t *room, size_t room_length);
+
+/* Judges a reply to a request. An error reply is the verdict error, but to a request 50h it is done and its byte is the data, since the wire shows no
+ * difference. A request 53h is never done: it has no reply.
+ * Returns a verdict, QS_VERDICT_REFUSED + n for B0 to B6 in this order. */
+uint32_t qs_judge(const uint8_t *request, size_t request_length, const uint8_t *reply, size_t reply_length);
+
+/* A piece of a reply: its first byte is reply[place]. */
+struct qs_piece {
+    size_t place;
+    size_t length;
+};
+
+/* The data part of a reply that qs_judge takes: all between command and checksum, at place 2; the code byte of an error reply. Of a reply that qs_judge
+ * refuses, the empty piece at place 0. */
+struct qs_piece qs_data_part(const uint8_t *request, size_t request_length, const uint8_t *reply, size_t reply_length);
+
+#ifdef __cplusplus
+}
+#endif
+
+#endif

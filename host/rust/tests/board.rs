@@ -1,0 +1,441 @@
+//! The board's entries beside the second program's, call by call: result, state image, memory and reply room.
+
+mod rig;
+
+use std::collections::BTreeMap;
+
+use quicksetter_host::dice::Dice;
+use quicksetter_host::{
+    call, call_second, fresh, image_after, state_of, Call, IMAGE_LENGTH, KEPT, KEPT_NUMBER, LOCKED,
+    WAITING,
+};
+use second::{Plate, Refusal, REPLY_ROOM};
+
+/// A board of the library with its buffers, and what has come back so far.
+struct Board {
+    plate: Plate,
+    image: Vec<u8>,
+    memory: Vec<u8>,
+    room: Vec<u8>,
+    tick: u32,
+    calls: usize,
+    /// How often a reply of each command byte without bit 7 came; error replies by 100h + code, refusals by 200h + number, 300h for silence.
+    seen: BTreeMap<usize, usize>,
+}
+
+impl Board {
+    fn new(dice: &mut Dice, plate: Plate) -> Board {
+        let mut image = dice.bytes(IMAGE_LENGTH);
+        let kept = image[KEPT..].to_vec();
+        assert_eq!(fresh(&plate, &mut image), Ok(0));
+        assert_eq!(
+            state_of(&image).map(|state| state.meaning()),
+            Some(second::State::fresh())
+        );
+        assert_eq!(image[KEPT..], kept);
+        Board {
+            plate,
+            image,
+            memory: vec![0; plate.memory_length()],
+            room: dice.bytes(REPLY_ROOM),
+            tick: dice.word(),
+            calls: 0,
+            seen: BTreeMap::new(),
+        }
+    }
+
+    /// One call on the library and on the second program; everything that comes back and is left is compared.
+    fn step(&mut self, made: Call) -> Result<usize, Refusal> {
+        let plate = self.plate;
+        self.step_with(made, &plate)
+    }
+
+    fn step_with(&mut self, made: Call, plate: &Plate) -> Result<usize, Refusal> {
+        let before = self.image.clone();
+        let (mut memory, mut room) = (self.memory.clone(), self.room.clone());
+        let (expected, image) = match state_of(&before) {
+            None => (Err(Refusal::R1), before),
+            Some(mut state) => match call_second(made, plate, &mut state, &mut memory, &mut room) {
+                Ok(length) => (Ok(length), image_after(made, &before, &state)),
+                refused => (refused, before),
+            },
+        };
+        let found = call(
+            made,
+            plate,
+            &mut self.image,
+            &mut self.memory,
+            &mut self.room,
+        );
+        assert_eq!(found, expected, "{made:?} on {plate:?}");
+        assert_eq!(self.image, image, "image after {made:?} on {plate:?}");
+        assert_eq!(self.memory, memory, "memory after {made:?} on {plate:?}");
+        assert_eq!(self.room, room, "room after {made:?} on {plate:?}");
+        self.count(found);
+        found
+    }
+
+    fn count(&mut self, found: Result<usize, Refusal>) {
+        self.calls += 1;
+        let kind = match found {
+            Err(refusal) => 0x201 + refusal as usize,
+            Ok(0) => 0x300,
+            Ok(length) => match self.room[1] & 0x7F {
+                0x50 if length == 4 => 0x100 + usize::from(self.room[2]),
+                command => usize::from(command),
+            },
+        };
+        *self.seen.entry(kind).or_default() += 1;
+    }
+
+    fn closing_gap(&self) -> u32 {
+        self.plate.pause * self.plate.ticks_per_bit
+    }
+
+    fn after(&mut self, gap: u32) -> u32 {
+        self.tick = self.tick.wrapping_add(gap);
+        self.tick
+    }
+
+    /// A gap inside a frame, at most one tick short of closing it.
+    fn inner_gap(&self, dice: &mut Dice) -> u32 {
+        let gap = self.closing_gap();
+        match dice.below(8) {
+            0 => gap - 1,
+            1 => 0,
+            2 => dice.word() % gap,
+            _ => (11 * self.plate.ticks_per_bit).min(gap - 1),
+        }
+    }
+
+    fn outer_gap(&self, dice: &mut Dice) -> u32 {
+        let gap = self.closing_gap();
+        match dice.below(8) {
+            0 => gap + 1,
+            1 => u32::MAX,
+            2 => gap.saturating_add(dice.word() % 1_000_000),
+            3 => gap.max(dice.word()),
+            _ => gap,
+        }
+    }
+
+    /// A host's call between two characters that closes nothing.
+    fn interlude(&mut self, dice: &mut Dice) {
+        let made = match dice.below(8) {
+            0 => Call::Measured(dice.word()),
+            1 => Call::PowerOn,
+            2..=4 => Call::Fault(
+                dice.one_of(&[0x00, 0x08, 0x22, 0x24, 0x31, 0x32, 0x33, 0x34, 0x35, 0xFF]),
+            ),
+            _ => Call::Poll { tick: self.tick },
+        };
+        let _ = self.step(made);
+    }
+
+    /// A frame sent by a drive, and mostly the poll that closes it; else the next frame's first character does.
+    fn exchange(&mut self, dice: &mut Dice) {
+        let known = rig::Known {
+            plate: &self.plate,
+            codes: &self.image[..4],
+            memory: &self.memory,
+        };
+        let frame = rig::frame(dice, &known);
+        let faulty = if dice.once_in(40) {
+            dice.below(frame.len().max(1))
+        } else {
+            usize::MAX
+        };
+        for (place, &value) in frame.iter().enumerate() {
+            if dice.once_in(60) {
+                self.interlude(dice);
+            }
+            let gap = if place == 0 {
+                self.outer_gap(dice)
+            } else {
+                self.inner_gap(dice)
+            };
+            let parity = if place == faulty {
+                1 + dice.byte() % 255
+            } else {
+                0
+            };
+            let tick = self.after(gap);
+            let _ = self.step(Call::Character {
+                tick,
+                value,
+                parity,
+            });
+        }
+        if dice.once_in(4) {
+            self.interlude(dice);
+        }
+        if !dice.once_in(4) {
+            let gap = self.outer_gap(dice);
+            let tick = self.after(gap);
+            let _ = self.step(Call::Poll { tick });
+        }
+    }
+}
+
+fn good_plate(dice: &mut Dice) -> Plate {
+    Plate {
+        total_blocks: match dice.below(4) {
+            0 => dice.one_of(&[1, 2, 8, 112]),
+            1 => 1 + dice.word() % 16,
+            _ => 1 + dice.word() % 112,
+        },
+        position_bits: 1 + dice.word() % 32,
+        address: dice.word() % 32,
+        ticks_per_bit: 1 << dice.below(7),
+        pause: dice.one_of(&[22, 55]),
+    }
+}
+
+/// One number of the plate changed to something that is mostly beyond its limit.
+fn bad_plate(dice: &mut Dice, plate: &Plate) -> Plate {
+    let mut bad = *plate;
+    let number = match dice.below(4) {
+        0 => dice.word(),
+        1 => 256 + dice.word() % 256,
+        _ => dice.word() % 130,
+    };
+    match dice.below(5) {
+        0 => bad.total_blocks = number,
+        1 => bad.position_bits = number,
+        2 => bad.address = number,
+        3 => bad.ticks_per_bit = number,
+        _ => bad.pause = number,
+    }
+    bad
+}
+
+/// Any call, at a tick near the last one or anywhere.
+fn any_call(dice: &mut Dice, board: &Board) -> Call {
+    let near = board
+        .tick
+        .wrapping_add(dice.word() % (3 * board.closing_gap()));
+    let tick = if dice.once_in(4) { dice.word() } else { near };
+    match dice.below(6) {
+        0 => Call::Measured(dice.word()),
+        1 => Call::Fault(dice.byte()),
+        2 => Call::PowerOn,
+        3 => Call::Character {
+            tick,
+            value: dice.byte(),
+            parity: dice.byte() % 2,
+        },
+        _ => Call::Poll { tick },
+    }
+}
+
+fn add(seen: &mut BTreeMap<usize, usize>, of: &Board) {
+    for (kind, number) in &of.seen {
+        *seen.entry(*kind).or_default() += number;
+    }
+}
+
+/// Long runs of traffic from a fresh board: nothing is refused, and every command and error code comes up.
+#[test]
+fn traffic() {
+    let mut seen = BTreeMap::new();
+    let mut calls = 0;
+    for seed in 0..400 {
+        let mut dice = Dice::new(seed);
+        let plate = good_plate(&mut dice);
+        let mut board = Board::new(&mut dice, plate);
+        while board.calls < 3000 {
+            if dice.once_in(200) {
+                board.image[4..7].fill(0xFF);
+            }
+            board.exchange(&mut dice);
+        }
+        calls += board.calls;
+        add(&mut seen, &board);
+    }
+    assert!(calls >= 1_200_000);
+    assert!(!seen.keys().any(|kind| (0x200..0x300).contains(kind)));
+    // 50h's own reply is counted with the error codes; 53h is silent; 03h needs a damaged table.
+    for kind in [
+        0x42, 0x43, 0x46, 0x47, 0x49, 0x4A, 0x4B, 0x4C, 0x4D, 0x4E, 0x4F,
+    ] {
+        assert!(
+            seen.get(&kind).is_some_and(|&number| number > 100),
+            "{kind:X} in {seen:X?}"
+        );
+    }
+    for code in [
+        0x00, 0x02, 0x08, 0x09, 0x0A, 0x0B, 0x0C, 0x0D, 0x0E, 0x0F, 0x10, 0x11, 0x12,
+    ] {
+        assert!(
+            seen.get(&(0x100 + code))
+                .is_some_and(|&number| number > 100),
+            "{code:X} in {seen:X?}"
+        );
+    }
+}
+
+/// Traffic over memories whose bytes and status tables are whatever they are.
+#[test]
+fn dirty_memories() {
+    let mut seen = BTreeMap::new();
+    for seed in 1000..1400 {
+        let mut dice = Dice::new(seed);
+        let plate = good_plate(&mut dice);
+        let mut board = Board::new(&mut dice, plate);
+        board.memory = dice.bytes(plate.memory_length());
+        let table = 16 * plate.total_blocks as usize;
+        for _ in 0..30 {
+            board.memory[table..].fill(0);
+            let fields = dice.below(plate.total_blocks as usize + 1);
+            for status in &mut board.memory[table..table + fields] {
+                *status = 0x80 | dice.byte() & dice.one_of(&[0x78, 0x79, 0x7F]);
+            }
+            if dice.once_in(3) {
+                let place = table + dice.below(plate.total_blocks as usize);
+                board.memory[place] = dice.byte();
+            }
+            for _ in 0..6 {
+                board.exchange(&mut dice);
+            }
+        }
+        add(&mut seen, &board);
+    }
+    for kind in [0x103, 0x4A, 0x4B, 0x4C, 0x4D, 0x4E] {
+        assert!(
+            seen.get(&kind).is_some_and(|&number| number > 100),
+            "{kind:X} in {seen:X?}"
+        );
+    }
+}
+
+/// Images with random bytes in them, and calls of every kind with wrong lengths and plates.
+#[test]
+fn damaged_images_and_lengths() {
+    let mut seen = BTreeMap::new();
+    for seed in 2000..2100 {
+        let mut dice = Dice::new(seed);
+        let plate = good_plate(&mut dice);
+        let mut board = Board::new(&mut dice, plate);
+        while board.calls < 3000 {
+            if dice.once_in(2) {
+                board.exchange(&mut dice);
+            }
+            let whole = (
+                board.image.clone(),
+                board.memory.clone(),
+                board.room.clone(),
+            );
+            let plate = damage(&mut dice, &mut board);
+            for _ in 0..4 {
+                let made = any_call(&mut dice, &board);
+                let _ = board.step_with(made, &plate);
+            }
+            (board.image, board.memory, board.room) = whole;
+        }
+        add(&mut seen, &board);
+    }
+    for kind in [0x201, 0x202, 0x203, 0x300] {
+        assert!(
+            seen.get(&kind).is_some_and(|&number| number > 1000),
+            "{kind:X} in {seen:X?}"
+        );
+    }
+}
+
+/// Damages image, memory or room, each now and then, and gives the plate for the next calls.
+fn damage(dice: &mut Dice, board: &mut Board) -> Plate {
+    if dice.once_in(2) {
+        damage_image(dice, &mut board.image);
+    }
+    if dice.once_in(6) {
+        let length = dice.one_of(&[
+            0,
+            1,
+            KEPT,
+            IMAGE_LENGTH - 1,
+            IMAGE_LENGTH + 1,
+            2 * IMAGE_LENGTH,
+        ]);
+        board.image.resize(length, 0);
+    }
+    if dice.once_in(4) {
+        let right = board.memory.len();
+        let length = dice.one_of(&[0, right - 1, right + 1, right - 17, right + 17, 16, 1904]);
+        board.memory.resize(length, 0xDD);
+    }
+    if dice.once_in(4) {
+        let length = dice.one_of(&[0, 1, 3, REPLY_ROOM - 1, REPLY_ROOM + 1, 300]);
+        board.room.resize(length, 0xEE);
+    }
+    if dice.once_in(4) {
+        bad_plate(dice, &board.plate)
+    } else {
+        board.plate
+    }
+}
+
+/// One part of the image set to what may be beyond its limit; its frame open or not.
+fn damage_image(dice: &mut Dice, image: &mut [u8]) {
+    match dice.below(7) {
+        0 => {
+            let place = dice.below(KEPT);
+            image[place] = dice.byte();
+        }
+        1 => {
+            let codes = [0x00, 0x00, 0x22, 0x24, 0x31, 0x32, 0x33, 0x34];
+            for place in &mut image[WAITING..LOCKED] {
+                *place = dice.one_of(&codes);
+            }
+        }
+        2 => image[LOCKED + dice.below(4)] = dice.one_of(&[0, 1, 2, 255]),
+        3 => image[KEPT_NUMBER] = dice.one_of(&[0, 1, 2, 3, 134, 135, 136, 255]),
+        4 => image[7] = dice.one_of(&[0, 1, 255]),
+        5 => {
+            let place = 8 + dice.below(4);
+            image[place] = 1 << dice.below(8);
+        }
+        _ => {
+            let bytes = dice.bytes(image.len());
+            image.copy_from_slice(&bytes);
+            for flag in &mut image[LOCKED..LOCKED + 4] {
+                *flag %= 2;
+            }
+            image[7] = 0;
+            image[11] = 0;
+        }
+    }
+}
+
+/// Fresh images: every plate number over its whole range near the limits, and image lengths.
+#[test]
+fn fresh_images() {
+    let mut dice = Dice::new(3000);
+    for _ in 0..50_000 {
+        let good = good_plate(&mut dice);
+        let plate = if dice.once_in(2) {
+            good
+        } else {
+            bad_plate(&mut dice, &good)
+        };
+        let length = if dice.once_in(4) {
+            dice.below(2 * IMAGE_LENGTH)
+        } else {
+            IMAGE_LENGTH
+        };
+        let before = dice.bytes(length);
+        let mut image = before.clone();
+        let taken = plate.within_limits() && length == IMAGE_LENGTH;
+        assert_eq!(
+            fresh(&plate, &mut image),
+            if taken { Ok(0) } else { Err(Refusal::R1) },
+            "{plate:?}"
+        );
+        if taken {
+            assert_eq!(image[KEPT..], before[KEPT..]);
+            assert_eq!(image[..4], [0x55; 4]);
+            assert!(image[4..KEPT].iter().all(|&byte| byte == 0));
+        } else {
+            assert_eq!(image, before);
+        }
+    }
+}

@@ -1,0 +1,390 @@
+#!/usr/bin/env python3
+"""The benchmark: answer program and C entry points beside the second program and a board written in C by hand.
+
+    run.py [--answer PROGRAM] [--library FOLDER]             measures everything and writes docs/PERFORMANCE.md
+    run.py [--library FOLDER] --check N                      only this: fails if a kept character costs over N instructions inside the C entry
+
+PROGRAM answers tapes and FOLDER has libquicksetter.a; those not named are built by rt, as target/bin/answer and in target/staticlib.
+Instructions are counted by valgrind's callgrind; without valgrind only times are measured.
+"""
+
+import os
+import platform
+import random
+import re
+import shutil
+import subprocess
+import sys
+from typing import Callable, Dict, List, NamedTuple, Optional
+
+ROOT = os.path.dirname(os.path.dirname(os.path.abspath(__file__)))
+sys.path.insert(0, os.path.join(ROOT, "tools"))
+
+from tape import Character, Measured, Plate, Poll, encode, xor_of  # noqa: E402
+
+WORK = os.path.join(ROOT, "target", "perf")
+PAGE = os.path.join(ROOT, "docs", "PERFORMANCE.md")
+FLAGS = ["-std=c11", "-O3", "-Wall", "-Wextra", "-Werror"]
+PLATE = Plate(112, 24, 0, 4, 55)
+
+FEW_CALLS, MANY_CALLS = 1000, 11000
+SHORT_TAPE, LONG_TAPE, TIMED_TAPE = 2000, 12000, 500000
+ROUNDS = 7
+
+
+class Failure(Exception):
+    """Something without which nothing can be measured."""
+
+
+# --- tapes ----------------------------------------------------------------------------------
+
+
+class Drive:
+    """A tape as a drive and its host would make it."""
+
+    def __init__(self):
+        self.bytes = bytearray(encode(PLATE))
+        self.events = 0
+        self.now = 0
+
+    def add(self, record):
+        self.bytes += encode(record)
+        self.events += 1
+
+    def character(self, ticks: int, value: int, parity: bool = False):
+        self.now = (self.now + ticks) % (1 << 32)
+        self.add(Character(self.now, value, parity))
+
+    def poll(self, ticks: int):
+        self.now = (self.now + ticks) % (1 << 32)
+        self.add(Poll(self.now))
+
+    def send(self, values: List[int]):
+        """Address and checksum put round a command and its data, the characters, and a poll that closes."""
+        frame = [0x40] + values
+        for value in frame + [xor_of(frame)]:
+            self.character(PLATE.character_ticks(), value)
+        self.poll(PLATE.closing_gap())
+
+
+def polling_drive(drive: Drive, events: int):
+    """A drive that reads the position again and again; its host polls every 55 ticks and gives a new measured position each time."""
+    while drive.events < events:
+        drive.add(Measured(drive.now * 7 % (1 << 32)))
+        for value in (0x40, 0x42, 0x02):
+            drive.character(PLATE.character_ticks(), value)
+        for _ in range(8):
+            drive.poll(PLATE.closing_gap() // 4)
+
+
+def reads_and_stores(drive: Drive, events: int):
+    """128 bytes stored in a field of eight blocks and read back."""
+    drive.send([0x4D, 0, 0xC7, 0x55])
+    dice = random.Random(1)
+    while drive.events < events:
+        drive.send([0x4B, 0, 0, 128, 0x55] + [dice.randrange(256) for _ in range(128)])
+        drive.send([0x4A, 0, 0, 128, 0x55])
+
+
+def full_table(drive: Drive, events: int):
+    """112 fields of one block each; the last one asked for its status and its bytes, and the free blocks."""
+    for field in range(112):
+        drive.send([0x4D, field, 0xC0, 0x55])
+    while drive.events < events:
+        drive.send([0x4C, 111])
+        drive.send([0x4A, 111, 0, 16, 0x55])
+        drive.send([0x4E])
+
+
+def noise(drive: Drive, events: int):
+    """Random characters, some with a parity fault, one in eight after a gap that closes."""
+    dice = random.Random(2)
+    while drive.events < events:
+        gap = PLATE.closing_gap() if dice.randrange(8) == 0 else dice.randrange(PLATE.closing_gap())
+        value = dice.choice((0x40, 0xFF, 0x4E, 0x42, dice.randrange(256)))
+        drive.character(gap, value, dice.randrange(50) == 0)
+
+
+class Tape(NamedTuple):
+    name: str
+    make: Callable[[Drive, int], None]
+
+
+TAPES = (
+    Tape("polling drive", polling_drive),
+    Tape("128-byte reads and stores", reads_and_stores),
+    Tape("full table of 112 fields", full_table),
+    Tape("noise", noise),
+)
+
+
+class Written(NamedTuple):
+    path: str
+    events: int
+
+
+def written(tape: Tape, events: int) -> Written:
+    """The tape as a file with at least so many events, and how many it has."""
+    drive = Drive()
+    tape.make(drive, events)
+    path = os.path.join(WORK, f"{tape.name.replace(' ', '-')}-{events}.tape")
+    with open(path, "wb") as file:
+        file.write(drive.bytes)
+    return Written(path, drive.events)
+
+
+# --- programs -------------------------------------------------------------------------------
+
+
+def run(words: List[str], **more) -> subprocess.CompletedProcess:
+    try:
+        found = subprocess.run(words, capture_output=True, check=False, **more)
+    except OSError as error:
+        raise Failure(str(error)) from None
+    if found.returncode != 0:
+        said = (found.stdout + found.stderr).decode("utf-8", "replace")[-2000:]
+        raise Failure(f"{' '.join(words)} ended with status {found.returncode}\n{said}")
+    return found
+
+
+def compiled(name: str, sources: List[str], board: str, library: str) -> str:
+    path = os.path.join(WORK, f"{name}-{board}")
+    sources = [os.path.join(ROOT, "perf", source) for source in sources]
+    run(["gcc", *FLAGS, f"-DBOARD={board}", *sources, "-L", library, "-lquicksetter", "-o", path])
+    return path
+
+
+def found_library(library: Optional[str]) -> str:
+    """The folder of libquicksetter.a."""
+    if library:
+        return library
+    run(["rt", "staticlib", "quicksetter"], cwd=ROOT)
+    return os.path.join(ROOT, "target", "staticlib")
+
+
+def found_answer(answer: Optional[str]) -> str:
+    """The answer program."""
+    if answer:
+        return answer
+    run(["rt", "check", "answer"], cwd=ROOT)
+    return os.path.join(ROOT, "target", "bin", "answer")
+
+
+def tape_programs(answer: Optional[str], library: str) -> Dict[str, str]:
+    """The programs that answer tapes."""
+    second = os.path.join(WORK, "second")
+    run(["cargo", "build", "--release", "--offline", "--target-dir", second], cwd=os.path.join(ROOT, "second", "answer"))
+    return {
+        "second": os.path.join(second, "release", "second"),
+        "answer": found_answer(answer),
+        "entries": compiled("play", ["play.c"], "qs", library),
+        "hand": compiled("play", ["play.c", "hand.c"], "hand", library),
+    }
+
+
+def call_programs(library: str) -> Dict[str, str]:
+    """The programs that make one kind of call."""
+    return {"qs": compiled("calls", ["calls.c"], "qs", library), "hand": compiled("calls", ["calls.c", "hand.c"], "hand", library)}
+
+
+def answers(program: str, tape: Written) -> bytes:
+    with open(tape.path, "rb") as file:
+        return run([program], stdin=file).stdout
+
+
+def check_answers(programs: Dict[str, str], tape: Written):
+    """Speed counts only where the answers are the same."""
+    expected = answers(programs["second"], tape)
+    for name, program in programs.items():
+        if answers(program, tape) != expected:
+            raise Failure(f"{name} answers {os.path.basename(tape.path)} otherwise than the second program")
+
+
+# --- measuring ------------------------------------------------------------------------------
+
+
+def has_valgrind() -> bool:
+    return shutil.which("valgrind") is not None
+
+
+def instructions(words: List[str], tape: Optional[Written] = None, inside: Optional[str] = None) -> int:
+    """What callgrind counts, of the whole program or inside one function and what it calls."""
+    only = [f"--toggle-collect={inside}"] if inside else []
+    valgrind = ["valgrind", "--tool=callgrind", "--callgrind-out-file=/dev/null", *only, *words]
+    with open(tape.path if tape else os.devnull, "rb") as given:
+        said = run(valgrind, stdin=given).stderr.decode()
+    return int(re.search(r"Collected : (\d+)", said).group(1))
+
+
+def inside_entry(program: str, kind: str, entry: str) -> float:
+    """Instructions of one call, the start taken off: (11000 calls - 1000 calls) / 10000."""
+    few = instructions([program, kind, str(FEW_CALLS)], inside=entry)
+    many = instructions([program, kind, str(MANY_CALLS)], inside=entry)
+    return (many - few) / (MANY_CALLS - FEW_CALLS)
+
+
+def entry_costs(program: str, board: str) -> Dict[str, float]:
+    character, poll = f"{board}_character", f"{board}_poll"
+    costs = {kind: inside_entry(program, kind, character) for kind in ("kept", "endless", "requests")}
+    costs.update({kind: inside_entry(program, kind, poll) for kind in ("idle", "early", "closing")})
+    # A request is three characters; the first closes the one before, the other two are kept.
+    costs["closing character"] = 3 * costs["requests"] - 2 * costs["kept"]
+    return costs
+
+
+def instructions_an_event(program: str, short: Written, long: Written) -> float:
+    return (instructions([program], long) - instructions([program], short)) / (long.events - short.events)
+
+
+def processor_seconds(program: str, tape: Written) -> float:
+    with open(tape.path, "rb") as given, open(os.devnull, "wb") as nowhere:
+        process = subprocess.Popen([program], stdin=given, stdout=nowhere)
+        _, status, used = os.wait4(process.pid, 0)
+        process.returncode = os.waitstatus_to_exitcode(status)
+    if process.returncode != 0:
+        raise Failure(f"{program} ended with status {process.returncode}")
+    return used.ru_utime + used.ru_stime
+
+
+def nanoseconds_an_event(programs: Dict[str, str], tape: Written) -> Dict[str, float]:
+    """The best of several rounds, one program after the other in each, so that a busy minute hits all of them."""
+    best = {name: float("inf") for name in programs}
+    for _ in range(ROUNDS):
+        for name, program in programs.items():
+            best[name] = min(best[name], processor_seconds(program, tape))
+    return {name: 1e9 * seconds / tape.events for name, seconds in best.items()}
+
+
+# --- the page -------------------------------------------------------------------------------
+
+ENTRY_ROWS = (
+    ("kept", "character that is kept"),
+    ("endless", "character past the 135th"),
+    ("closing character", "character that closes a 46h request"),
+    ("idle", "poll, no frame open"),
+    ("early", "poll before the pause is over"),
+    ("closing", "poll that closes a 46h request"),
+)
+
+HEAD = """# Performance
+
+Written by perf/run.py (`make bench`), not by hand. Everything is measured on one machine ({machine}), C compiled by `gcc {flags}`
+({compiler}), Rust by `cargo build --release`.
+The board written in C (perf/hand.c) has the same refusals, the same state image and all commands, unproved; the second program is the independent one in
+Rust. Before a tape is measured, all four programs must print the same answers to it.
+"""
+
+
+def table(head: List[str], rows: List[List[str]]) -> str:
+    lines = ["| " + " | ".join(head) + " |", "|" + "---|" * len(head)]
+    return "\n".join(lines + ["| " + " | ".join(row) + " |" for row in rows]) + "\n"
+
+
+def entry_page(costs: Dict[str, Dict[str, float]]) -> str:
+    rows = []
+    for key, words in ENTRY_ROWS:
+        ours, theirs = costs["qs"][key], costs["hand"][key]
+        rows.append([words, f"{ours:.0f}", f"{theirs:.0f}", f"{ours / theirs:.2f}"])
+    return (
+        "\n## Inside the C entry\n\n"
+        "Instructions from the entry's first to its return, with all that it calls: (11000 calls - 1000 calls) / 10000, by callgrind. Kept characters come in\n"
+        "frames of 128 for another board, so one in 128 closes a frame in silence. A closing character is a 46h request's three less two kept ones.\n\n"
+        + table(["Call", "Library", "Hand-written C", "Ratio"], rows)
+    )
+
+
+def tape_page(title: str, note: str, found: Dict[str, Dict[str, float]]) -> str:
+    rows = []
+    for name, by_program in found.items():
+        second = by_program["second"]
+        row = [name, f"{second:.0f}"]
+        for program in ("answer", "entries", "hand"):
+            row.append(f"{by_program[program]:.0f} ({by_program[program] / second:.2f})")
+        rows.append(row)
+    head = ["Tape", "Second program", "Answer program", "C entries", "Hand-written C"]
+    return f"\n## {title}\n\n{note}\n\n" + table(head, rows)
+
+
+INSTRUCTION_NOTE = f"""Of the whole program, by callgrind: a tape of {LONG_TAPE} events less one of {SHORT_TAPE}, by the events between. In brackets the ratio to the second
+program. "C entries" is perf/play.c, the answer program in C over libquicksetter.a; "hand-written C" the same over perf/hand.c."""
+TIME_NOTE = f"""Processor time of the whole program on {TIMED_TAPE} events, the best of {ROUNDS} rounds. In brackets the ratio to the second program."""
+NO_VALGRIND = "\nInstructions were not counted: valgrind is not there.\n"
+
+
+def measure(programs: Dict[str, str], calls: Dict[str, str]) -> str:
+    """The whole page."""
+    machine = platform.machine()
+    compiler = run(["gcc", "--version"]).stdout.decode().splitlines()[0]
+    page = HEAD.format(machine=machine, flags=" ".join(FLAGS[:2]), compiler=compiler)
+    counts: Dict[str, Dict[str, float]] = {}
+    times: Dict[str, Dict[str, float]] = {}
+    counting = has_valgrind()
+    for tape in TAPES:
+        print(f"perf: {tape.name}", flush=True)
+        short, long, timed = (written(tape, events) for events in (SHORT_TAPE, LONG_TAPE, TIMED_TAPE))
+        check_answers(programs, timed)
+        if counting:
+            counts[tape.name] = {name: instructions_an_event(program, short, long) for name, program in programs.items()}
+        times[tape.name] = nanoseconds_an_event(programs, timed)
+    if counting:
+        print("perf: inside the C entry", flush=True)
+        page += entry_page({board: entry_costs(program, board) for board, program in calls.items()})
+        page += tape_page("Instructions a tape event", INSTRUCTION_NOTE, counts)
+    else:
+        print("perf: valgrind is not there: only times are measured", flush=True)
+        page += NO_VALGRIND
+    return page + tape_page("Nanoseconds a tape event", TIME_NOTE, times)
+
+
+def check_limit(calls: Dict[str, str], limit: int) -> int:
+    """The cost of a kept character held to a limit: adding an entry can change the cost of another."""
+    if not has_valgrind():
+        raise Failure("valgrind is not there: nothing was measured")
+    cost = inside_entry(calls["qs"], "kept", "qs_character")
+    print(f"perf: a kept character costs {cost:.1f} instructions inside the C entry, {limit} allowed")
+    return 0 if cost <= limit else 1
+
+
+def write_page(answer: Optional[str], library: str) -> int:
+    page = measure(tape_programs(answer, library), call_programs(library))
+    with open(PAGE, "w", encoding="utf-8") as file:
+        file.write(page)
+    print(page)
+    return 0
+
+
+def option(arguments: List[str], name: str) -> Optional[str]:
+    """The word behind an option, both taken off."""
+    if name not in arguments[:-1]:
+        return None
+    place = arguments.index(name)
+    word = arguments[place + 1]
+    del arguments[place : place + 2]
+    return word
+
+
+def path_option(arguments: List[str], name: str) -> Optional[str]:
+    word = option(arguments, name)
+    return None if word is None else os.path.abspath(word)
+
+
+def main(arguments: List[str]) -> int:
+    if arguments in (["help"], ["-h"], ["--help"]):
+        sys.stdout.write(__doc__)
+        return 0
+    answer, library = path_option(arguments, "--answer"), path_option(arguments, "--library")
+    limit = option(arguments, "--check")
+    if arguments or not (limit or "0").isdigit():
+        sys.stderr.write(__doc__)
+        return 2
+    os.makedirs(WORK, exist_ok=True)
+    try:
+        library = found_library(library)
+        return write_page(answer, library) if limit is None else check_limit(call_programs(library), int(limit))
+    except Failure as failure:
+        sys.stderr.write(f"run.py: {failure}\n")
+        return 1
+
+
+if __name__ == "__main__":
+    sys.exit(main(sys.argv[1:]))
