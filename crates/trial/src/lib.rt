@@ -342,7 +342,35 @@ fn wide(value: u8) -> usize {
     value as usize
 }
 
-// One request of a script: command, number of data bytes, six places for them.
+fn byte_at(memory: &[u8], place: usize) -> u8 {
+    if place < memory.len() {
+        memory[place]
+    } else {
+        0
+    }
+}
+
+// The bytes of memory at these places.
+fn show_at(places: &[u8], memory: &[u8]) {
+    let mut left = places.len();
+    while 0 < left {
+        let at = places.len() - left;
+        show_byte(byte_at(memory, wide(places[at])));
+        left -= 1;
+    }
+    say(b"\n");
+}
+
+// One step of a script, its data between two places: a request, or for command 00h a look at memory.
+fn scripted_at(plate: Plate, board: Board, command: u8, body: &[u8], memory: &mut [u8]) -> Board {
+    if command == 0 {
+        show_at(body, memory);
+        return board;
+    }
+    request(plate, board, command, body, memory)
+}
+
+// One step of a script: command, number of data bytes, six places for them.
 fn scripted(plate: Plate, board: Board, script: &[u8], at: usize, memory: &mut [u8]) -> Board {
     if 4096 < at {
         return board;
@@ -356,10 +384,10 @@ fn scripted(plate: Plate, board: Board, script: &[u8], at: usize, memory: &mut [
     }
     let from = at + 2;
     let to = from + count;
-    request(plate, board, script[at], &script[from..to], memory)
+    scripted_at(plate, board, script[at], &script[from..to], memory)
 }
 
-// The requests of a script, eight bytes each, one after the other; at most 64.
+// The steps of a script, eight bytes each, one after the other; at most 64.
 pub fn play(plate: Plate, board: Board, script: &[u8], memory: &mut [u8]) -> Board {
     let mut now = board;
     let mut left: usize = 64;
@@ -369,6 +397,65 @@ pub fn play(plate: Plate, board: Board, script: &[u8], memory: &mut [u8]) -> Boa
         if at < script.len() {
             now = scripted(plate, now, script, at, memory);
         }
+    }
+    now
+}
+
+// A character whose outcome is not printed.
+fn silent(
+    plate: Plate,
+    board: Board,
+    value: u8,
+    kept: &mut [u8],
+    memory: &mut [u8],
+    room: &mut [u8],
+) -> Board {
+    let stepped = board::character(plate, board, 0, value, false, kept, memory, room);
+    stepped.board
+}
+
+fn silent_all(
+    plate: Plate,
+    board: Board,
+    frame: &[u8],
+    kept: &mut [u8],
+    memory: &mut [u8],
+    room: &mut [u8],
+) -> Board {
+    let mut now = board;
+    let mut left = frame.len();
+    while 0 < left {
+        let at = frame.len() - left;
+        now = silent(plate, now, frame[at], kept, memory, room);
+        left -= 1;
+    }
+    now
+}
+
+// A field of one block made, and what comes of it not printed.
+fn made(plate: Plate, board: Board, field: u8, memory: &mut [u8]) -> Board {
+    let mut kept = [0u8; 135];
+    let mut room = [0u8; 134];
+    let frame = [
+        0x40,
+        0x4D,
+        field,
+        0xC0,
+        0x55,
+        0x40 ^ 0x4D ^ field ^ 0xC0 ^ 0x55,
+    ];
+    let sent = silent_all(plate, board, &frame, &mut kept, memory, &mut room);
+    let stepped = board::poll(plate, sent, 5000, &mut kept, memory, &mut room);
+    stepped.board
+}
+
+// A field for each of 112 blocks.
+pub fn fill_table(plate: Plate, board: Board, memory: &mut [u8]) -> Board {
+    let mut now = board;
+    let mut left: u8 = 112;
+    while 0 < left {
+        now = made(plate, now, 112 - left, memory);
+        left -= 1;
     }
     now
 }

@@ -1,6 +1,5 @@
 // The lent memory: rows 4Ah to 4Eh in each order position, unsound tables, dirty memory, T = 1 and T = 112.
-use board::Board;
-use line::Plate;
+use trial::fill_table;
 use trial::play;
 use trial::say;
 use trial::sheet_plate;
@@ -167,69 +166,39 @@ fn too_many_blocks() {
     );
 }
 
-// Of a memory that was AAh all over, the status table of 8 blocks.
-fn clear_table(memory: &mut [u8; 136]) {
+// A memory that is AAh all over, but for the status table of 8 blocks.
+fn dirty() -> [u8; 136] {
+    let mut memory = [0xAAu8; 136];
     let mut i = 128;
     while i < 136 {
         memory[i] = 0;
         i += 1;
     }
+    memory
 }
 
-// The last byte of block 0, and the first of the blocks 1 to 4.
-fn show_places(memory: &[u8; 136]) {
-    trial::show(&memory[15..17]);
-    trial::show(&memory[32..33]);
-    trial::show(&memory[48..49]);
-    trial::show(&memory[64..65]);
-    say(b"\n");
-}
-
-// 01, "set to 00h": blocks granted of a dirty memory, and blocks given back; the others keep their bytes.
+// 01, "set to 00h": blocks granted of a dirty memory, and blocks given back; the others keep their bytes. After each request a look at the
+// last byte of block 0 and the first ones of blocks 1 to 4.
 fn dirty_memory() {
     let plate = sheet_plate(8, 24);
-    let mut memory = [0xAAu8; 136];
+    let mut memory = dirty();
     let mut board = board::fresh(plate);
-    clear_table(&mut memory);
     board = play(
         plate,
         board,
-        b"\x4D\x03\x00\xC1\x55\x00\x00\x00",
+        b"\x4D\x03\x00\xC1\x55\x00\x00\x00\x00\x05\x0F\x10\x20\x30\x40\x00\x4D\x03\x00\xC2\x55\x00\x00\x00\x00\x05\x0F\x10\x20\x30\x40\x00",
         &mut memory,
     );
-    show_places(&memory);
     board = play(
         plate,
         board,
-        b"\x4D\x03\x00\xC2\x55\x00\x00\x00",
+        b"\x4B\x06\x00\x0F\x02\x55\x01\x02\x00\x05\x0F\x10\x20\x30\x40\x00\x4D\x03\x00\xC0\x55\x00\x00\x00\x00\x05\x0F\x10\x20\x30\x40\x00",
         &mut memory,
     );
-    show_places(&memory);
-    board = play(
-        plate,
-        board,
-        b"\x4B\x06\x00\x0F\x02\x55\x01\x02",
-        &mut memory,
-    );
-    show_places(&memory);
-    board = play(
-        plate,
-        board,
-        b"\x4D\x03\x00\xC0\x55\x00\x00\x00",
-        &mut memory,
-    );
-    show_places(&memory);
-    board = play(
-        plate,
-        board,
-        b"\x4D\x03\x00\x00\x55\x00\x00\x00",
-        &mut memory,
-    );
-    show_places(&memory);
     play(
         plate,
         board,
-        b"\x4E\x00\x00\x00\x00\x00\x00\x00",
+        b"\x4D\x03\x00\x00\x55\x00\x00\x00\x00\x05\x0F\x10\x20\x30\x40\x00\x4E\x00\x00\x00\x00\x00\x00\x00",
         &mut memory,
     );
 }
@@ -253,35 +222,11 @@ fn one_block() {
     );
 }
 
-// A 4Dh sent, and what comes of it not printed.
-fn quiet_request(plate: Plate, board: Board, body: [u8; 3], memory: &mut [u8]) -> Board {
-    let mut kept = [0u8; 135];
-    let mut room = [0u8; 134];
-    let sum = 0x40 ^ 0x4D ^ body[0] ^ body[1] ^ body[2];
-    let frame = [0x40, 0x4D, body[0], body[1], body[2], sum];
-    let mut now = board;
-    let mut i = 0;
-    while i < 6 {
-        let value = frame[i];
-        let stepped = board::character(plate, now, 0, value, false, &mut kept, memory, &mut room);
-        now = stepped.board;
-        i += 1;
-    }
-    let stepped = board::poll(plate, now, 5000, &mut kept, memory, &mut room);
-    stepped.board
-}
-
 // 01, "total blocks T 112": a field for each block, then one too many.
 fn full_table() {
     let plate = sheet_plate(112, 24);
     let mut memory = [0u8; 1904];
-    let mut board = board::fresh(plate);
-    let mut field: u8 = 0;
-    while field < 112 {
-        let body = [field, 0xC0, 0x55];
-        board = quiet_request(plate, board, body, &mut memory);
-        field += 1;
-    }
+    let board = fill_table(plate, board::fresh(plate), &mut memory);
     play(
         plate,
         board,

@@ -138,31 +138,84 @@ fn too_few_places() {
     say(b"\n");
 }
 
-// A poll with a memory and a room of these lengths.
-fn refused_lengths(board: Board, memory_length: usize, room_length: usize) {
+// 01, R2 before R3: a byte short in both.
+fn memory_short(board: Board) {
     let mut kept = [0u8; 135];
-    let mut memory = [0u8; 1905];
-    let mut room = [0u8; 135];
-    if memory_length <= 1905 && room_length <= 135 {
-        let lent = &mut memory[..memory_length];
-        refused(
-            sheet_plate(112, 24),
-            board,
-            &mut kept,
-            lent,
-            &mut room[..room_length],
-        );
-    }
+    let mut memory = [0u8; 1903];
+    let mut room = [0u8; 133];
+    refused(
+        sheet_plate(112, 24),
+        board,
+        &mut kept,
+        &mut memory,
+        &mut room,
+    );
 }
 
-// 01, R2 before R3, and the limits themselves taken.
+// 01, R2: a byte too many.
+fn memory_long(board: Board) {
+    let mut kept = [0u8; 135];
+    let mut memory = [0u8; 1905];
+    let mut room = [0u8; 134];
+    refused(
+        sheet_plate(112, 24),
+        board,
+        &mut kept,
+        &mut memory,
+        &mut room,
+    );
+}
+
+// 01, R3: "needed or not".
+fn room_short(board: Board) {
+    let mut kept = [0u8; 135];
+    let mut memory = [0u8; 1904];
+    let mut room = [0u8; 133];
+    refused(
+        sheet_plate(112, 24),
+        board,
+        &mut kept,
+        &mut memory,
+        &mut room,
+    );
+}
+
+// The least room.
+fn room_enough(board: Board) {
+    let mut kept = [0u8; 135];
+    let mut memory = [0u8; 1904];
+    let mut room = [0u8; 134];
+    refused(
+        sheet_plate(112, 24),
+        board,
+        &mut kept,
+        &mut memory,
+        &mut room,
+    );
+}
+
+// More than that.
+fn room_larger(board: Board) {
+    let mut kept = [0u8; 135];
+    let mut memory = [0u8; 1904];
+    let mut room = [0u8; 135];
+    refused(
+        sheet_plate(112, 24),
+        board,
+        &mut kept,
+        &mut memory,
+        &mut room,
+    );
+}
+
+// 01, R2 and R3, and the limits themselves taken.
 fn bad_rooms() {
     let board = board_with(0xFFFFFF, 0xFFFFFF, waiting(1, 2, 3, 4), 135);
-    refused_lengths(board, 1903, 133);
-    refused_lengths(board, 1905, 133);
-    refused_lengths(board, 1904, 133);
-    refused_lengths(board, 1904, 134);
-    refused_lengths(board, 1904, 135);
+    memory_short(board);
+    memory_long(board);
+    room_short(board);
+    room_enough(board);
+    room_larger(board);
     say(b"\n");
 }
 
