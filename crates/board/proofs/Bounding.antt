@@ -98,13 +98,13 @@ pub few-kept : (p : Plate) (b : Board) (k : List ℕ) → Bounds p b true → le
 few-kept p b k ok all = leb-true (b .frame .len) 135 (both-left (leb (b .frame .len) 135) (both (plateOk p) (stateOk p (stateOf b k))) (sym (ok .bound k all)))
 
 -- what is known where nothing is refused
-record Passed (x w y z s t : Bool) : Type 0 where
-  few : x ≡ true
-  all : w ≡ true
-  plate : y ≡ true
-  state : z ≡ true
-  size : s ≡ true
-  wide : t ≡ false
+pub record Passed (x w y z s t : Bool) : Type 0 where
+  pub few : x ≡ true
+  pub all : w ≡ true
+  pub plate : y ≡ true
+  pub state : z ≡ true
+  pub size : s ≡ true
+  pub wide : t ≡ false
 
 passed : (x w y z s t : Bool) → _≡_ {A = ℕ} (pick (both x w) (pick (either (not y) (not z)) 1 (pick (not s) 2 (pick t 3 0))) 1) 0 → Passed x w y z s t
 passed false w y z s t e = absurd (omega arith)
@@ -116,7 +116,7 @@ passed true true true true true true e = absurd (omega arith)
 passed true true true true true false e = record { few = refl; all = refl; plate = refl; state = refl; size = refl; wide = refl }
 
 module _ (p : Plate) (b : Board) (k m : List ℕ) (r : ℕ) (g : Call) (l : lends g ≡ true) (e : refusalOn p b k m r g ≡ 0) where
-  facts : Passed (leb (b .frame .len) 135) (eqb (length k) 135) (plateOk p) (stateOk p (stateOf b k)) (eqb (length m) (imageLength (p .total))) (ltb r 134)
+  pub facts : Passed (leb (b .frame .len) 135) (eqb (length k) 135) (plateOk p) (stateOk p (stateOf b k)) (eqb (length m) (imageLength (p .total))) (ltb r 134)
   unfolding refusalOn refusedBy fitsIn
   facts = passed _ _ _ _ _ _ (rw l at e)
 

@@ -21,6 +21,7 @@ use Rattle.meaning.proofs.Steps.{both-0, both-1}
 use Rattle.meaning.proofs.Limits.{replies-fit}
 use Rattle.frame.proofs.Laws.{put-front}
 use Rattle.line.proofs.Limits.{both-left, both-right, low-address}
+use Rattle.commands.proofs.Answering.{put-nothing}
 use Rattle.board.specs.declared.limits.Board.{Board}
 use Rattle.board.specs.declared.limits.Outcome.the-variants.{Still, Over}
 use Rattle.board.specs.declared.limits.Stepped.{Stepped}
@@ -35,7 +36,6 @@ use Rattle.exchange.specs.declared.asking.Exchanged.{Exchanged}
 use Rattle.exchange.specs.Calls.{stampOf, sending, Clear, Sends}
 use Rattle.exchange.specs.Passing.{reached, answerTo, verdictOn, Asks, Converses, countOf}
 use Rattle.exchange.proofs.Stepping.{kept-bytes}
-use Rattle.exchange.proofs.Taking.{put-nothing}
 use Rattle.exchange.proofs.Closing.{over-now, poll-answers, verdict-answers}
 
 -- ---- the pause as a number of ticks fits 32 bits
@@ -146,7 +146,7 @@ module _ (p : Plate) (b : Board) (tick spacing : ℕ) (q kept m w : List ℕ) (c
 
       emptied : (k : List ℕ) → put k 0 (s₀ .line .kept) ≡ k
       unfolding resting withLine none
-      emptied k = sym (put-nothing k)
+      emptied k = sym (put-nothing k 0)
 
       pub converses : {k : ℕ} {v : Verdict} {x : Exchanged} → k ≡ countOf (r .outcome) → verdictOf v ≡ withoutData (judge q (take k w₂))
           → x ≡ (record { board = r .board; ended = Heard (length q) k v }) → Converses p b n c d kept m w x k₂ m₂ w₂

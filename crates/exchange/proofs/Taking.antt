@@ -13,6 +13,7 @@ use Rattle.meaning.specs.Frames.{Outcome, taken, still}
 use Rattle.meaning.specs.Run.{Call, character, step, runFrom}
 use Rattle.meaning.proofs.Puts.{drop-put-low}
 use Rattle.frame.proofs.Laws.{put-front}
+use Rattle.commands.proofs.Answering.{put-nothing}
 use Rattle.board.specs.declared.limits.Board.{Board}
 use Rattle.board.specs.declared.limits.Stepped.{Stepped}
 use Rattle.board.specs.Board.{stateOf, Steps}
@@ -20,10 +21,6 @@ use Rattle.board.proofs.Promises.{does-step, unrefused, stays-within}
 use Rattle.exchange.specs.Calls.{stampOf, sending, Clear, Taken, Sends}
 use Rattle.exchange.proofs.Running.{kept-begun, Runs, runs, begun-then, character-waits}
 use Rattle.exchange.proofs.Stepping.{kept-bytes}
-
--- nothing put is nothing changed
-pub put-nothing : (m : List ℕ) → m ≡ put m 0 []
-put-nothing m = sym (put-front m [])
 
 -- bytes put over fewer bytes
 pub put-over : (m xs ys : List ℕ) → length xs ≤ length ys → length xs ≤ length m → put (put m 0 xs) 0 ys ≡ put m 0 ys
@@ -33,7 +30,7 @@ put-over m xs ys h k =
 module _ (p : Plate) (b : Board) (tick spacing : ℕ) (q kept m w : List ℕ) (clear : Clear p b spacing q kept m w) where
   pub taken-none : Taken p b tick spacing q kept m w 0 b kept m w
   unfolding sending runFrom still
-  taken-none = record { within = clear .within; state = refl; bytes = put-nothing kept; memory = refl; room = refl }
+  taken-none = record { within = clear .within; state = refl; bytes = put-nothing kept 0; memory = refl; room = refl }
 
   abbrev after : ℕ → Outcome
   after i = runFrom p (stateOf b kept) m (sending tick spacing q i)
@@ -81,7 +78,7 @@ module _ (p : Plate) (b : Board) (tick spacing : ℕ) (q kept m w : List ℕ) (c
           memory = z .memory ∙ ap (λ (o : Outcome). o .memory) e ∙ all-runs (suc i) h .memory;
           room =
               z .room ∙ ap (λ (o : Outcome). put w′ 0 (o .reply)) e
-              ∙ ap (λ (l : List ℕ). put w′ 0 l) (silent-step i h) ∙ sym (put-nothing w′) ∙ t .room;
+              ∙ ap (λ (l : List ℕ). put w′ 0 l) (silent-step i h) ∙ sym (put-nothing w′ 0) ∙ t .room;
         }
 
     -- .. as the loop says it
