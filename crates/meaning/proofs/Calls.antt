@@ -1,0 +1,52 @@
+-- A refused call touches nothing; any other fills the front of the room and leaves the rest. Assumes nothing.
+use Prim.Native.Nat.{ℕ, _+_}
+use mathlib.Core.Path.{_≡_, refl, sym, ap, _∙_}
+use mathlib.Core.Bool.{Bool, true, false, not}
+use mathlib.Core.List.{List, [], _∷_, _++_}
+use native.Mathlib.Nat.{zero-add}
+use lib.Dec.{T, eqb}
+use lib.ListN.{length, take, drop}
+use lib.Seq.{drop-append-seam, take-append-seam}
+use Rattle.meaning.specs.Bytes.{pick, put}
+use Rattle.meaning.specs.State.{Plate, State, none, withLine}
+use Rattle.meaning.specs.Characters.{more, taken}
+use Rattle.meaning.specs.Run.{Call, step, refusedBy, Held, called}
+use Rattle.meaning.specs.Demands.{RefusedUntouched, Served, ServedOtherwise, OpensEmpty}
+
+-- bytes put at the front of a list
+pub put-front : (room bs : List ℕ) → put room 0 bs ≡ bs ++ drop (length bs) room
+unfolding put
+put-front room bs = rw zero-add
+
+pub refused-untouched : RefusedUntouched
+unfolding called
+refused-untouched p s m room g h = go (eqb (refusedBy p s m (length room) g) 0) _ _ h
+  where
+    go : (q : Bool) (x y : Held) → T (not q) → pick q x y ≡ y
+    go true x y h = absurd h
+    go false x y h = refl
+
+pub served-otherwise : ServedOtherwise
+unfolding called
+served-otherwise p s m room g h = go (eqb (refusedBy p s m (length room) g) 0) _ h
+  where
+    r : List ℕ
+    r = (step p s m g) .reply
+
+    served : Held
+    served = record { refusal = 0; count = length r; state = (step p s m g) .state; memory = (step p s m g) .memory; room = put room 0 r }
+
+    go : (q : Bool) (y : Held) → T q → Served p s m room g (pick q served y)
+    go true y h = record {
+      unrefused = refl;
+      after = refl;
+      kept = refl;
+      length-told = refl;
+      front = rw (put-front room r) (take-append-seam r (drop (length r) room));
+      rest = rw (put-front room r) (drop-append-seam r (drop (length r) room));
+    }
+    go false y h = absurd h
+
+pub opens-empty : OpensEmpty
+unfolding taken
+opens-empty s now v bad e = rw e

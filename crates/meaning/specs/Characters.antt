@@ -1,0 +1,46 @@
+-- Characters, gaps and polls: when a frame is over, what is kept of it (01, "Characters become frames"). Assumes nothing.
+use Prim.Native.Nat.{ℕ, _+_, _-_, _*_, _%_, _^_}
+use mathlib.Core.Bool.{Bool, true, false}
+use mathlib.Core.List.{List, [], _∷_, _++_}
+use lib.ListN.{length, take}
+use lib.Dec.{leb, ltb}
+use lib.Bits.{bitXor}
+use Rattle.meaning.specs.Bytes.{pick, both, either, xorAll}
+use Rattle.meaning.specs.State.{Plate, State, Line, none, withLine}
+
+-- 01, "a gap is taken modulo 2^32": the ticks from one stamp to another
+unfoldable pub gap : ℕ → ℕ → ℕ
+gap from to = (to + 2 ^ 32 - from) % 2 ^ 32
+
+-- 01, "An open frame is closed when a character or a poll comes at least pause × ticks-per-bit after its last character": equality closes
+unfoldable pub over : Plate → State → ℕ → Bool
+over p s now = both (s .line .begun) (leb (p .pause * p .ticks) (gap (s .line .last) now))
+
+-- 01, "Up to 135 bytes are kept": one more character, of an open frame
+unfoldable pub more : Line → ℕ → ℕ → Bool → Line
+more l now v bad = record {
+  begun = true;
+  kept = pick (ltb (length (l .kept)) 135) (l .kept ++ (v ∷ [])) (l .kept);
+  sum = bitXor (l .sum) v;
+  longer = either (l .longer) (leb 135 (length (l .kept)));
+  parity = either (l .parity) bad;
+  last = now;
+}
+
+-- 01, "Characters become frames": a character is taken in; with no frame open it starts from an empty one, whatever the unused places hold
+unfoldable pub taken : State → ℕ → ℕ → Bool → State
+taken s now v bad = withLine s (more (pick (s .line .begun) (s .line) none) now v bad)
+
+-- 01, "Characters become frames": a closed frame: the kept bytes; the XOR of all that came; whether more came; whether a character had a parity fault
+pub record Frame : Type 0 where
+  pub bytes : List ℕ
+  pub sum : ℕ
+  pub longer : Bool
+  pub parity : Bool
+
+unfoldable pub closed : Line → Frame  -- 01, "An open frame is closed"
+closed l = record { bytes = l .kept; sum = l .sum; longer = l .longer; parity = l .parity }
+
+-- 01, "Characters become frames": the frame of characters that came without a parity fault
+unfoldable pub whole : List ℕ → Frame
+whole b = record { bytes = take 135 b; sum = xorAll b; longer = ltb 135 (length b); parity = false }
