@@ -1,0 +1,2 @@
+-- What the proofs of several functions use, and the laws that callers cite.
+mod Standing
