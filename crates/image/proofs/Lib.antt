@@ -1,2 +1,3 @@
 -- What the proofs of several functions use, and the laws that callers cite.
 mod Standing
+pub mod Parts

@@ -1,11 +1,11 @@
 -- The state image: where its 165 bytes stand, the state that they hold, and the bytes of a state (01, "calls on numbers and byte slices"). Assumes nothing.
-use Prim.Native.Nat.{ℕ, _+_, _*_, _/_, _%_}
+use Prim.Native.Nat.{ℕ, _+_, _*_, _/_, _%_, _≤_}
 use mathlib.Core.Path.{_≡_}
 use mathlib.Core.Bool.{Bool, true, false}
 use mathlib.Core.List.{List, [], _∷_, _++_}
 use lib.Dec.{eqb, leb}
-use lib.ListN.{length}
-use Rattle.meaning.specs.Bytes.{both, arg, part, put}
+use lib.ListN.{length, take, drop}
+use Rattle.meaning.specs.Bytes.{both, arg, put}
 use Rattle.meaning.specs.State as meaning
 use Rattle.commands.specs.declared.state.State.{State}
 use Rattle.commands.specs.State.{stateWith}
@@ -54,8 +54,8 @@ frameIn img =
     }
 
 -- 30 to 164 the kept bytes
-unfoldable pub keptIn : List ℕ → List ℕ
-keptIn img = part img 30 135
+abbrev pub keptIn : List ℕ → List ℕ
+keptIn img = take 135 (drop 30 img)
 
 -- the meaning's state that an image holds
 abbrev pub heldIn : List ℕ → meaning.State
@@ -96,3 +96,13 @@ pub record PutsState (s : State) (img img′ : List ℕ) : Type 0 where
 pub record PutsFrame (f : Frame) (img img′ : List ℕ) : Type 0 where
   pub image : (kept : List ℕ) → Fits f kept → img′ ≡ put img 21 (lineBytes (lineOf f kept))
   pub holds : frameIn img′ ≡ f
+
+-- an image of the right length, and a frame that its places can hold
+pub record Lends (f : Frame) (img : List ℕ) : Type 0 where
+  pub few : f .len ≤ 135
+  pub all : length img ≡ 165
+
+-- an image is left with the open frame l: its numbers and its kept bytes are new, the places past those and the state's bytes are not
+pub record Takes (l : meaning.Line) (img img′ : List ℕ) : Type 0 where
+  pub image : img′ ≡ take 21 img ++ (lineBytes l ++ put (keptIn img) 0 (l .kept))
+  pub holds : lineOf (frameIn img′) (keptIn img′) ≡ l

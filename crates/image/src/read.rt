@@ -40,6 +40,41 @@ fn is_one(byte: u8) -> bool
     byte == 1
 }
 
+// 01, R1: a flag is 0 or 1.
+fn flags_ok(locked: u8, begun: u8, longer: u8, parity: u8) -> bool
+    ensures { λ r. ⌜ r ≡ flagsOk locked begun longer parity ⌝ }
+{
+    if 1 < locked {
+        return false;
+    }
+    if 1 < begun {
+        return false;
+    }
+    if 1 < longer {
+        return false;
+    }
+    if 1 < parity {
+        return false;
+    }
+    true
+}
+
+// 01, R1, of what an image may hold and the board's own state may not.
+pub fn is_image(image: &[u8]) -> bool
+    ensures { λ r. ⌜ r ≡ isImage (now (image .entry)) ⌝ }
+{
+    if image.len() != LENGTH {
+        return false;
+    }
+    if !flags_ok(image[LOCKED], image[FRAME], image[LONGER], image[PARITY]) {
+        return false;
+    }
+    if 135 < image[COUNT] {
+        return false;
+    }
+    true
+}
+
 pub fn state_in(image: &[u8]) -> State
     requires { ⌜ 165 ≤ length (now image) ⌝ }
     ensures { λ r. ⌜ r ≡ stateIn (now (image .entry)) ⌝ }

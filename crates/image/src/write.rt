@@ -2,11 +2,15 @@
 ghost use mathlib.Core.Path.{_≡_};
 ghost use Prim.Native.Nat.{_≤_};
 ghost use lib.ListN.{length};
-ghost use Rattle.meaning.specs.State.{Line};
+ghost use Rattle.meaning.specs.Bytes.{pick};
+ghost use Rattle.meaning.specs.State.{Line, none};
+ghost use Rattle.meaning.specs.Frames.{more};
+ghost use Rattle.line.specs.Line.{lineOf};
 ghost use Rattle.commands.specs.State.{stateWith};
-ghost use Rattle.image.specs.Image.{flagByte, stateBytes, frameRow, PutsState, PutsFrame};
+ghost use Rattle.image.specs.Image.{flagByte, stateBytes, frameRow, keptIn, Lends, PutsState, PutsFrame, Takes};
 use crate::layout::FRAME;
 use crate::layout::KEPT;
+use crate::layout::LENGTH;
 use commands::State;
 use line::Frame;
 
@@ -89,4 +93,13 @@ pub fn put_frame(frame: Frame, image: &mut [u8])
     let parity = flag_byte(frame.parity);
     let row = frame_row(frame, begun, longer, parity);
     frame::fill(&row, &mut image[FRAME..KEPT]);
+}
+
+// One more character: its byte goes to the next of the image's places, and the frame's numbers follow.
+pub fn take_character(frame: Frame, tick: u32, value: u8, parity: bool, image: &mut [u8])
+    requires { ⌜ Lends frame (now image) ⌝ }
+    ensures { λ _. ⌜ Takes (more (pick (frame .begun) (lineOf frame (keptIn (now (image .entry)))) none) tick value parity) (now (image .entry)) (now (image .exit)) ⌝ }
+{
+    let next = frame.with_character(tick, value, parity, &mut image[KEPT..LENGTH]);
+    put_frame(next, image);
 }
