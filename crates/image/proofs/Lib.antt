@@ -1,3 +1,4 @@
 -- What the proofs of several functions use, and the laws that callers cite.
-mod Standing
+pub mod Standing
 pub mod Parts
+pub mod Round

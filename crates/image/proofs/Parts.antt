@@ -67,7 +67,7 @@ module _ (img : List ℕ) (all : length img ≡ 165) where
         let d : drop 30 (take 30 img ++ (kept ++ [])) ≡ kept = drop-at (take 30 img) (kept ++ []) 30 h ∙ append-nil kept in
         rw (no-more, b, f, d)
 
-line-length : (l : Line) → length (lineBytes l) ≡ 9
+pub line-length : (l : Line) → length (lineBytes l) ≡ 9
 unfolding lineBytes
 line-length l = refl
 

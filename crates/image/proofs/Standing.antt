@@ -121,11 +121,25 @@ pub record Typed (s : State) : Type 0 where
   pub offset : s .offset < 2 ^ 32
   pub measured : s .measured < 2 ^ 32
 
-pub state-again : (s : State) (img : List ℕ) (l : Line) → Typed s → stateIn (put img 0 (stateBytes (stateWith s l))) ≡ s
-unfolding stateIn stateBytes put
-state-again s img l t =
+pub state-first : (s : State) (rest : List ℕ) (l : Line) → Typed s → stateIn (stateBytes (stateWith s l) ++ rest) ≡ s
+unfolding stateIn stateBytes
+state-first s rest l t =
     let q = places (s .faults) in
-    rw (q .first, q .second, q .third, q .fourth, flag-again, codes-again (s .codes) (t .codes), number-again (s .counter) (t .counter), number-again (s .offset) (t .offset), number-again (s .measured) (t .measured))
+    rw (
+      q .first,
+      q .second,
+      q .third,
+      q .fourth,
+      flag-again,
+      codes-again (s .codes) (t .codes),
+      number-again (s .counter) (t .counter),
+      number-again (s .offset) (t .offset),
+      number-again (s .measured) (t .measured),
+    )
+
+state-again : (s : State) (img : List ℕ) (l : Line) → Typed s → stateIn (put img 0 (stateBytes (stateWith s l))) ≡ s
+unfolding put
+state-again s img l t = state-first s _ l t
 
 pub puts-state : (s : State) (img : List ℕ) {row img′ : List ℕ} → Typed s → ((l : Line) → row ≡ stateBytes (stateWith s l)) → img′ ≡ put img 0 row → PutsState s img img′
 puts-state s img t q e =
@@ -151,10 +165,15 @@ frame-again f img h k =
     let at : (j : ℕ) → j < 9 → arg (put img 21 row) (21 + j) ≡ arg row j = λ j l. put-at img 21 row (omega arith) j l in
     rw (at 0 (omega arith), at 1 (omega arith), at 2 (omega arith), at 3 (omega arith), at 4 (omega arith), at 5 (omega arith), at 6 (omega arith), at 7 (omega arith), at 8 (omega arith), flag-again (f .begun), flag-again (f .longer), flag-again (f .parity), number-again (f .last) k)
 
+pub line-row : (f : Frame) (kept : List ℕ) → Fits f kept
+    → lineBytes (lineOf f kept) ≡ frameRow f (flagByte (f .begun)) (flagByte (f .longer)) (flagByte (f .parity))
+unfolding frameRow lineBytes
+line-row f kept fits = rw (length-take-le (f .len) kept (omega (arith, fits .few, fits .all)))
+
 pub puts-frame : (f : Frame) (img : List ℕ) {a b d : ℕ} {row after : List ℕ} → 30 ≤ length img → f .last < 2 ^ 32
     → a ≡ flagByte (f .begun) → b ≡ flagByte (f .longer) → d ≡ flagByte (f .parity) → row ≡ frameRow f a b d
     → after ≡ put (take 9 (drop 21 img)) 0 row → PutsFrame f img (take 21 img ++ (after ++ drop 9 (drop 21 img)))
-unfolding frameRow lineBytes
+unfolding frameRow
 puts-frame f img {a} {b} {d} {row} {after} h k ea eb ed er e =
     let r : row ≡ frameRow f (flagByte (f .begun)) (flagByte (f .longer)) (flagByte (f .parity)) = er ∙ rw (ea, eb, ed) in
     let n : length row ≡ 9 = ap length r in
@@ -162,6 +181,6 @@ puts-frame f img {a} {b} {d} {row} {after} h k ea eb ed er e =
     let w : after ≡ row = e ∙ put-whole (take 9 (drop 21 img)) row (omega arith) in
     let z : take 21 img ++ (after ++ drop 9 (drop 21 img)) ≡ put img 21 row = rw w (lent-part img 21 9 row n) in
     record {
-      image = λ kept fits. z ∙ ap (put img 21) (r ∙ rw (length-take-le (f .len) kept (omega (arith, fits .few, fits .all))));
+      image = λ kept fits. z ∙ ap (put img 21) (r ∙ sym (line-row f kept fits));
       holds = ap frameIn (z ∙ ap (put img 21) r) ∙ frame-again f img h k;
     }
