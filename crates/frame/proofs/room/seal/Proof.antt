@@ -9,43 +9,33 @@ use Rattle.frame.proofs.room.seal.Reads as reads
 use Rattle.frame.proofs.room.seal.Lts as lts
 use Rattle.frame.proofs.sum.xor_from.Reads as xor-from-reads
 
--- src/room.rt:26:15
 add-end : tie.Need-add-end
 add-end c = search needs
 
--- src/room.rt:27:43
 sub-xor-from : tie.Need-sub-xor-from
 sub-xor-from c = search needs
 
--- src/room.rt:27:43
 part-xor-from-start : tie.Need-part-xor-from-start
 part-xor-from-start c = search needs
 
--- src/room.rt:27:43
 part-xor-from-end : tie.Need-part-xor-from-end
 part-xor-from-end c = search needs
 
--- src/room.rt:27:9
 xor-from-requires : tie.Need-xor-from-requires
 xor-from-requires c κs = search needs
 
--- src/room.rt:28:5
 slice-write-room : tie.Need-slice-write-room
 slice-write-room c = search needs
 
--- src/room.rt:29:5
 slice-write-room-2 : tie.Need-slice-write-room-2
 slice-write-room-2 c = simp length-set (omega arith)
 
--- src/room.rt:30:5
 slice-write-room-3 : tie.Need-slice-write-room-3
 slice-write-room-3 c = simp length-set (omega arith)
 
--- src/room.rt:22:1
 same-length : tie.Need-same-length
 same-length c = search needs
 
--- src/room.rt:22:1
 returns : tie.Need-returns
 returns c =
     let a = c .before .before .before .before .args in

@@ -16,31 +16,24 @@ use Rattle.frame.proofs.room.write.Lts as lts
 use Rattle.frame.proofs.room.fill.Reads as fill-reads
 use Rattle.frame.proofs.room.seal.Reads as seal-reads
 
--- src/room.rt:37:16
 sub-fill : tie.Need-sub-fill
 sub-fill c = search needs
 
--- src/room.rt:37:16
 part-fill-start : tie.Need-part-fill-start
 part-fill-start c = search needs
 
--- src/room.rt:37:16
 part-fill-end : tie.Need-part-fill-end
 part-fill-end c = search needs
 
--- src/room.rt:37:5
 fill-requires : tie.Need-fill-requires
 fill-requires c κs = search needs
 
--- src/room.rt:38:5
 seal-requires : tie.Need-seal-requires
 seal-requires c κs = search needs
 
--- src/room.rt:33:1
 same-length : tie.Need-same-length
 same-length c = search needs
 
--- src/room.rt:33:1
 returns : tie.Need-returns
 returns c =
     let u = c .before .before in

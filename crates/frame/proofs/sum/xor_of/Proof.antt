@@ -7,11 +7,9 @@ use Rattle.frame.proofs.sum.xor_of.Reads as reads
 use Rattle.frame.proofs.sum.xor_of.Lts as lts
 use Rattle.frame.proofs.sum.xor_from.Reads as xor-from-reads
 
--- src/sum.rt:20:5
 xor-from-requires : tie.Need-xor-from-requires
 xor-from-requires c κs = search needs
 
--- src/sum.rt:17:1
 returns : tie.Need-returns
 unfolding xorAll
 returns c = c .xor-from .ensures

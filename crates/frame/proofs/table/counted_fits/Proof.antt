@@ -12,23 +12,18 @@ use Rattle.frame.proofs.table.counted_fits.Reads as reads
 use Rattle.frame.proofs.table.counted_fits.Lts as lts
 use Rattle.frame.proofs.table.wide.Reads as wide-reads
 
--- src/table.rt:72:9
 returns : tie.Need-returns
 returns c d x e f = sym (too-few _ d x (rw f (c .if1 .taken)))
 
--- src/table.rt:74:16
 sub-more : tie.Need-sub-more
 sub-more c = search needs
 
--- src/table.rt:76:9
 returns-2 : tie.Need-returns-2
 returns-2 c d x e f = sym (too-many _ d x (rw f (c .before .if1 .left)) (rw f (c .if2 .taken)))
 
--- src/table.rt:78:13
 wide-requires : tie.Need-wide-requires
 wide-requires c κs = search needs
 
--- src/table.rt:68:1
 returns-3 : tie.Need-returns-3
 returns-3 c d x e f =
     let t = c .before .before .before .args in

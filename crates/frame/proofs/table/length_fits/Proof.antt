@@ -7,32 +7,25 @@ use Rattle.frame.proofs.table.length_fits.Reads as reads
 use Rattle.frame.proofs.table.length_fits.Lts as lts
 use Rattle.frame.proofs.table.counted_fits.Reads as counted-fits-reads
 
--- src/table.rt:86:25
 enum-known-wanted : tie.Need-enum-known-wanted
 enum-known-wanted c = search needs
 
--- src/table.rt:87:25
 enum-known-wanted-2 : tie.Need-enum-known-wanted-2
 enum-known-wanted-2 c = search needs
 
--- src/table.rt:87:31
 counted-fits-requires : tie.Need-counted-fits-requires
 counted-fits-requires c κs = search needs
 
--- src/table.rt:88:26
 enum-told : tie.Need-enum-told
 enum-told c = search needs
 
--- src/table.rt:82:1
 returns : tie.Need-returns
 unfolding lengthFits
 returns c d x e f = rw (c .before .wanted .given .1, f)
 
--- src/table.rt:82:1
 returns-2 : tie.Need-returns-2
 returns-2 c d x e f = rw (c .before .before .wanted2 .given .1) (c .counted-fits .ensures d x e f)
 
--- src/table.rt:82:1
 returns-3 : tie.Need-returns-3
 unfolding lengthFits
 returns-3 c d x e f = rw (c .enum-told .given .1)

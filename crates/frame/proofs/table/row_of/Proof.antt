@@ -8,124 +8,97 @@ use Rattle.frame.proofs.table.row_of.Reads as reads
 use Rattle.frame.proofs.table.row_of.Lts as lts
 use Rattle.frame.proofs.table.known_row.Reads as known-row-reads
 
--- src/table.rt:40:17
 known-row-requires : tie.Need-known-row-requires
 known-row-requires c κs = search needs
 
--- src/table.rt:41:17
 known-row-requires-2 : tie.Need-known-row-requires-2
 known-row-requires-2 c κs = search needs
 
--- src/table.rt:42:17
 known-row-requires-3 : tie.Need-known-row-requires-3
 known-row-requires-3 c κs = search needs
 
--- src/table.rt:43:17
 known-row-requires-4 : tie.Need-known-row-requires-4
 known-row-requires-4 c κs = search needs
 
--- src/table.rt:44:17
 known-row-requires-5 : tie.Need-known-row-requires-5
 known-row-requires-5 c κs = search needs
 
--- src/table.rt:45:17
 known-row-requires-6 : tie.Need-known-row-requires-6
 known-row-requires-6 c κs = search needs
 
--- src/table.rt:46:17
 known-row-requires-7 : tie.Need-known-row-requires-7
 known-row-requires-7 c κs = search needs
 
--- src/table.rt:47:17
 known-row-requires-8 : tie.Need-known-row-requires-8
 known-row-requires-8 c κs = search needs
 
--- src/table.rt:48:17
 known-row-requires-9 : tie.Need-known-row-requires-9
 known-row-requires-9 c κs = search needs
 
--- src/table.rt:49:17
 known-row-requires-10 : tie.Need-known-row-requires-10
 known-row-requires-10 c κs = search needs
 
--- src/table.rt:50:17
 known-row-requires-11 : tie.Need-known-row-requires-11
 known-row-requires-11 c κs = search needs
 
--- src/table.rt:51:17
 known-row-requires-12 : tie.Need-known-row-requires-12
 known-row-requires-12 c κs = search needs
 
--- src/table.rt:52:17
 known-row-requires-13 : tie.Need-known-row-requires-13
 known-row-requires-13 c κs = search needs
 
--- src/table.rt:36:1
 returns : tie.Need-returns
 unfolding commandOf row
 returns c = rw (c .before .match .keys1) (c .known-row .ensures)
 
--- src/table.rt:36:1
 returns-2 : tie.Need-returns-2
 unfolding commandOf row
 returns-2 c = rw (c .before .match .keys2) (c .known-row2 .ensures)
 
--- src/table.rt:36:1
 returns-3 : tie.Need-returns-3
 unfolding commandOf row
 returns-3 c = rw (c .before .match .keys3) (c .known-row3 .ensures)
 
--- src/table.rt:36:1
 returns-4 : tie.Need-returns-4
 unfolding commandOf row
 returns-4 c = rw (c .before .match .keys4) (c .known-row4 .ensures)
 
--- src/table.rt:36:1
 returns-5 : tie.Need-returns-5
 unfolding commandOf row
 returns-5 c = rw (c .before .match .keys5) (c .known-row5 .ensures)
 
--- src/table.rt:36:1
 returns-6 : tie.Need-returns-6
 unfolding commandOf row
 returns-6 c = rw (c .before .match .keys6) (c .known-row6 .ensures)
 
--- src/table.rt:36:1
 returns-7 : tie.Need-returns-7
 unfolding commandOf row
 returns-7 c = rw (c .before .match .keys7) (c .known-row7 .ensures)
 
--- src/table.rt:36:1
 returns-8 : tie.Need-returns-8
 unfolding commandOf row
 returns-8 c = rw (c .before .match .keys8) (c .known-row8 .ensures)
 
--- src/table.rt:36:1
 returns-9 : tie.Need-returns-9
 unfolding commandOf row
 returns-9 c = rw (c .before .match .keys9) (c .known-row9 .ensures)
 
--- src/table.rt:36:1
 returns-10 : tie.Need-returns-10
 unfolding commandOf row
 returns-10 c = rw (c .before .match .keys10) (c .known-row10 .ensures)
 
--- src/table.rt:36:1
 returns-11 : tie.Need-returns-11
 unfolding commandOf row
 returns-11 c = rw (c .before .match .keys11) (c .known-row11 .ensures)
 
--- src/table.rt:36:1
 returns-12 : tie.Need-returns-12
 unfolding commandOf row
 returns-12 c = rw (c .before .match .keys12) (c .known-row12 .ensures)
 
--- src/table.rt:36:1
 returns-13 : tie.Need-returns-13
 unfolding commandOf row
 returns-13 c = rw (c .before .match .keys13) (c .known-row13 .ensures)
 
--- src/table.rt:36:1
 returns-14 : tie.Need-returns-14
 unfolding commandOf row
 returns-14 c =
