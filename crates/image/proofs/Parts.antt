@@ -14,7 +14,7 @@ use Rattle.meaning.proofs.Puts.{length-put}
 use Rattle.commands.specs.State.{stateWith}
 use Rattle.line.specs.declared.characters.Frame.{Frame}
 use Rattle.line.specs.Line.{lineOf, Fits, Extends}
-use Rattle.image.specs.Image.{lowFirst, low4, flagByte, flagsOk, isImage, stateIn, frameIn, keptIn, stateBytes, lineBytes, imageOf, heldIn, Lends, Takes, PutsFrame}
+use Rattle.image.specs.Image.{lowFirst, low4, flagByte, flagsOk, isImage, stateIn, frameIn, keptIn, stateBytes, lineBytes, imageOf, heldIn, Takes, PutsFrame}
 use Rattle.image.proofs.Standing.{places, byte-0, byte-1, byte-2, byte-3, flag-back}
 
 -- the state is read from the front alone

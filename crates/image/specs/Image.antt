@@ -97,10 +97,10 @@ pub record PutsFrame (f : Frame) (img img′ : List ℕ) : Type 0 where
   pub image : (kept : List ℕ) → Fits f kept → img′ ≡ put img 21 (lineBytes (lineOf f kept))
   pub holds : frameIn img′ ≡ f
 
--- an image of the right length, and a frame that its places can hold
-pub record Lends (f : Frame) (img : List ℕ) : Type 0 where
-  pub few : f .len ≤ 135
-  pub all : length img ≡ 165
+-- an image with a frame open
+pub record Open (img : List ℕ) : Type 0 where
+  pub image : isImage img ≡ true
+  pub begun : arg img 21 ≡ 1
 
 -- an image is left with the open frame l: its numbers and its kept bytes are new, the places past those and the state's bytes are not
 pub record Takes (l : meaning.Line) (img img′ : List ℕ) : Type 0 where

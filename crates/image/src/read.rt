@@ -40,20 +40,11 @@ fn is_one(byte: u8) -> bool
     byte == 1
 }
 
-// 01, R1: a flag is 0 or 1.
+// 01, R1: a flag is 0 or 1. The four stand side by side and are tested as one word.
 fn flags_ok(locked: u8, begun: u8, longer: u8, parity: u8) -> bool
     ensures { λ r. ⌜ r ≡ flagsOk locked begun longer parity ⌝ }
 {
-    if 1 < locked {
-        return false;
-    }
-    if 1 < begun {
-        return false;
-    }
-    if 1 < longer {
-        return false;
-    }
-    if 1 < parity {
+    if low_first(locked, begun, longer, parity) & 0xFEFEFEFE != 0 {
         return false;
     }
     true

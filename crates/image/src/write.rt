@@ -2,15 +2,21 @@
 ghost use mathlib.Core.Path.{_≡_};
 ghost use Prim.Native.Nat.{_≤_};
 ghost use lib.ListN.{length};
-ghost use Rattle.meaning.specs.Bytes.{pick};
+ghost use mathlib.Core.Bool.{true};
+ghost use mathlib.Core.List.{_∷_, []};
+ghost use Rattle.meaning.specs.Bytes.{pick, put};
 ghost use Rattle.meaning.specs.State.{Line, none};
 ghost use Rattle.meaning.specs.Frames.{more};
 ghost use Rattle.line.specs.Line.{lineOf};
 ghost use Rattle.commands.specs.State.{stateWith};
-ghost use Rattle.image.specs.Image.{flagByte, stateBytes, frameRow, keptIn, Lends, PutsState, PutsFrame, Takes};
+ghost use Rattle.image.specs.Image.{flagByte, low4, isImage, frameIn, keptIn, stateBytes, frameRow, Open, PutsState, PutsFrame, Takes};
+use crate::layout::COUNT;
 use crate::layout::FRAME;
 use crate::layout::KEPT;
 use crate::layout::LENGTH;
+use crate::layout::LONGER;
+use crate::layout::PARITY;
+use crate::layout::SUM;
 use commands::State;
 use line::Frame;
 
@@ -95,11 +101,57 @@ pub fn put_frame(frame: Frame, image: &mut [u8])
     frame::fill(&row, &mut image[FRAME..KEPT]);
 }
 
-// One more character: its byte goes to the next of the image's places, and the frame's numbers follow.
-pub fn take_character(frame: Frame, tick: u32, value: u8, parity: bool, image: &mut [u8])
-    requires { ⌜ Lends frame (now image) ⌝ }
-    ensures { λ _. ⌜ Takes (more (pick (frame .begun) (lineOf frame (keptIn (now (image .entry)))) none) tick value parity) (now (image .entry)) (now (image .exit)) ⌝ }
+// The first character of a frame.
+fn begin(tick: u32, value: u8, parity: bool, image: &mut [u8])
+    requires { ⌜ length (now image) ≡ 165 ⌝ }
+    ensures { λ _. ⌜ Takes (more none tick value parity) (now (image .entry)) (now (image .exit)) ⌝ }
 {
-    let next = frame.with_character(tick, value, parity, &mut image[KEPT..LENGTH]);
-    put_frame(next, image);
+    let first = Frame::none().with_character(tick, value, parity, &mut image[KEPT..LENGTH]);
+    put_frame(first, image);
+}
+
+// Parity fault, stamp and XOR stand side by side.
+fn put_stamp(parity: u8, tick: u32, sum: u8, image: &mut [u8])
+    requires { ⌜ length (now image) ≡ 165 ⌝ }
+    ensures { λ _. ⌜ now (image .exit) ≡ put (now (image .entry)) 23 (parity ∷ low4 tick (sum ∷ [])) ⌝ }
+{
+    let row = [
+        parity,
+        (tick % 256) as u8,
+        (tick / 0x100 % 256) as u8,
+        (tick / 0x10000 % 256) as u8,
+        (tick / 0x1000000 % 256) as u8,
+        sum,
+    ];
+    frame::fill(&row, &mut image[PARITY..COUNT]);
+}
+
+// One more character of an open frame: nothing is written that does not change.
+fn go_on(tick: u32, value: u8, parity: bool, image: &mut [u8])
+    requires { ⌜ Open (now image) ⌝ }
+    ensures { λ _. ⌜ Takes (more (lineOf (frameIn (now (image .entry))) (keptIn (now (image .entry)))) tick value parity) (now (image .entry)) (now (image .exit)) ⌝ }
+{
+    let count = image[COUNT];
+    let sum = image[SUM] ^ value;
+    let faulty = image[PARITY] | flag_byte(parity);
+    put_stamp(faulty, tick, sum, image);
+    if count < 135 {
+        let at = KEPT + count as usize;
+        image[at] = value;
+        image[COUNT] = count + 1;
+        return;
+    }
+    image[LONGER] = 1;
+}
+
+// The next character of the open frame, or the first of a new one, in place.
+pub fn take_character(tick: u32, value: u8, parity: bool, image: &mut [u8])
+    requires { ⌜ isImage (now image) ≡ true ⌝ }
+    ensures { λ _. ⌜ Takes (more (pick (frameIn (now (image .entry)) .begun) (lineOf (frameIn (now (image .entry))) (keptIn (now (image .entry)))) none) tick value parity) (now (image .entry)) (now (image .exit)) ⌝ }
+{
+    if image[FRAME] == 1 {
+        go_on(tick, value, parity, image);
+        return;
+    }
+    begin(tick, value, parity, image);
 }
