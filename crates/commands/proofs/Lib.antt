@@ -4,3 +4,4 @@ mod States
 mod Turns
 pub mod Answering
 mod Ways
+pub mod Same

@@ -69,7 +69,7 @@ at-end : waiting 0 [] ≡ []
 unfolding waiting
 at-end = refl
 
-front : (c : ℕ) (q : List ℕ) → arg (waiting c q) 0 ≡ c
+pub front : (c : ℕ) (q : List ℕ) → arg (waiting c q) 0 ≡ c
 unfolding waiting
 front c [] = go (eqb c 0) refl
   where
@@ -78,7 +78,7 @@ front c [] = go (eqb c 0) refl
     go false e = refl
 front c (x ∷ q) = refl
 
-behind : (c : ℕ) (q : List ℕ) → drop 1 (waiting c q) ≡ q
+pub behind : (c : ℕ) (q : List ℕ) → drop 1 (waiting c q) ≡ q
 unfolding waiting
 behind c [] = go (eqb c 0)
   where
