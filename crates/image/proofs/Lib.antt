@@ -3,3 +3,4 @@ pub mod Standing
 mod Flags
 pub mod Parts
 pub mod Round
+mod Going

@@ -6,7 +6,7 @@ use native.Mathlib.Numerals.{add-one}
 use mathlib.Core.Path.{_≡_, refl, sym, ap, _∙_}
 use mathlib.Core.Bool.{Bool, true, false}
 use mathlib.Core.List.{List, [], _∷_, _++_, append-nil}
-use lib.ListN.{length, getD, take, drop, drop-of-length-le, length-take, length-drop, length-append}
+use lib.ListN.{length, getD, take, drop, drop-of-length-le, length-take, length-drop, length-append, take-append-drop}
 use lib.Seq.{take-all, take-at, drop-at, drop-drop, drop-cons, take-take, take-append-le, getD-take, length-take-le}
 use Rattle.meaning.specs.Bytes.{arg, part, put}
 use Rattle.meaning.specs.State.{Line}
@@ -14,8 +14,8 @@ use Rattle.meaning.proofs.Puts.{length-put}
 use Rattle.commands.specs.State.{stateWith}
 use Rattle.line.specs.declared.characters.Frame.{Frame}
 use Rattle.line.specs.Line.{lineOf, Fits, Extends}
-use Rattle.image.specs.Image.{lowFirst, low4, flagByte, flagsOk, isImage, stateIn, frameIn, keptIn, stateBytes, lineBytes, imageOf, heldIn, Takes, PutsFrame}
-use Rattle.image.proofs.Standing.{places, byte-0, byte-1, byte-2, byte-3, flag-back}
+use Rattle.image.specs.Image.{lowFirst, low4, flagByte, flagsOk, isImage, stateIn, frameIn, keptIn, stateBytes, lineBytes, frameRow, imageOf, heldIn, Takes, PutsFrame}
+use Rattle.image.proofs.Standing.{places, byte-0, byte-1, byte-2, byte-3, flag-back, line-row, frame-again}
 
 -- the state is read from the front alone
 pub state-front : (img : List ℕ) → stateIn (take 21 img) ≡ stateIn img
@@ -86,6 +86,24 @@ takes img l {r} {kept} {img′} all x q =
       holds = rw (q .holds, y) (x .line);
     }
 
+-- an image whose frame's numbers and kept bytes are those of l
+pub takes-of : (img : List ℕ) (l : Line) {f : Frame} {kept img′ : List ℕ} → length img ≡ 165 → f .last < 2 ^ 32
+    → Extends l (keptIn img) f kept → length kept ≡ 135 → img′ ≡ take 21 img ++ (lineBytes l ++ kept) → Takes l img img′
+unfolding put
+takes-of img l {f} {kept} {img′} all k x c e =
+    let front : List ℕ = take 21 img in
+    let nine : List ℕ = lineBytes l in
+    let a : length front ≡ 21 = front-length img all in
+    let b : length nine ≡ 9 = line-length l in
+    let fits : Fits f kept = record { few = x .few; all = c } in
+    let r : nine ≡ frameRow f (flagByte (f .begun)) (flagByte (f .longer)) (flagByte (f .parity)) =
+    sym (ap lineBytes (x .line)) ∙ line-row f kept fits in
+    let w : put (front ++ (nine ++ kept)) 21 nine ≡ front ++ (nine ++ kept) = rw (b, whole-front front nine kept a b c, whole-rest front nine kept a b c) in
+    let g : frameIn img′ ≡ f =
+    ap frameIn (e ∙ sym w ∙ ap (put (front ++ (nine ++ kept)) 21) r) ∙ frame-again f (front ++ (nine ++ kept)) (omega (arith, whole-length front nine kept a b c)) k in
+    let y : keptIn img′ ≡ kept = ap keptIn e ∙ whole-kept front nine kept a b c in
+    record { image = e ∙ ap (λ (z : List ℕ). front ++ (nine ++ z)) (x .bytes); holds = rw (g, y) (x .line) }
+
 -- ---- an image's own bytes, written anew
 cells : List ℕ → ℕ → ℕ → List ℕ
 cells m i zero = []
@@ -95,6 +113,17 @@ cells-are : (m : List ℕ) (i n : ℕ) → i + n ≤ length m → take n (drop i
 unfolding cells
 cells-are m i zero h = refl
 cells-are m i (suc n) h = rw (drop-cons m i 0 (omega arith)) (ap (λ (r : List ℕ). arg m i ∷ r) (cells-are m (suc i) n (omega arith)))
+
+pub parts-joined : (img : List ℕ) → length img ≡ 165 → take 21 img ++ (part img 21 9 ++ keptIn img) ≡ img
+unfolding part
+parts-joined img all =
+    let k : keptIn img ≡ drop 9 (drop 21 img) = take-all 135 (drop 30 img) (rw length-drop (omega arith)) ∙ sym (drop-drop 9 21 img) in
+    rw (k, take-append-drop 9 (drop 21 img)) (take-append-drop 21 img)
+
+pub laid-out : (img : List ℕ) → length img ≡ 165
+    → img ≡ take 21 img ++ (arg img 21 ∷ arg img 22 ∷ arg img 23 ∷ arg img 24 ∷ arg img 25 ∷ arg img 26 ∷ arg img 27 ∷ arg img 28 ∷ arg img 29 ∷ keptIn img)
+unfolding part cells
+laid-out img all = sym (parts-joined img all) ∙ ap (λ (x : List ℕ). take 21 img ++ (x ++ keptIn img)) (cells-are img 21 9 (omega arith))
 
 -- of an image's own bytes
 module _ (img : List ℕ) (all : length img ≡ 165) (small : (i : ℕ) → arg img i < 256) where

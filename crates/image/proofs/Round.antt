@@ -18,7 +18,7 @@ use Rattle.line.specs.Line.{lineOf, Fits}
 use Rattle.line.proofs.Limits.{both-left, both-right}
 use Rattle.image.specs.Image.{flagByte, flagsOk, isImage, stateIn, frameIn, keptIn, heldIn, stateBytes, lineBytes, frameRow, imageOf}
 use Rattle.image.proofs.Standing.{Typed, state-first, frame-again, line-row}
-use Rattle.image.proofs.Parts.{whole-front, whole-rest, whole-kept, whole-length, kept-length, front-length, line-length, state-as-it-was, frame-as-it-was}
+use Rattle.image.proofs.Parts.{whole-front, whole-rest, whole-kept, whole-length, kept-length, front-length, line-length, state-as-it-was, frame-as-it-was, parts-joined}
 
 -- what an image is
 pub record Good (img : List ℕ) : Type 0 where
@@ -54,12 +54,6 @@ good img e =
 pub kept-stays : (kept : List ℕ) (n : ℕ) → n ≤ length kept → put kept 0 (take n kept) ≡ kept
 unfolding put
 kept-stays kept n h = rw (length-take-le n kept h, zero-add) (take-append-drop n kept)
-
-parts-joined : (img : List ℕ) → length img ≡ 165 → take 21 img ++ (part img 21 9 ++ keptIn img) ≡ img
-unfolding part
-parts-joined img all =
-    let k : keptIn img ≡ drop 9 (drop 21 img) = take-all 135 (drop 30 img) (rw length-drop (omega arith)) ∙ sym (drop-drop 9 21 img) in
-    rw (k, take-append-drop 9 (drop 21 img)) (take-append-drop 21 img)
 
 -- an image's own bytes: what it holds is written back as it was
 pub image-as-it-was : (img : List ℕ) → isImage img ≡ true → ((i : ℕ) → arg img i < 256) → imageOf (heldIn img) (keptIn img) ≡ img

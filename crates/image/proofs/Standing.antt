@@ -170,16 +170,21 @@ pub line-row : (f : Frame) (kept : List ℕ) → Fits f kept
 unfolding frameRow lineBytes
 line-row f kept fits = rw (length-take-le (f .len) kept (omega (arith, fits .few, fits .all)))
 
+-- a part that was lent, and filled whole
+pub part-filled : (img : List ℕ) (i n : ℕ) (row : List ℕ) {after : List ℕ} → i + n ≤ length img → length row ≡ n
+    → after ≡ put (take n (drop i img)) 0 row → take i img ++ (after ++ drop n (drop i img)) ≡ put img i row
+part-filled img i n row {after} h l e =
+    let m : length (take n (drop i img)) ≡ n = length-take-le n (drop i img) (rw length-drop (omega arith)) in
+    let w : after ≡ row = e ∙ put-whole (take n (drop i img)) row (omega arith) in
+    rw w (lent-part img i n row l)
+
 pub puts-frame : (f : Frame) (img : List ℕ) {a b d : ℕ} {row after : List ℕ} → 30 ≤ length img → f .last < 2 ^ 32
     → a ≡ flagByte (f .begun) → b ≡ flagByte (f .longer) → d ≡ flagByte (f .parity) → row ≡ frameRow f a b d
     → after ≡ put (take 9 (drop 21 img)) 0 row → PutsFrame f img (take 21 img ++ (after ++ drop 9 (drop 21 img)))
 unfolding frameRow
 puts-frame f img {a} {b} {d} {row} {after} h k ea eb ed er e =
     let r : row ≡ frameRow f (flagByte (f .begun)) (flagByte (f .longer)) (flagByte (f .parity)) = er ∙ rw (ea, eb, ed) in
-    let n : length row ≡ 9 = ap length r in
-    let m : length (take 9 (drop 21 img)) ≡ 9 = length-take-le 9 (drop 21 img) (rw length-drop (omega arith)) in
-    let w : after ≡ row = e ∙ put-whole (take 9 (drop 21 img)) row (omega arith) in
-    let z : take 21 img ++ (after ++ drop 9 (drop 21 img)) ≡ put img 21 row = rw w (lent-part img 21 9 row n) in
+    let z : take 21 img ++ (after ++ drop 9 (drop 21 img)) ≡ put img 21 row = part-filled img 21 9 row h (ap length r) e in
     record {
       image = λ kept fits. z ∙ ap (put img 21) (r ∙ sym (line-row f kept fits));
       holds = ap frameIn (z ∙ ap (put img 21) r) ∙ frame-again f img h k;

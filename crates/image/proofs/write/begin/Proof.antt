@@ -1,3 +1,5 @@
+use denote.Ref.{now}
+use Rattle.image.proofs.Going.{begins, nothing-fits}
 use borrow.Author.Needs.{needs}
 use Rattle.image.proofs.write.begin.Statement.{statement}
 use Rattle.image.proofs.write.begin.Tie as tie
@@ -25,7 +27,7 @@ part-with-character-end c = search needs
 
 -- src/write.rt:109:9
 with-character-requires : tie.Need-with-character-requires
-with-character-requires c κs = ?
+with-character-requires c κs = nothing-fits (now (c .before .before .before .args .image)) (c .before .before .before .pre) (c .before .none .ensures)
 
 -- src/write.rt:110:5
 put-frame-requires : tie.Need-put-frame-requires
@@ -37,7 +39,7 @@ same-length c = search needs
 
 -- src/write.rt:105:1
 returns : tie.Need-returns
-returns c = ?
+returns c = begins (now (c .before .before .before .before .before .before .before .before .before .before .args .image)) _ _ _ (c .before .before .before .before .before .before .before .before .before .before .pre) (c .before .before .before .before .before .before .before .before .none .ensures) (c .before .before .before .before .before .before .with-character .ensures) (c .before .before .put-frame .ensures)
 
 pub begin-spec : {M : Type 1} → statement M
 begin-spec =

@@ -1,3 +1,6 @@
+use mathlib.Core.Path.{refl}
+use denote.Ref.{now}
+use Rattle.image.proofs.Standing.{part-filled}
 use borrow.Author.Needs.{needs}
 use Rattle.image.proofs.write.put_stamp.Statement.{statement}
 use Rattle.image.proofs.write.put_stamp.Tie as tie
@@ -47,7 +50,7 @@ same-length c = search needs
 
 -- src/write.rt:114:1
 returns : tie.Need-returns
-returns c = ?
+returns c = part-filled (now (c .before .before .before .before .before .before .args .image)) 23 6 _ (search needs) refl (c .before .before .fill .ensures)
 
 pub put-stamp-spec : {M : Type 1} → statement M
 put-stamp-spec =
