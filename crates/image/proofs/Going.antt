@@ -137,7 +137,7 @@ module _ (img : List ℕ) (o : Open img) (tick v : ℕ) (bad : Bool) (low : tick
       takes-of img l all low x c (y ∙ sym z)
 
 -- by the image's flag
-module _ (img : List ℕ) (tick v : ℕ) (bad : Bool) {img′ : List ℕ} where
+module _ (img : List ℕ) (tick v : ℕ) (bad : Bool) (img′ : List ℕ) where
   abbrev taken-by : Bool → Type 0
   taken-by t = Takes (more (pick t (lineOf (frameIn img) (keptIn img)) none) tick v bad) img img′
 

@@ -29,7 +29,7 @@ same-length c = search needs
 
 -- src/write.rt:154:9
 returns : tie.Need-returns
-returns c = open-taken _ _ _ _ (c .before .before .before .before .if1 .taken) (c .before .before .go-on .ensures)
+returns c = open-taken _ _ _ _ _ (c .before .before .before .before .if1 .taken) (c .before .before .go-on .ensures)
 
 -- src/write.rt:156:5
 begin-requires : tie.Need-begin-requires
@@ -41,7 +41,7 @@ same-length-2 c = search needs
 
 -- src/write.rt:148:1
 returns-2 : tie.Need-returns-2
-returns-2 c = first-taken _ _ _ _ (c .before .before .before .before .if1 .left) (c .before .before .begin .ensures)
+returns-2 c = first-taken _ _ _ _ _ (c .before .before .before .before .if1 .left) (c .before .before .begin .ensures)
 
 pub take-character-spec : {M : Type 1} → statement M
 take-character-spec =
