@@ -3,3 +3,4 @@ mod Product
 pub mod Kept
 pub mod Judging
 pub mod Limits
+pub mod Tight
