@@ -17,7 +17,7 @@ use Rattle.meaning.proofs.Puts.{length-put}
 use Rattle.line.specs.declared.characters.Frame.{Frame}
 use Rattle.line.specs.Line.{lineOf, noFrame, Fits, Extends}
 use Rattle.line.proofs.Kept.{has-room, has-none}
-use Rattle.image.specs.Image.{low4, flagByte, isImage, frameIn, keptIn, lineBytes, frameRow, Open, Takes, PutsFrame}
+use Rattle.image.specs.Image.{low4, flagByte, isImage, frameIn, keptIn, lineBytes, frameRow, frameBytes, Open, Takes, PutsFrame}
 use Rattle.image.proofs.Standing.{flag-back, line-row}
 use Rattle.image.proofs.Parts.{front-length, kept-length, laid-out, takes, takes-of}
 use Rattle.image.proofs.Round.{Good, good}
@@ -99,7 +99,7 @@ module _ (img : List ℕ) (o : Open img) (tick v : ℕ) (bad : Bool) (low : tick
 
   -- a line that f and the places say, by its bytes
   rows : (l : Line) (f : Frame) (kept : List ℕ) → Extends l (keptIn img) f kept → length kept ≡ 135
-      → lineBytes l ≡ frameRow f (flagByte (f .begun)) (flagByte (f .longer)) (flagByte (f .parity))
+      → lineBytes l ≡ frameBytes f
   rows l f kept x c = sym (ap lineBytes (x .line)) ∙ line-row f kept (record { few = x .few; all = c })
 
   pub goes-on : arg img 29 < 135

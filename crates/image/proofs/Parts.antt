@@ -9,12 +9,13 @@ use mathlib.Core.List.{List, [], _∷_, _++_, append-nil}
 use lib.ListN.{length, getD, take, drop, drop-of-length-le, length-take, length-drop, length-append, take-append-drop}
 use lib.Seq.{take-all, take-at, drop-at, drop-drop, drop-cons, take-take, take-append-le, getD-take, length-take-le}
 use Rattle.meaning.specs.Bytes.{arg, part, put}
-use Rattle.meaning.specs.State.{Line}
+use Rattle.meaning.specs.State.{Line, none}
 use Rattle.meaning.proofs.Puts.{length-put}
+use Rattle.commands.specs.declared.state.State.{State}
 use Rattle.commands.specs.State.{stateWith}
 use Rattle.line.specs.declared.characters.Frame.{Frame}
 use Rattle.line.specs.Line.{lineOf, Fits, Extends}
-use Rattle.image.specs.Image.{lowFirst, low4, flagByte, flagsOk, isImage, stateIn, frameIn, keptIn, stateBytes, lineBytes, frameRow, imageOf, heldIn, Takes, PutsFrame}
+use Rattle.image.specs.Image.{lowFirst, low4, flagByte, flagsOk, isImage, stateIn, frameIn, keptIn, stateBytes, lineBytes, frameRow, frameBytes, imageOf, heldIn, Takes, PutsState, PutsFrame, PutsBoard}
 use Rattle.image.proofs.Standing.{places, byte-0, byte-1, byte-2, byte-3, flag-back, line-row, frame-again}
 
 -- the state is read from the front alone
@@ -78,8 +79,9 @@ takes img l {r} {kept} {img′} all x q =
     let k : length (keptIn img) ≡ 135 = kept-length img all in
     let c : length kept ≡ 135 = ap length (x .bytes) ∙ length-put (keptIn img) 0 (l .kept) (omega arith) ∙ k in
     let n : length (lineBytes l) ≡ 9 = line-length l in
+    let b : frameBytes r ≡ lineBytes l = sym (line-row r kept (record { few = x .few; all = c })) ∙ ap lineBytes (x .line) in
     let w : img′ ≡ take 21 img ++ (lineBytes l ++ kept) =
-    q .image kept (record { few = x .few; all = c }) ∙ ap (λ (y : Line). put (take 30 img ++ (kept ++ drop 135 (drop 30 img))) 21 (lineBytes y)) (x .line) ∙ renewed img all kept (lineBytes l) c n in
+    q .image ∙ ap (put (take 30 img ++ (kept ++ drop 135 (drop 30 img))) 21) b ∙ renewed img all kept (lineBytes l) c n in
     let y : keptIn img′ ≡ kept = ap keptIn w ∙ whole-kept (take 21 img) (lineBytes l) kept (front-length img all) n c in
     record {
       image = w ∙ ap (λ (z : List ℕ). take 21 img ++ (lineBytes l ++ z)) (x .bytes);
@@ -96,13 +98,50 @@ takes-of img l {f} {kept} {img′} all k x c e =
     let a : length front ≡ 21 = front-length img all in
     let b : length nine ≡ 9 = line-length l in
     let fits : Fits f kept = record { few = x .few; all = c } in
-    let r : nine ≡ frameRow f (flagByte (f .begun)) (flagByte (f .longer)) (flagByte (f .parity)) =
+    let r : nine ≡ frameBytes f =
     sym (ap lineBytes (x .line)) ∙ line-row f kept fits in
     let w : put (front ++ (nine ++ kept)) 21 nine ≡ front ++ (nine ++ kept) = rw (b, whole-front front nine kept a b c, whole-rest front nine kept a b c) in
     let g : frameIn img′ ≡ f =
     ap frameIn (e ∙ sym w ∙ ap (put (front ++ (nine ++ kept)) 21) r) ∙ frame-again f (front ++ (nine ++ kept)) (omega (arith, whole-length front nine kept a b c)) k in
     let y : keptIn img′ ≡ kept = ap keptIn e ∙ whole-kept front nine kept a b c in
     record { image = e ∙ ap (λ (z : List ℕ). front ++ (nine ++ z)) (x .bytes); holds = rw (g, y) (x .line) }
+
+pub state-length : (s : State) (l : Line) → length (stateBytes (stateWith s l)) ≡ 21
+unfolding stateBytes
+state-length s l = refl
+
+frame-length : (f : Frame) → length (frameBytes f) ≡ 9
+unfolding frameRow
+frame-length f = refl
+
+put-first : (s : State) (img : List ℕ) (l : Line) {m : List ℕ} → m ≡ put img 0 (stateBytes (stateWith s l)) → m ≡ stateBytes (stateWith s l) ++ drop 21 img
+unfolding put
+put-first s img l e = e ∙ rw (state-length s l)
+
+-- state and numbers are written one after the other
+pub puts-board : (s : State) (f : Frame) (img : List ℕ) {m img′ : List ℕ} → length img ≡ 165 → PutsState s img m → PutsFrame f m img′
+    → PutsBoard s f img img′
+unfolding put
+puts-board s f img {m} {img′} all a b =
+    let k : length (keptIn img) ≡ 135 = kept-length img all in
+    let n : length (frameBytes f) ≡ 9 = frame-length f in
+    let rest : keptIn img ≡ drop 30 img = take-all 135 (drop 30 img) (rw length-drop (omega arith)) in
+    let w : (l : Line) → img′ ≡ stateBytes (stateWith s l) ++ (frameBytes f ++ keptIn img) = λ l.
+    let z : length (stateBytes (stateWith s l)) ≡ 21 = state-length s l in
+    let e : m ≡ stateBytes (stateWith s l) ++ drop 21 img = put-first s img l (a .image l) in
+    let t : take 21 m ≡ stateBytes (stateWith s l) = ap (take 21) e ∙ take-at (stateBytes (stateWith s l)) (drop 21 img) 21 z in
+    let d : drop 30 m ≡ keptIn img =
+    sym (drop-drop 9 21 m) ∙ ap (λ (x : List ℕ). drop 9 (drop 21 x)) e ∙ ap (drop 9) (drop-at (stateBytes (stateWith s l)) (drop 21 img) 21 z) ∙ drop-drop 9 21 img ∙ sym rest in
+    b .image ∙ rw (n, t, d) in
+    let z : length (stateBytes (stateWith s none)) ≡ 21 = state-length s none in
+    let t : take 21 img′ ≡ stateBytes (stateWith s none) = ap (take 21) (w none) ∙ whole-front (stateBytes (stateWith s none)) (frameBytes f) (keptIn img) z n k in
+    let u : take 21 m ≡ stateBytes (stateWith s none) = ap (take 21) (put-first s img none (a .image none)) ∙ take-at (stateBytes (stateWith s none)) (drop 21 img) 21 z in
+    record {
+      image = w;
+      state = same-front img′ m (t ∙ sym u) ∙ a .holds;
+      frame = b .holds;
+      kept = ap keptIn (w none) ∙ whole-kept (stateBytes (stateWith s none)) (frameBytes f) (keptIn img) z n k;
+    }
 
 -- ---- an image's own bytes, written anew
 cells : List ℕ → ℕ → ℕ → List ℕ

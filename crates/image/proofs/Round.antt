@@ -16,9 +16,9 @@ use Rattle.commands.specs.State.{stateWith}
 use Rattle.line.specs.declared.characters.Frame.{Frame}
 use Rattle.line.specs.Line.{lineOf, Fits}
 use Rattle.line.proofs.Limits.{both-left, both-right}
-use Rattle.image.specs.Image.{flagByte, flagsOk, isImage, stateIn, frameIn, keptIn, heldIn, stateBytes, lineBytes, frameRow, imageOf}
+use Rattle.image.specs.Image.{flagByte, flagsOk, isImage, stateIn, frameIn, keptIn, heldIn, stateBytes, lineBytes, frameRow, frameBytes, imageOf}
 use Rattle.image.proofs.Standing.{Typed, state-first, frame-again, line-row}
-use Rattle.image.proofs.Parts.{whole-front, whole-rest, whole-kept, whole-length, kept-length, front-length, line-length, state-as-it-was, frame-as-it-was, parts-joined}
+use Rattle.image.proofs.Parts.{whole-front, whole-rest, whole-kept, whole-length, kept-length, front-length, line-length, state-as-it-was, frame-as-it-was, parts-joined, state-length}
 
 -- what an image is
 pub record Good (img : List ℕ) : Type 0 where
@@ -68,15 +68,8 @@ image-as-it-was img e small =
     let c : put (keptIn img) 0 (take (frameIn img .len) (keptIn img)) ≡ keptIn img = kept-stays (keptIn img) (frameIn img .len) (omega arith) in
     rw (a, b, c) (parts-joined img (g .all))
 
-state-length : (s : State) (l : Line) → length (stateBytes (stateWith s l)) ≡ 21
-unfolding stateBytes
-state-length s l = refl
-
 -- a board of the code's types
 module _ (s : State) (f : Frame) (kept : List ℕ) (t : Typed s) (k : f .last < 2 ^ 32) (fits : Fits f kept) where
-  nine : List ℕ
-  nine = lineBytes (lineOf f kept)
-
   written : imageOf (stateWith s (lineOf f kept)) kept ≡ stateBytes (stateWith s (lineOf f kept)) ++ (lineBytes (lineOf f kept) ++ kept)
   unfolding imageOf
   written = rw (kept-stays kept (f .len) (omega (arith, fits .few, fits .all)))
@@ -96,6 +89,10 @@ module _ (s : State) (f : Frame) (kept : List ℕ) (t : Typed s) (k : f .last < 
       let b : length row ≡ 9 = line-length (lineOf f kept) in
       let w : put (front ++ (row ++ kept)) 21 row ≡ front ++ (row ++ kept) =
       rw (b, whole-front front row kept a b (fits .all), whole-rest front row kept a b (fits .all)) in
-      let r : row ≡ frameRow f (flagByte (f .begun)) (flagByte (f .longer)) (flagByte (f .parity)) = line-row f kept fits in
+      let r : row ≡ frameBytes f = line-row f kept fits in
       ap frameIn (written ∙ sym w ∙ ap (put (front ++ (row ++ kept)) 21) r)
       ∙ frame-again f (front ++ (row ++ kept)) (omega (arith, whole-length front row kept a b (fits .all))) k
+
+-- the 135 places, lent and come back as they were
+pub lent-back : (img : List ℕ) → take 30 img ++ (keptIn img ++ drop 135 (drop 30 img)) ≡ img
+lent-back img = rw (take-append-drop 135 (drop 30 img)) (take-append-drop 30 img)

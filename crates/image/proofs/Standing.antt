@@ -18,7 +18,7 @@ use Rattle.commands.specs.Queue.{waiting, queueOf}
 use Rattle.commands.specs.State.{stateWith}
 use Rattle.line.specs.declared.characters.Frame.{Frame}
 use Rattle.line.specs.Line.{lineOf, Fits}
-use Rattle.image.specs.Image.{lowFirst, low4, flagByte, stateIn, stateBytes, frameIn, lineBytes, frameRow, PutsState, PutsFrame}
+use Rattle.image.specs.Image.{lowFirst, low4, flagByte, stateIn, stateBytes, frameIn, lineBytes, frameRow, frameBytes, PutsState, PutsFrame}
 
 first-place : (c : ℕ) (q : List ℕ) → arg (waiting c q) 0 ≡ c
 unfolding waiting
@@ -158,7 +158,7 @@ unfolding put
 put-whole m bs h = rw (zero-add, drop-of-length-le m h) (append-nil bs)
 
 pub frame-again : (f : Frame) (img : List ℕ) → 30 ≤ length img → f .last < 2 ^ 32
-    → frameIn (put img 21 (frameRow f (flagByte (f .begun)) (flagByte (f .longer)) (flagByte (f .parity)))) ≡ f
+    → frameIn (put img 21 (frameBytes f)) ≡ f
 unfolding frameIn frameRow
 frame-again f img h k =
     let row : List ℕ = flagByte (f .begun) ∷ flagByte (f .longer) ∷ flagByte (f .parity) ∷ low4 (f .last) (f .sum ∷ f .len ∷ []) in
@@ -166,7 +166,7 @@ frame-again f img h k =
     rw (at 0 (omega arith), at 1 (omega arith), at 2 (omega arith), at 3 (omega arith), at 4 (omega arith), at 5 (omega arith), at 6 (omega arith), at 7 (omega arith), at 8 (omega arith), flag-again (f .begun), flag-again (f .longer), flag-again (f .parity), number-again (f .last) k)
 
 pub line-row : (f : Frame) (kept : List ℕ) → Fits f kept
-    → lineBytes (lineOf f kept) ≡ frameRow f (flagByte (f .begun)) (flagByte (f .longer)) (flagByte (f .parity))
+    → lineBytes (lineOf f kept) ≡ frameBytes f
 unfolding frameRow lineBytes
 line-row f kept fits = rw (length-take-le (f .len) kept (omega (arith, fits .few, fits .all)))
 
@@ -183,9 +183,7 @@ pub puts-frame : (f : Frame) (img : List ℕ) {a b d : ℕ} {row after : List �
     → after ≡ put (take 9 (drop 21 img)) 0 row → PutsFrame f img (take 21 img ++ (after ++ drop 9 (drop 21 img)))
 unfolding frameRow
 puts-frame f img {a} {b} {d} {row} {after} h k ea eb ed er e =
-    let r : row ≡ frameRow f (flagByte (f .begun)) (flagByte (f .longer)) (flagByte (f .parity)) = er ∙ rw (ea, eb, ed) in
+    let r : row ≡ frameBytes f = er ∙ rw (ea, eb, ed) in
     let z : take 21 img ++ (after ++ drop 9 (drop 21 img)) ≡ put img 21 row = part-filled img 21 9 row h (ap length r) e in
-    record {
-      image = λ kept fits. z ∙ ap (put img 21) (r ∙ sym (line-row f kept fits));
-      holds = ap frameIn (z ∙ ap (put img 21) r) ∙ frame-again f img h k;
-    }
+    let q : take 21 img ++ (after ++ drop 9 (drop 21 img)) ≡ put img 21 (frameBytes f) = z ∙ ap (put img 21) r in
+    record { image = q; holds = ap frameIn q ∙ frame-again f img h k }

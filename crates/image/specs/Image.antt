@@ -10,7 +10,7 @@ use Rattle.meaning.specs.State as meaning
 use Rattle.commands.specs.declared.state.State.{State}
 use Rattle.commands.specs.State.{stateWith}
 use Rattle.line.specs.declared.characters.Frame.{Frame}
-use Rattle.line.specs.Line.{lineOf, Fits}
+use Rattle.line.specs.Line.{lineOf}
 
 -- numbers stand low byte first
 unfoldable pub lowFirst : ℕ → ℕ → ℕ → ℕ → ℕ
@@ -79,9 +79,12 @@ stateBytes s =
 unfoldable pub lineBytes : meaning.Line → List ℕ
 lineBytes l = flagByte (l .begun) ∷ flagByte (l .longer) ∷ flagByte (l .parity) ∷ low4 (l .last) (l .sum ∷ length (l .kept) ∷ [])
 
--- the same of the code's frame, the flags as bytes
+-- the same of the code's frame
 unfoldable pub frameRow : Frame → ℕ → ℕ → ℕ → List ℕ
 frameRow f begun longer parity = begun ∷ longer ∷ parity ∷ low4 (f .last) (f .sum ∷ f .len ∷ [])
+
+abbrev pub frameBytes : Frame → List ℕ
+frameBytes f = frameRow f (flagByte (f .begun)) (flagByte (f .longer)) (flagByte (f .parity))
 
 -- a state as an image over the 135 places for kept bytes: those past the kept ones stay as they were
 unfoldable pub imageOf : meaning.State → List ℕ → List ℕ
@@ -94,8 +97,15 @@ pub record PutsState (s : State) (img img′ : List ℕ) : Type 0 where
 
 -- a frame's numbers are written over an image's
 pub record PutsFrame (f : Frame) (img img′ : List ℕ) : Type 0 where
-  pub image : (kept : List ℕ) → Fits f kept → img′ ≡ put img 21 (lineBytes (lineOf f kept))
+  pub image : img′ ≡ put img 21 (frameBytes f)
   pub holds : frameIn img′ ≡ f
+
+-- both are; the places stay
+pub record PutsBoard (s : State) (f : Frame) (img img′ : List ℕ) : Type 0 where
+  pub image : (l : meaning.Line) → img′ ≡ stateBytes (stateWith s l) ++ (frameBytes f ++ keptIn img)
+  pub state : stateIn img′ ≡ s
+  pub frame : frameIn img′ ≡ f
+  pub kept : keptIn img′ ≡ keptIn img
 
 -- an image with a frame open
 pub record Open (img : List ℕ) : Type 0 where

@@ -10,6 +10,7 @@ pub use read::frame_in;
 pub use read::is_image;
 pub use read::number_at;
 pub use read::state_in;
+pub use write::put_board;
 pub use write::put_frame;
 pub use write::put_state;
 pub use write::take_character;

@@ -9,7 +9,7 @@ ghost use Rattle.meaning.specs.State.{Line, none};
 ghost use Rattle.meaning.specs.Frames.{more};
 ghost use Rattle.line.specs.Line.{lineOf};
 ghost use Rattle.commands.specs.State.{stateWith};
-ghost use Rattle.image.specs.Image.{flagByte, low4, isImage, frameIn, keptIn, stateBytes, frameRow, Open, PutsState, PutsFrame, Takes};
+ghost use Rattle.image.specs.Image.{flagByte, low4, isImage, frameIn, keptIn, stateBytes, frameRow, Open, PutsState, PutsFrame, PutsBoard, Takes};
 use crate::layout::COUNT;
 use crate::layout::FRAME;
 use crate::layout::KEPT;
@@ -99,6 +99,14 @@ pub fn put_frame(frame: Frame, image: &mut [u8])
     let parity = flag_byte(frame.parity);
     let row = frame_row(frame, begun, longer, parity);
     frame::fill(&row, &mut image[FRAME..KEPT]);
+}
+
+pub fn put_board(state: State, frame: Frame, image: &mut [u8])
+    requires { ⌜ length (now image) ≡ 165 ⌝ }
+    ensures { λ _. ⌜ PutsBoard state frame (now (image .entry)) (now (image .exit)) ⌝ }
+{
+    put_state(state, image);
+    put_frame(frame, image);
 }
 
 // The first character of a frame.
