@@ -3,9 +3,12 @@ mod layout;
 mod read;
 mod write;
 
+pub use layout::COUNTER;
 pub use layout::FRAME;
 pub use layout::KEPT;
 pub use layout::LENGTH;
+pub use layout::OFFSET;
+pub use layout::WAITING;
 pub use read::frame_in;
 pub use read::is_image;
 pub use read::number_at;
