@@ -1,6 +1,6 @@
 -- What the proofs of several functions use, and the laws that callers cite.
 mod Product
-mod Kept
+pub mod Kept
 pub mod Judging
 pub mod Limits
 pub mod Tight

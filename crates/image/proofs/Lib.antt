@@ -1,0 +1,6 @@
+-- What the proofs of several functions use, and the laws that callers cite.
+pub mod Standing
+mod Flags
+pub mod Parts
+pub mod Round
+mod Going

@@ -1,0 +1,98 @@
+-- An image is read and written without loss: of a board of the code's types, and of an image's own bytes. Assumes nothing.
+use Prim.Native.Nat.{ℕ, _+_, _<_, _≤_, _^_}
+use native.Mathlib.Omega.{arith}
+use native.Mathlib.Nat.{zero-add}
+use mathlib.Core.Path.{_≡_, refl, sym, ap, _∙_}
+use mathlib.Core.Bool.{Bool, true}
+use mathlib.Core.List.{List, [], _∷_, _++_}
+use borrow.Author.Tests.{eqb-true, leb-true}
+use lib.Dec.{eqb, leb}
+use lib.ListN.{length, take, drop, take-append-drop, length-append, length-drop}
+use lib.Seq.{take-all, drop-drop, length-take-le}
+use Rattle.meaning.specs.Bytes.{arg, part, put, both}
+use Rattle.meaning.specs.State.{Line}
+use Rattle.commands.specs.declared.state.State.{State}
+use Rattle.commands.specs.State.{stateWith}
+use Rattle.line.specs.declared.characters.Frame.{Frame}
+use Rattle.line.specs.Line.{lineOf, Fits}
+use Rattle.line.proofs.Limits.{both-left, both-right}
+use Rattle.image.specs.Image.{flagByte, flagsOk, isImage, stateIn, frameIn, keptIn, heldIn, stateBytes, lineBytes, frameRow, frameBytes, imageOf}
+use Rattle.image.proofs.Standing.{Typed, state-first, frame-again, line-row}
+use Rattle.image.proofs.Parts.{whole-front, whole-rest, whole-kept, whole-length, kept-length, front-length, line-length, state-as-it-was, frame-as-it-was, parts-joined, state-length}
+
+-- what an image is
+pub record Good (img : List ℕ) : Type 0 where
+  pub all : length img ≡ 165
+  pub locked : arg img 20 ≤ 1
+  pub begun : arg img 21 ≤ 1
+  pub longer : arg img 22 ≤ 1
+  pub parity : arg img 23 ≤ 1
+  pub few : arg img 29 ≤ 135
+
+pub good : (img : List ℕ) → isImage img ≡ true → Good img
+unfolding isImage flagsOk
+good img e =
+    let n : Bool = leb (arg img 29) 135 in
+    let d : Bool = leb (arg img 23) 1 in
+    let c : Bool = both (leb (arg img 22) 1) d in
+    let b : Bool = both (leb (arg img 21) 1) c in
+    let a : Bool = both (leb (arg img 20) 1) b in
+    let r : both a n ≡ true = both-right (eqb (length img) 165) (both a n) e in
+    let f : a ≡ true = both-left a n r in
+    let g : b ≡ true = both-right (leb (arg img 20) 1) b f in
+    let h : c ≡ true = both-right (leb (arg img 21) 1) c g in
+    record {
+      all = eqb-true (length img) 165 (both-left (eqb (length img) 165) (both a n) e);
+      locked = leb-true (arg img 20) 1 (both-left (leb (arg img 20) 1) b f);
+      begun = leb-true (arg img 21) 1 (both-left (leb (arg img 21) 1) c g);
+      longer = leb-true (arg img 22) 1 (both-left (leb (arg img 22) 1) d h);
+      parity = leb-true (arg img 23) 1 (both-right (leb (arg img 22) 1) d h);
+      few = leb-true (arg img 29) 135 (both-right a n r);
+    }
+
+-- the kept bytes put where they stand
+pub kept-stays : (kept : List ℕ) (n : ℕ) → n ≤ length kept → put kept 0 (take n kept) ≡ kept
+unfolding put
+kept-stays kept n h = rw (length-take-le n kept h, zero-add) (take-append-drop n kept)
+
+-- an image's own bytes: what it holds is written back as it was
+pub image-as-it-was : (img : List ℕ) → isImage img ≡ true → ((i : ℕ) → arg img i < 256) → imageOf (heldIn img) (keptIn img) ≡ img
+unfolding imageOf frameIn
+image-as-it-was img e small =
+    let g : Good img = good img e in
+    let k : length (keptIn img) ≡ 135 = kept-length img (g .all) in
+    let a : stateBytes (heldIn img) ≡ take 21 img = state-as-it-was img (g .all) small (g .locked) (lineOf (frameIn img) (keptIn img)) in
+    let b : lineBytes (lineOf (frameIn img) (keptIn img)) ≡ part img 21 9 =
+    frame-as-it-was img (g .all) small (g .begun) (g .longer) (g .parity) (keptIn img) k (g .few) in
+    let n : frameIn img .len ≤ 135 = g .few in
+    let c : put (keptIn img) 0 (take (frameIn img .len) (keptIn img)) ≡ keptIn img = kept-stays (keptIn img) (frameIn img .len) (omega arith) in
+    rw (a, b, c) (parts-joined img (g .all))
+
+-- a board of the code's types
+module _ (s : State) (f : Frame) (kept : List ℕ) (t : Typed s) (k : f .last < 2 ^ 32) (fits : Fits f kept) where
+  written : imageOf (stateWith s (lineOf f kept)) kept ≡ stateBytes (stateWith s (lineOf f kept)) ++ (lineBytes (lineOf f kept) ++ kept)
+  unfolding imageOf
+  written = rw (kept-stays kept (f .len) (omega (arith, fits .few, fits .all)))
+
+  pub state-round-trip : stateIn (imageOf (stateWith s (lineOf f kept)) kept) ≡ s
+  state-round-trip = ap stateIn written ∙ state-first s (lineBytes (lineOf f kept) ++ kept) (lineOf f kept) t
+
+  pub kept-round-trip : keptIn (imageOf (stateWith s (lineOf f kept)) kept) ≡ kept
+  kept-round-trip = ap keptIn written ∙ whole-kept (stateBytes (stateWith s (lineOf f kept))) (lineBytes (lineOf f kept)) kept (state-length s (lineOf f kept)) (line-length (lineOf f kept)) (fits .all)
+
+  pub frame-round-trip : frameIn (imageOf (stateWith s (lineOf f kept)) kept) ≡ f
+  unfolding put
+  frame-round-trip =
+      let front : List ℕ = stateBytes (stateWith s (lineOf f kept)) in
+      let row : List ℕ = lineBytes (lineOf f kept) in
+      let a : length front ≡ 21 = state-length s (lineOf f kept) in
+      let b : length row ≡ 9 = line-length (lineOf f kept) in
+      let w : put (front ++ (row ++ kept)) 21 row ≡ front ++ (row ++ kept) =
+      rw (b, whole-front front row kept a b (fits .all), whole-rest front row kept a b (fits .all)) in
+      let r : row ≡ frameBytes f = line-row f kept fits in
+      ap frameIn (written ∙ sym w ∙ ap (put (front ++ (row ++ kept)) 21) r)
+      ∙ frame-again f (front ++ (row ++ kept)) (omega (arith, whole-length front row kept a b (fits .all))) k
+
+-- the 135 places, lent and come back as they were
+pub lent-back : (img : List ℕ) → take 30 img ++ (keptIn img ++ drop 135 (drop 30 img)) ≡ img
+lent-back img = rw (take-append-drop 135 (drop 30 img)) (take-append-drop 30 img)

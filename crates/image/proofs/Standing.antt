@@ -1,0 +1,189 @@
+-- What stands where in an image: the waiting codes, four-byte numbers and flags, written and read again. Assumes nothing.
+use Prim.Native.Nat.{ℕ, zero, suc, _+_, _*_, _/_, _%_, _<_, _≤_, _^_}
+use native.Mathlib.Omega.{arith}
+use native.Mathlib.Nat.{div-div-eq-div-mul, div-add-mod', mod-eq-of-lt, zero-add}
+use mathlib.Core.Path.{_≡_, refl, sym, ap, _∙_}
+use mathlib.Core.Bool.{Bool, true, false}
+use mathlib.Core.List.{List, [], _∷_, _++_, append-nil}
+use borrow.Author.Tests.{eqb-true}
+use lib.Dec.{eqb}
+use lib.ListN.{length, getD, take, drop, drop-of-length-le, length-drop}
+use lib.Seq.{drop-drop, length-take-le}
+use Rattle.meaning.specs.Bytes.{arg, pick, put}
+use Rattle.meaning.specs.State.{Line, none}
+use Rattle.meaning.proofs.Puts.{put-at}
+use Rattle.commands.specs.declared.faults.Faults.{Faults}
+use Rattle.commands.specs.declared.state.State.{State}
+use Rattle.commands.specs.Queue.{waiting, queueOf}
+use Rattle.commands.specs.State.{stateWith}
+use Rattle.line.specs.declared.characters.Frame.{Frame}
+use Rattle.line.specs.Line.{lineOf, Fits}
+use Rattle.image.specs.Image.{lowFirst, low4, flagByte, stateIn, stateBytes, frameIn, lineBytes, frameRow, frameBytes, PutsState, PutsFrame}
+
+first-place : (c : ℕ) (q : List ℕ) → arg (waiting c q) 0 ≡ c
+unfolding waiting
+first-place c [] = go (eqb c 0) refl
+  where
+    go : (t : Bool) → eqb c 0 ≡ t → arg (pick t [] (c ∷ [])) 0 ≡ c
+    go true e = sym (eqb-true c 0 e)
+    go false e = refl
+first-place c (x ∷ q) = refl
+
+later-place : (c i : ℕ) (q : List ℕ) → arg (waiting c q) (suc i) ≡ arg q i
+unfolding waiting
+later-place c i [] = go (eqb c 0)
+  where
+    go : (t : Bool) → arg (pick t [] (c ∷ [])) (suc i) ≡ arg [] i
+    go true = refl
+    go false = refl
+later-place c i (x ∷ q) = refl
+
+-- the four places of a queue, 00h past its codes
+pub record Places (f : Faults) : Type 0 where
+  pub first : arg (queueOf f) 0 ≡ f .first
+  pub second : arg (queueOf f) 1 ≡ f .second
+  pub third : arg (queueOf f) 2 ≡ f .third
+  pub fourth : arg (queueOf f) 3 ≡ f .fourth
+
+pub places : (f : Faults) → Places f
+unfolding queueOf
+places f =
+    record {
+      first = first-place (f .first) _;
+      second = later-place (f .first) 0 _ ∙ first-place (f .second) _;
+      third = later-place (f .first) 1 _ ∙ later-place (f .second) 0 _ ∙ first-place (f .third) _;
+      fourth = later-place (f .first) 2 _ ∙ later-place (f .second) 1 _ ∙ later-place (f .third) 0 _ ∙ first-place (f .fourth) _;
+    }
+
+-- four bytes and back
+joined : (n a b c r s t : ℕ) → a * 256 + r ≡ n → b * 256 + s ≡ a → c * 256 + t ≡ b → r + 0x100 * s + 0x10000 * t + 0x1000000 * c ≡ n
+joined n a b c r s t e f g = omega arith
+
+pub number-again : (n : ℕ) → n < 2 ^ 32 → lowFirst (n % 256) (n / 0x100 % 256) (n / 0x10000 % 256) (n / 0x1000000 % 256) ≡ n
+unfolding lowFirst
+number-again n h =
+    let e : n / 0x10000 ≡ n / 0x100 / 256 = sym (div-div-eq-div-mul n 256 256) in
+    let f : n / 0x1000000 ≡ n / 0x10000 / 256 = sym (div-div-eq-div-mul n 0x10000 256) in
+    let low : n / 0x1000000 % 256 ≡ n / 0x1000000 = mod-eq-of-lt (omega arith) in
+    rw low
+    (joined n (n / 0x100) (n / 0x10000) (n / 0x1000000) (n % 256) (n / 0x100 % 256) (n / 0x10000 % 256)
+    (div-add-mod' n 256) (ap (λ (x : ℕ). x * 256 + n / 0x100 % 256) e ∙ div-add-mod' (n / 0x100) 256)
+    (ap (λ (x : ℕ). x * 256 + n / 0x10000 % 256) f ∙ div-add-mod' (n / 0x10000) 256))
+
+module _ (a b c d : ℕ) (ha : a < 256) (hb : b < 256) (hc : c < 256) (hd : d < 256) where
+  pub byte-0 : lowFirst a b c d % 256 ≡ a
+  unfolding lowFirst
+  byte-0 = omega arith
+
+  pub byte-1 : lowFirst a b c d / 0x100 % 256 ≡ b
+  unfolding lowFirst
+  byte-1 = omega arith
+
+  pub byte-2 : lowFirst a b c d / 0x10000 % 256 ≡ c
+  unfolding lowFirst
+  byte-2 = omega arith
+
+  pub byte-3 : lowFirst a b c d / 0x1000000 % 256 ≡ d
+  unfolding lowFirst
+  byte-3 = omega arith
+
+pub flag-again : (t : Bool) → eqb (flagByte t) 1 ≡ t
+unfolding flagByte
+flag-again true = refl
+flag-again false = refl
+
+pub flag-back : (b : ℕ) → b ≤ 1 → flagByte (eqb b 1) ≡ b
+unfolding flagByte
+flag-back zero h = refl
+flag-back (suc zero) h = refl
+flag-back (suc (suc b)) h = absurd (omega arith)
+
+codes-again : (l : List ℕ) → length l ≡ 4 → arg l 0 ∷ arg l 1 ∷ arg l 2 ∷ arg l 3 ∷ [] ≡ l
+codes-again [] e = absurd (omega arith)
+codes-again (a ∷ []) e = absurd (omega arith)
+codes-again (a ∷ b ∷ []) e = absurd (omega arith)
+codes-again (a ∷ b ∷ c ∷ []) e = absurd (omega arith)
+codes-again (a ∷ b ∷ c ∷ d ∷ []) e = refl
+codes-again (a ∷ b ∷ c ∷ d ∷ x ∷ l) e = absurd (omega arith)
+
+-- the row of a state, its flag as a byte
+pub state-row : (s : State) (l : Line) {k : ℕ} → k ≡ flagByte (s .faults .locked)
+    → _≡_ {A = List ℕ} (arg (s .codes) 0 ∷ arg (s .codes) 1 ∷ arg (s .codes) 2 ∷ arg (s .codes) 3
+    ∷ low4 (s .counter) (low4 (s .offset) (low4 (s .measured) (s .faults .first ∷ s .faults .second ∷ s .faults .third ∷ s .faults .fourth ∷ k ∷ []))))
+    (stateBytes (stateWith s l))
+unfolding stateBytes
+state-row s l e = let q = places (s .faults) in rw (e, q .first, q .second, q .third, q .fourth)
+
+-- a state within its types is written and read again
+pub record Typed (s : State) : Type 0 where
+  pub codes : length (s .codes) ≡ 4
+  pub counter : s .counter < 2 ^ 32
+  pub offset : s .offset < 2 ^ 32
+  pub measured : s .measured < 2 ^ 32
+
+pub state-first : (s : State) (rest : List ℕ) (l : Line) → Typed s → stateIn (stateBytes (stateWith s l) ++ rest) ≡ s
+unfolding stateIn stateBytes
+state-first s rest l t =
+    let q = places (s .faults) in
+    rw (
+      q .first,
+      q .second,
+      q .third,
+      q .fourth,
+      flag-again,
+      codes-again (s .codes) (t .codes),
+      number-again (s .counter) (t .counter),
+      number-again (s .offset) (t .offset),
+      number-again (s .measured) (t .measured),
+    )
+
+state-again : (s : State) (img : List ℕ) (l : Line) → Typed s → stateIn (put img 0 (stateBytes (stateWith s l))) ≡ s
+unfolding put
+state-again s img l t = state-first s _ l t
+
+pub puts-state : (s : State) (img : List ℕ) {row img′ : List ℕ} → Typed s → ((l : Line) → row ≡ stateBytes (stateWith s l)) → img′ ≡ put img 0 row → PutsState s img img′
+puts-state s img t q e =
+    record {
+      image = λ l. e ∙ ap (put img 0) (q l);
+      holds = ap stateIn (e ∙ ap (put img 0) (q none)) ∙ state-again s img none t;
+    }
+
+-- a part that was lent and comes back whole
+pub lent-part : (xs : List ℕ) (i n : ℕ) (ys : List ℕ) → length ys ≡ n → take i xs ++ (ys ++ drop n (drop i xs)) ≡ put xs i ys
+unfolding put
+lent-part xs i n ys e = rw (e, drop-drop n i xs)
+
+pub put-whole : (m bs : List ℕ) → length m ≤ length bs → put m 0 bs ≡ bs
+unfolding put
+put-whole m bs h = rw (zero-add, drop-of-length-le m h) (append-nil bs)
+
+pub frame-again : (f : Frame) (img : List ℕ) → 30 ≤ length img → f .last < 2 ^ 32
+    → frameIn (put img 21 (frameBytes f)) ≡ f
+unfolding frameIn frameRow
+frame-again f img h k =
+    let row : List ℕ = flagByte (f .begun) ∷ flagByte (f .longer) ∷ flagByte (f .parity) ∷ low4 (f .last) (f .sum ∷ f .len ∷ []) in
+    let at : (j : ℕ) → j < 9 → arg (put img 21 row) (21 + j) ≡ arg row j = λ j l. put-at img 21 row (omega arith) j l in
+    rw (at 0 (omega arith), at 1 (omega arith), at 2 (omega arith), at 3 (omega arith), at 4 (omega arith), at 5 (omega arith), at 6 (omega arith), at 7 (omega arith), at 8 (omega arith), flag-again (f .begun), flag-again (f .longer), flag-again (f .parity), number-again (f .last) k)
+
+pub line-row : (f : Frame) (kept : List ℕ) → Fits f kept
+    → lineBytes (lineOf f kept) ≡ frameBytes f
+unfolding frameRow lineBytes
+line-row f kept fits = rw (length-take-le (f .len) kept (omega (arith, fits .few, fits .all)))
+
+-- a part that was lent, and filled whole
+pub part-filled : (img : List ℕ) (i n : ℕ) (row : List ℕ) {after : List ℕ} → i + n ≤ length img → length row ≡ n
+    → after ≡ put (take n (drop i img)) 0 row → take i img ++ (after ++ drop n (drop i img)) ≡ put img i row
+part-filled img i n row {after} h l e =
+    let m : length (take n (drop i img)) ≡ n = length-take-le n (drop i img) (rw length-drop (omega arith)) in
+    let w : after ≡ row = e ∙ put-whole (take n (drop i img)) row (omega arith) in
+    rw w (lent-part img i n row l)
+
+pub puts-frame : (f : Frame) (img : List ℕ) {a b d : ℕ} {row after : List ℕ} → 30 ≤ length img → f .last < 2 ^ 32
+    → a ≡ flagByte (f .begun) → b ≡ flagByte (f .longer) → d ≡ flagByte (f .parity) → row ≡ frameRow f a b d
+    → after ≡ put (take 9 (drop 21 img)) 0 row → PutsFrame f img (take 21 img ++ (after ++ drop 9 (drop 21 img)))
+unfolding frameRow
+puts-frame f img {a} {b} {d} {row} {after} h k ea eb ed er e =
+    let r : row ≡ frameBytes f = er ∙ rw (ea, eb, ed) in
+    let z : take 21 img ++ (after ++ drop 9 (drop 21 img)) ≡ put img 21 row = part-filled img 21 9 row h (ap length r) e in
+    let q : take 21 img ++ (after ++ drop 9 (drop 21 img)) ≡ put img 21 (frameBytes f) = z ∙ ap (put img 21) r in
+    record { image = q; holds = ap frameIn q ∙ frame-again f img h k }

@@ -1,0 +1,56 @@
+use mathlib.Core.Path.{_≡_}
+use native.Mathlib.Omega.{arith}
+use denote.Ref.{now}
+use lib.ListN.{length}
+use Rattle.image.proofs.Round.{good}
+use Rattle.image.proofs.Going.{open-taken, first-taken}
+use borrow.Author.Needs.{needs}
+use Rattle.image.proofs.write.take_character.Statement.{statement}
+use Rattle.image.proofs.write.take_character.Tie as tie
+use Rattle.image.proofs.write.take_character.Reads as reads
+use Rattle.image.proofs.write.take_character.Lts as lts
+use Rattle.image.proofs.write.begin.Reads as begin-reads
+use Rattle.image.proofs.write.go_on.Reads as go-on-reads
+
+long : (c : tie.Start) → length (now (c .args .image)) ≡ 165
+long c = (good (now (c .args .image)) (c .pre)) .all
+
+-- src/write.rt:152:8
+slice-read-if1 : tie.Need-slice-read-if1
+slice-read-if1 c = omega (arith, long (c .before .before))
+
+-- src/write.rt:153:9
+go-on-requires : tie.Need-go-on-requires
+go-on-requires c κs = search needs
+
+-- src/write.rt:154:9
+same-length : tie.Need-same-length
+same-length c = search needs
+
+-- src/write.rt:154:9
+returns : tie.Need-returns
+returns c = open-taken _ _ _ _ _ (c .before .before .before .before .if1 .taken) (c .before .before .go-on .ensures)
+
+-- src/write.rt:156:5
+begin-requires : tie.Need-begin-requires
+begin-requires c κs = long (c .before .before .before .before)
+
+-- src/write.rt:148:1
+same-length-2 : tie.Need-same-length-2
+same-length-2 c = search needs
+
+-- src/write.rt:148:1
+returns-2 : tie.Need-returns-2
+returns-2 c = first-taken _ _ _ _ _ (c .before .before .before .before .if1 .left) (c .before .before .begin .ensures)
+
+pub take-character-spec : {M : Type 1} → statement M
+take-character-spec =
+    tie.close
+    (tie.spec
+    slice-read-if1
+    go-on-requires
+    same-length
+    returns
+    begin-requires
+    same-length-2
+    returns-2)

@@ -1,0 +1,107 @@
+// What an image holds: its state and its open frame's numbers. The kept bytes stay where they are and are lent on.
+ghost use mathlib.Core.Path.{_≡_};
+ghost use Prim.Native.Nat.{_+_, _≤_};
+ghost use lib.Dec.{eqb};
+ghost use lib.ListN.{length};
+ghost use Rattle.image.specs.Image.{lowFirst, numberAt, stateIn, frameIn, isImage, flagsOk};
+use crate::layout::CODES;
+use crate::layout::COUNT;
+use crate::layout::COUNTER;
+use crate::layout::FRAME;
+use crate::layout::LAST;
+use crate::layout::LENGTH;
+use crate::layout::LOCKED;
+use crate::layout::LONGER;
+use crate::layout::MEASURED;
+use crate::layout::OFFSET;
+use crate::layout::PARITY;
+use crate::layout::SUM;
+use crate::layout::WAITING;
+use commands::Faults;
+use commands::State;
+use line::Frame;
+
+fn low_first(a: u8, b: u8, c: u8, d: u8) -> u32
+    ensures { λ r. ⌜ r ≡ lowFirst a b c d ⌝ }
+{
+    a as u32 + 0x100 * (b as u32) + 0x10000 * (c as u32) + 0x1000000 * (d as u32)
+}
+
+pub fn number_at(image: &[u8], at: usize) -> u32
+    requires { ⌜ at + 4 ≤ length (now image) ⌝ }
+    ensures { λ r. ⌜ r ≡ numberAt (now (image .entry)) at ⌝ }
+{
+    low_first(image[at], image[at + 1], image[at + 2], image[at + 3])
+}
+
+fn is_one(byte: u8) -> bool
+    ensures { λ r. ⌜ r ≡ eqb byte 1 ⌝ }
+{
+    byte == 1
+}
+
+// 01, R1: a flag is 0 or 1. The four stand side by side and are tested as one word.
+fn flags_ok(locked: u8, begun: u8, longer: u8, parity: u8) -> bool
+    ensures { λ r. ⌜ r ≡ flagsOk locked begun longer parity ⌝ }
+{
+    if low_first(locked, begun, longer, parity) & 0xFEFEFEFE != 0 {
+        return false;
+    }
+    true
+}
+
+// 01, R1, of what an image may hold and the board's own state may not.
+pub fn is_image(image: &[u8]) -> bool
+    ensures { λ r. ⌜ r ≡ isImage (now (image .entry)) ⌝ }
+{
+    if image.len() != LENGTH {
+        return false;
+    }
+    if !flags_ok(image[LOCKED], image[FRAME], image[LONGER], image[PARITY]) {
+        return false;
+    }
+    if 135 < image[COUNT] {
+        return false;
+    }
+    true
+}
+
+pub fn state_in(image: &[u8]) -> State
+    requires { ⌜ 165 ≤ length (now image) ⌝ }
+    ensures { λ r. ⌜ r ≡ stateIn (now (image .entry)) ⌝ }
+{
+    let codes = [
+        image[CODES],
+        image[CODES + 1],
+        image[CODES + 2],
+        image[CODES + 3],
+    ];
+    let faults = Faults {
+        first: image[WAITING],
+        second: image[WAITING + 1],
+        third: image[WAITING + 2],
+        fourth: image[WAITING + 3],
+        locked: is_one(image[LOCKED]),
+    };
+    State {
+        codes: codes,
+        counter: number_at(image, COUNTER),
+        offset: number_at(image, OFFSET),
+        measured: number_at(image, MEASURED),
+        faults: faults,
+    }
+}
+
+pub fn frame_in(image: &[u8]) -> Frame
+    requires { ⌜ 165 ≤ length (now image) ⌝ }
+    ensures { λ r. ⌜ r ≡ frameIn (now (image .entry)) ⌝ }
+{
+    Frame {
+        begun: is_one(image[FRAME]),
+        last: number_at(image, LAST),
+        len: image[COUNT],
+        sum: image[SUM],
+        longer: is_one(image[LONGER]),
+        parity: is_one(image[PARITY]),
+    }
+}

@@ -1,0 +1,165 @@
+// A state, or the open frame's numbers, written over those of an image; every other byte stays.
+ghost use mathlib.Core.Path.{_≡_};
+ghost use Prim.Native.Nat.{_≤_};
+ghost use lib.ListN.{length};
+ghost use mathlib.Core.Bool.{true};
+ghost use mathlib.Core.List.{_∷_, []};
+ghost use Rattle.meaning.specs.Bytes.{pick, put};
+ghost use Rattle.meaning.specs.State.{Line, none};
+ghost use Rattle.meaning.specs.Frames.{more};
+ghost use Rattle.line.specs.Line.{lineOf};
+ghost use Rattle.commands.specs.State.{stateWith};
+ghost use Rattle.image.specs.Image.{flagByte, low4, isImage, frameIn, keptIn, stateBytes, frameRow, Open, PutsState, PutsFrame, PutsBoard, Takes};
+use crate::layout::COUNT;
+use crate::layout::FRAME;
+use crate::layout::KEPT;
+use crate::layout::LENGTH;
+use crate::layout::LONGER;
+use crate::layout::PARITY;
+use crate::layout::SUM;
+use commands::State;
+use line::Frame;
+
+fn flag_byte(on: bool) -> u8
+    ensures { λ r. ⌜ r ≡ flagByte on ⌝ }
+{
+    if on {
+        return 1;
+    }
+    0
+}
+
+fn state_row(state: State, locked: u8) -> [u8; 21]
+    requires { ⌜ locked ≡ flagByte (state .faults .locked) ⌝ }
+    ensures { λ r. ⌜ ((l : Line) → r ≡ stateBytes (stateWith state l)) ⌝ }
+{
+    let codes = state.codes;
+    let faults = state.faults;
+    let counter = state.counter;
+    let offset = state.offset;
+    let measured = state.measured;
+    [
+        codes[0],
+        codes[1],
+        codes[2],
+        codes[3],
+        (counter % 256) as u8,
+        (counter / 0x100 % 256) as u8,
+        (counter / 0x10000 % 256) as u8,
+        (counter / 0x1000000 % 256) as u8,
+        (offset % 256) as u8,
+        (offset / 0x100 % 256) as u8,
+        (offset / 0x10000 % 256) as u8,
+        (offset / 0x1000000 % 256) as u8,
+        (measured % 256) as u8,
+        (measured / 0x100 % 256) as u8,
+        (measured / 0x10000 % 256) as u8,
+        (measured / 0x1000000 % 256) as u8,
+        faults.first,
+        faults.second,
+        faults.third,
+        faults.fourth,
+        locked,
+    ]
+}
+
+// The flags come as bytes.
+fn frame_row(frame: Frame, begun: u8, longer: u8, parity: u8) -> [u8; 9]
+    ensures { λ r. ⌜ r ≡ frameRow frame begun longer parity ⌝ }
+{
+    let last = frame.last;
+    [
+        begun,
+        longer,
+        parity,
+        (last % 256) as u8,
+        (last / 0x100 % 256) as u8,
+        (last / 0x10000 % 256) as u8,
+        (last / 0x1000000 % 256) as u8,
+        frame.sum,
+        frame.len,
+    ]
+}
+
+pub fn put_state(state: State, image: &mut [u8])
+    requires { ⌜ 21 ≤ length (now image) ⌝ }
+    ensures { λ _. ⌜ PutsState state (now (image .entry)) (now (image .exit)) ⌝ }
+{
+    let faults = state.faults;
+    let row = state_row(state, flag_byte(faults.locked));
+    frame::fill(&row, image);
+}
+
+pub fn put_frame(frame: Frame, image: &mut [u8])
+    requires { ⌜ 30 ≤ length (now image) ⌝ }
+    ensures { λ _. ⌜ PutsFrame frame (now (image .entry)) (now (image .exit)) ⌝ }
+{
+    let begun = flag_byte(frame.begun);
+    let longer = flag_byte(frame.longer);
+    let parity = flag_byte(frame.parity);
+    let row = frame_row(frame, begun, longer, parity);
+    frame::fill(&row, &mut image[FRAME..KEPT]);
+}
+
+pub fn put_board(state: State, frame: Frame, image: &mut [u8])
+    requires { ⌜ length (now image) ≡ 165 ⌝ }
+    ensures { λ _. ⌜ PutsBoard state frame (now (image .entry)) (now (image .exit)) ⌝ }
+{
+    put_state(state, image);
+    put_frame(frame, image);
+}
+
+// The first character of a frame.
+fn begin(tick: u32, value: u8, parity: bool, image: &mut [u8])
+    requires { ⌜ length (now image) ≡ 165 ⌝ }
+    ensures { λ _. ⌜ Takes (more none tick value parity) (now (image .entry)) (now (image .exit)) ⌝ }
+{
+    let first = Frame::none().with_character(tick, value, parity, &mut image[KEPT..LENGTH]);
+    put_frame(first, image);
+}
+
+// Parity fault, stamp and XOR stand side by side.
+fn put_stamp(parity: u8, tick: u32, sum: u8, image: &mut [u8])
+    requires { ⌜ length (now image) ≡ 165 ⌝ }
+    ensures { λ _. ⌜ now (image .exit) ≡ put (now (image .entry)) 23 (parity ∷ low4 tick (sum ∷ [])) ⌝ }
+{
+    let row = [
+        parity,
+        (tick % 256) as u8,
+        (tick / 0x100 % 256) as u8,
+        (tick / 0x10000 % 256) as u8,
+        (tick / 0x1000000 % 256) as u8,
+        sum,
+    ];
+    frame::fill(&row, &mut image[PARITY..COUNT]);
+}
+
+// One more character of an open frame: nothing is written that does not change.
+fn go_on(tick: u32, value: u8, parity: bool, image: &mut [u8])
+    requires { ⌜ Open (now image) ⌝ }
+    ensures { λ _. ⌜ Takes (more (lineOf (frameIn (now (image .entry))) (keptIn (now (image .entry)))) tick value parity) (now (image .entry)) (now (image .exit)) ⌝ }
+{
+    let count = image[COUNT];
+    let sum = image[SUM] ^ value;
+    let faulty = image[PARITY] | flag_byte(parity);
+    put_stamp(faulty, tick, sum, image);
+    if count < 135 {
+        let at = KEPT + count as usize;
+        image[at] = value;
+        image[COUNT] = count + 1;
+        return;
+    }
+    image[LONGER] = 1;
+}
+
+// The next character of the open frame, or the first of a new one, in place.
+pub fn take_character(tick: u32, value: u8, parity: bool, image: &mut [u8])
+    requires { ⌜ isImage (now image) ≡ true ⌝ }
+    ensures { λ _. ⌜ Takes (more (pick (frameIn (now (image .entry)) .begun) (lineOf (frameIn (now (image .entry))) (keptIn (now (image .entry)))) none) tick value parity) (now (image .entry)) (now (image .exit)) ⌝ }
+{
+    if image[FRAME] == 1 {
+        go_on(tick, value, parity, image);
+        return;
+    }
+    begin(tick, value, parity, image);
+}

@@ -1,0 +1,19 @@
+-- The board's outcome, case by case, as the number for C and the image. Assumes nothing.
+use Prim.Native.Nat.{ℕ, _+_}
+use mathlib.Core.Path.{_≡_, refl, sym, ap, _∙_, subst}
+use mathlib.Core.List.{List}
+use Rattle.board.specs.declared.limits.Outcome.{Outcome}
+use Rattle.board.specs.declared.limits.Outcome.the-variants.{Refused, Still, Over}
+use Rattle.board.specs.declared.limits.Stepped.{Stepped}
+use Rattle.image.specs.Image.{PutsBoard}
+use Rattle.quicksetter.specs.Calls.{outcomeNumber, LeftBy, Finishes}
+
+module _ (t : Stepped) (img : List ℕ) where
+  pub left-alone : {n : ℕ} → t .outcome ≡ Refused n → Finishes t img (256 + n) img
+  left-alone {n} e = record { answer = sym (ap outcomeNumber e); left = subst (λ (x : Outcome). LeftBy x (t .board) img img) (sym e) refl }
+
+  pub written-still : {img′ : List ℕ} → t .outcome ≡ Still → PutsBoard (t .board .state) (t .board .frame) img img′ → Finishes t img 0 img′
+  written-still {img′} e q = record { answer = sym (ap outcomeNumber e); left = subst (λ (x : Outcome). LeftBy x (t .board) img img′) (sym e) q }
+
+  pub written-over : {n : ℕ} {img′ : List ℕ} → t .outcome ≡ Over n → PutsBoard (t .board .state) (t .board .frame) img img′ → Finishes t img n img′
+  written-over {n} {img′} e q = record { answer = sym (ap outcomeNumber e); left = subst (λ (x : Outcome). LeftBy x (t .board) img img′) (sym e) q }

@@ -1,0 +1,70 @@
+-- A fresh image. Assumes nothing.
+use Prim.Native.Nat.{ℕ, _+_, _≤_}
+use native.Mathlib.Omega.{arith}
+use mathlib.Core.Path.{_≡_, refl, sym, ap, _∙_}
+use mathlib.Core.Bool.{Bool, true, false}
+use mathlib.Core.List.{List, [], _++_}
+use borrow.Author.Tests.{eq-eqb, ne-eqb}
+use lib.Dec.{eqb}
+use lib.ListN.{length, take, drop, length-replicate}
+use lib.Seq.{take-at, drop-at, length-take-le}
+use Rattle.meaning.specs.Bytes.{pick, put, zeros}
+use Rattle.meaning.specs.State as meaning
+use Rattle.meaning.specs.State.{Plate, none, plateOk, fresh}
+use Rattle.commands.specs.declared.state.State.{State}
+use Rattle.commands.specs.State.{stateWith}
+use Rattle.commands.specs.Queue.{queueOf, waiting}
+use Rattle.commands.proofs.Answering.{put-nothing}
+use Rattle.line.specs.declared.characters.Frame.{Frame}
+use Rattle.line.specs.Line.{lineOf, noFrame}
+use Rattle.image.specs.Image.{lowFirst, flagByte, stateIn, frameIn, keptIn, heldIn, stateBytes, lineBytes, frameRow, frameBytes, imageOf, PutsBoard}
+use Rattle.image.proofs.Standing.{part-filled, put-whole}
+use Rattle.image.proofs.Parts.{kept-length}
+use Rattle.quicksetter.specs.Calls.{freshOk, Freshens}
+
+module _ (p : Plate) (img : List ℕ) where
+  pub no-plate : plateOk p ≡ false → Freshens p img 257 img
+  unfolding freshOk
+  no-plate e = record { answer = rw e; image = rw e }
+
+  pub no-length : plateOk p ≡ true → (length img ≡ 165 → ⊥) → Freshens p img 257 img
+  unfolding freshOk
+  no-length e n = let z : eqb (length img) 165 ≡ false = ne-eqb _ _ n in record { answer = rw (e, z); image = rw (e, z) }
+
+  nothing-open : frameBytes noFrame ≡ lineBytes none
+  unfolding frameRow lineBytes none flagByte
+  nothing-open = refl
+
+  fresh-line : (fresh p) .line ≡ none
+  unfolding fresh
+  fresh-line = refl
+
+  nothing-kept : put (zeros 135) 0 (none .kept) ≡ zeros 135
+  unfolding none
+  nothing-kept = sym (put-nothing (zeros 135) 0)
+
+  nothing-long : length (zeros 135) ≡ 135
+  nothing-long = length-replicate {A = ℕ} 135 0
+
+  pub freshened : {s : State} {f : Frame} {after img′ : List ℕ} → plateOk p ≡ true → length img ≡ 165
+      → after ≡ put (take 135 (drop 30 img)) 0 (zeros 135) → ((q : Plate) → stateWith s none ≡ fresh q) → f ≡ noFrame
+      → PutsBoard s f (take 30 img ++ (after ++ drop 135 (drop 30 img))) img′ → Freshens p img 0 img′
+  unfolding freshOk imageOf
+  freshened {s} {f} {after} {img′} e all a b c d =
+      let z : eqb (length img) 165 ≡ true = eq-eqb _ _ all in
+      let k : length (take 135 (drop 30 img)) ≡ 135 = kept-length img all in
+      let w : after ≡ zeros 135 = a ∙ put-whole (take 135 (drop 30 img)) (zeros 135) (omega (arith, nothing-long)) in
+      let y : keptIn (take 30 img ++ (zeros 135 ++ drop 135 (drop 30 img))) ≡ zeros 135 =
+      ap (take 135) (drop-at (take 30 img) (zeros 135 ++ drop 135 (drop 30 img)) 30 (length-take-le 30 img (omega arith)))
+      ∙ take-at (zeros 135) (drop 135 (drop 30 img)) 135 nothing-long in
+      let x : keptIn (take 30 img ++ (after ++ drop 135 (drop 30 img))) ≡ zeros 135 = rw w y in
+      let n : put (zeros 135) 0 (none .kept) ≡ zeros 135 = nothing-kept in
+      let i : img′ ≡ stateBytes (stateWith s none) ++ (frameBytes f ++ zeros 135) = d .image none ∙ ap (λ (v : List ℕ). stateBytes (stateWith s none) ++ (frameBytes f ++ v)) x in
+      let j : stateBytes (stateWith s none) ++ (frameBytes f ++ zeros 135) ≡ stateBytes (fresh p) ++ (lineBytes none ++ zeros 135) = rw (b p, c, nothing-open) in
+      let l : stateBytes (fresh p) ++ (lineBytes ((fresh p) .line) ++ put (zeros 135) 0 ((fresh p) .line .kept)) ≡ stateBytes (fresh p) ++ (lineBytes none ++ zeros 135) = rw (fresh-line, n) in
+      record { answer = rw (e, z); image = rw (e, z) (i ∙ j ∙ sym l) }
+
+-- what it holds is the fresh state
+pub fresh-holds : (p : Plate) → heldIn (imageOf (fresh p) (zeros 135)) ≡ fresh p
+unfolding imageOf stateBytes lineBytes fresh none flagByte put stateIn frameIn lowFirst queueOf waiting
+fresh-holds p = refl

@@ -1,0 +1,222 @@
+-- What a call leaves: what is no image; the board's call, written back; a character that is taken in place. Assumes nothing.
+use Prim.Native.Nat.{ℕ, _+_, _<_, _≤_, _^_}
+use native.Mathlib.Omega.{arith}
+use mathlib.Core.Path.{_≡_, refl, sym, ap, _∙_, subst}
+use mathlib.Core.Bool.{Bool, true, false, false≢true}
+use mathlib.Core.List.{List, [], _∷_, _++_}
+use borrow.Author.Tests.{eq-eqb, ne-eqb, le-leb, eqb-true}
+use lib.Dec.{eqb, leb}
+use lib.ListN.{length, take, drop, length-take}
+use lib.Seq.{take-at, drop-at, length-take-le}
+use Rattle.meaning.specs.Bytes.{pick, put, arg}
+use Rattle.meaning.specs.State as meaning
+use Rattle.meaning.specs.State.{Plate, Line, none, withLine}
+use Rattle.meaning.specs.Frames.{Outcome, over, more, taken, still, upTo}
+use Rattle.meaning.specs.Run.{Call, character, poll, measured, fault, power-on, Held, step, called, closes, refusedBy}
+use Rattle.meaning.proofs.Puts.{length-put}
+use Rattle.line.specs.declared.characters.Frame.{Frame}
+use Rattle.line.specs.Line.{lineOf, Fits}
+use Rattle.commands.specs.declared.state.State.{State}
+use Rattle.commands.specs.State.{stateWith}
+use Rattle.commands.proofs.Answering.{put-nothing}
+use Rattle.board.specs.declared.limits.Board.{Board}
+use Rattle.board.specs.declared.limits.Outcome as code
+use Rattle.board.specs.declared.limits.Outcome.the-variants.{Refused, Still, Over}
+use Rattle.board.specs.declared.limits.Stepped.{Stepped}
+use Rattle.board.specs.Board.{stateOf, fitsIn, calledOn, outcomeOf, Steps}
+use Rattle.image.specs.Image.{isImage, stateIn, frameIn, keptIn, heldIn, stateBytes, lineBytes, frameBytes, imageOf, Takes, PutsBoard}
+use Rattle.image.proofs.Standing.{line-row}
+use Rattle.image.proofs.Parts.{kept-length, front-length, line-length, state-as-it-was, same-front, whole-front}
+use Rattle.image.proofs.Round.{good, kept-stays, lent-back}
+use Rattle.quicksetter.specs.Calls.{callOf, calledBy, numberOf, imageAfter, Called, outcomeNumber, LeftBy, Finishes}
+
+abbrev boardIn : List ℕ → Board
+boardIn img = record { state = stateIn img; frame = frameIn img }
+
+-- a call that closes no frame brings no reply
+silent : (p : Plate) (s : meaning.State) (m : List ℕ) (g : Call) → closes p s g ≡ false → (step p s m g) .reply ≡ []
+unfolding step closes upTo still
+silent p s m (character t v bad) e = rw e
+silent p s m (poll t) e = rw e
+silent p s m (measured n) e = refl
+silent p s m (fault c) e = refl
+silent p s m power-on e = refl
+
+pick-count : (q : Bool) (x y : Held) → x .count ≡ 0 → y .count ≡ 0 → (pick {A = Held} q x y) .count ≡ 0
+pick-count true x y a b = a
+pick-count false x y a b = b
+
+no-reply : (p : Plate) (s : meaning.State) (m w : List ℕ) (g : Call) → closes p s g ≡ false → (called p s m w g) .count ≡ 0
+unfolding called
+no-reply p s m w g e = pick-count (eqb (refusedBy p s m (length w) g) 0) _ _ (ap length (silent p s m g e)) refl
+
+-- a refused call leaves the state as it was
+pick-state : (n : ℕ) (s : meaning.State) (x y : Held) → x .refusal ≡ 0 → y .refusal ≡ n → y .state ≡ s
+    → eqb ((pick {A = Held} (eqb n 0) x y) .refusal) 0 ≡ false → (pick {A = Held} (eqb n 0) x y) .state ≡ s
+pick-state n s x y a b c = go (eqb n 0)
+  where
+    go : (q : Bool) → eqb ((pick {A = Held} q x y) .refusal) 0 ≡ false → (pick {A = Held} q x y) .state ≡ s
+    go true e = absurd (false≢true (sym e ∙ rw a))
+    go false e = c
+
+refused-state : (p : Plate) (s : meaning.State) (m w : List ℕ) (g : Call) → eqb ((called p s m w g) .refusal) 0 ≡ false → (called p s m w g) .state ≡ s
+unfolding called
+refused-state p s m w g = pick-state (refusedBy p s m (length w) g) s _ _ refl refl refl
+
+module _ (p : Plate) (img m w : List ℕ) (g : Call) where
+  -- R1 for what is no image
+  pub no-image : isImage img ≡ false → Called p img m w g 257 img m w
+  unfolding calledBy numberOf imageAfter
+  no-image e = record { answer = rw e; state = rw e; image = rw e; memory = rw e; room = rw e }
+
+  module _ (e : isImage img ≡ true) where
+    all : length img ≡ 165
+    all = (good img e) .all
+
+    few-kept : frameIn img .len ≤ 135
+    unfolding frameIn
+    few-kept = (good img e) .few
+
+    held : calledBy p img m w g ≡ called p (heldIn img) m w g
+    unfolding calledBy
+    held = rw e
+
+    on-board : calledOn p (boardIn img) (keptIn img) m w g ≡ called p (heldIn img) m w g
+    unfolding calledOn fitsIn frameIn
+    on-board = rw (le-leb (arg img 29) 135 ((good img e) .few), eq-eqb (length (keptIn img)) 135 (kept-length img all))
+
+    abbrev h : Held
+    h = called p (heldIn img) m w g
+
+    module _ (t : Stepped) (kept m′ w′ : List ℕ) (st : Steps p (boardIn img) (keptIn img) m w g t kept m′ w′) (back : List ℕ)
+        (lent : back ≡ take 30 img ++ (kept ++ drop 135 (drop 30 img))) (r : ℕ) (img′ : List ℕ) where
+      told : t .outcome ≡ outcomeOf h (closes p (heldIn img) g)
+      told = rw on-board at (st .outcome)
+
+      after : stateWith (t .board .state) (lineOf (t .board .frame) kept) ≡ h .state
+      after = rw on-board at (st .state)
+
+      bytes : kept ≡ put (keptIn img) 0 (h .state .line .kept)
+      bytes = rw on-board at (st .bytes)
+
+      -- refused: nothing is written
+      refused-call : eqb (h .refusal) 0 ≡ false → r ≡ 256 + h .refusal → img′ ≡ back → Called p img m w g r img′ m′ w′
+      unfolding numberOf imageAfter
+      refused-call q a b =
+          let s : h .state ≡ heldIn img = refused-state p (heldIn img) m w g q in
+          let k : kept ≡ keptIn img =
+          bytes ∙ ap (λ (x : meaning.State). put (keptIn img) 0 (x .line .kept)) s ∙ kept-stays (keptIn img) (frameIn img .len) (omega (arith, kept-length img all, few-kept)) in
+          let z : img′ ≡ img = b ∙ lent ∙ ap (λ (x : List ℕ). take 30 img ++ (x ++ drop 135 (drop 30 img))) k ∙ lent-back img in
+          record {
+            answer = rw (held, q) a;
+            state = rw held (ap heldIn z ∙ sym s);
+            image = rw (held, q) z;
+            memory = rw held (rw on-board at (st .memory));
+            room = rw held (rw on-board at (st .room));
+          }
+
+      -- served: the board is written back
+      served-call : eqb (h .refusal) 0 ≡ true → r ≡ h .count → PutsBoard (t .board .state) (t .board .frame) back img′ → Called p img m w g r img′ m′ w′
+      unfolding numberOf imageAfter imageOf
+      served-call q a b =
+          let f : Frame = t .board .frame in
+          let few : f .len ≤ 135 = st .few (ap (λ (x : Held). x .refusal) on-board ∙ eqb-true (h .refusal) 0 q) in
+          let l : take (f .len) kept ≡ h .state .line .kept = ap (λ (x : meaning.State). x .line .kept) after in
+          let low : length (h .state .line .kept) ≤ 135 = rw (← l) (rw length-take (omega arith)) in
+          let c : length kept ≡ 135 = ap length bytes ∙ length-put (keptIn img) 0 (h .state .line .kept) (omega (arith, kept-length img all)) ∙ kept-length img all in
+          let k : keptIn back ≡ kept =
+          ap keptIn lent ∙ ap (take 135) (drop-at (take 30 img) (kept ++ drop 135 (drop 30 img)) 30 (length-take-le 30 img (omega (arith, all))))
+          ∙ take-at kept (drop 135 (drop 30 img)) 135 c in
+          let n : frameBytes f ≡ lineBytes (lineOf f kept) = sym (line-row f kept (record { few = few; all = c })) in
+          let s : meaning.State = stateWith (t .board .state) (lineOf f kept) in
+          let j : stateBytes s ++ (frameBytes f ++ keptIn back) ≡ stateBytes s ++ (lineBytes (lineOf f kept) ++ kept) = rw (n, k) in
+          let i : img′ ≡ stateBytes (h .state) ++ (lineBytes (h .state .line) ++ put (keptIn img) 0 (h .state .line .kept)) =
+          b .image (lineOf f kept) ∙ j ∙ ap (λ (x : meaning.State). stateBytes x ++ (lineBytes (x .line) ++ kept)) after
+          ∙ ap (λ (x : List ℕ). stateBytes (h .state) ++ (lineBytes (h .state .line) ++ x)) bytes in
+          record {
+            answer = rw (held, q) a;
+            state = rw held (rw (b .state, b .frame, b .kept, k) after);
+            image = rw (held, q) i;
+            memory = rw held (rw on-board at (st .memory));
+            room = rw held (rw on-board at (st .room));
+          }
+
+      finish-by : (q c : Bool) → eqb (h .refusal) 0 ≡ q → closes p (heldIn img) g ≡ c → Finishes t back r img′ → Called p img m w g r img′ m′ w′
+      unfolding outcomeOf
+      finish-by false c i j f =
+          let o : outcomeOf h (closes p (heldIn img) g) ≡ Refused (h .refusal) = rw i in
+          refused-call i (f .answer ∙ ap outcomeNumber (told ∙ o)) (subst (λ (x : code.Outcome). LeftBy x (t .board) back img′) (told ∙ o) (f .left))
+      finish-by true true i j f =
+          let o : outcomeOf h (closes p (heldIn img) g) ≡ Over (h .count) = rw (i, j) in
+          served-call i (f .answer ∙ ap outcomeNumber (told ∙ o)) (subst (λ (x : code.Outcome). LeftBy x (t .board) back img′) (told ∙ o) (f .left))
+      finish-by true false i j f =
+          let o : outcomeOf h (closes p (heldIn img) g) ≡ Still = rw (i, j) in
+          served-call i (f .answer ∙ ap outcomeNumber (told ∙ o) ∙ sym (no-reply p (heldIn img) m w g j))
+          (subst (λ (x : code.Outcome). LeftBy x (t .board) back img′) (told ∙ o) (f .left))
+
+    -- the board's call on what the image holds, written back
+    pub finished : {s : State} {f : Frame} {t : Stepped} {kept m′ w′ : List ℕ} (back : List ℕ) {r : ℕ} {img′ : List ℕ} → s ≡ stateIn img → f ≡ frameIn img
+        → Steps p (record { state = s; frame = f }) (keptIn img) m w g t kept m′ w′ → back ≡ take 30 img ++ (kept ++ drop 135 (drop 30 img))
+        → Finishes t back r img′ → Called p img m w g r img′ m′ w′
+    finished {s} {f} {t} {kept} {m′} {w′} back {r} {img′} a b st lent fin =
+        let st′ : Steps p (boardIn img) (keptIn img) m w g t kept m′ w′ = rw (a, b) at st in
+        finish-by t kept m′ w′ st′ back lent r img′ (eqb (h .refusal) 0) (closes p (heldIn img) g) refl refl fin
+
+    -- .. where the places are not lent
+    pub finished-here : {s : State} {f : Frame} {t : Stepped} {r : ℕ} {img′ : List ℕ} → s ≡ stateIn img → f ≡ frameIn img
+        → ((k x y : List ℕ) → length k ≡ 135 → Steps p (record { state = s; frame = f }) k x y g t k x y)
+        → Finishes t img r img′ → Called p img m w g r img′ m w
+    finished-here a b st fin = finished img a b (st (keptIn img) m w (kept-length img all)) (sym (lent-back img)) fin
+
+-- a character of a frame that is not over, taken in place
+module _ (p : Plate) (img m w : List ℕ) (tick v : ℕ) (bad : Bool) (e : isImage img ≡ true) (small : (i : ℕ) → arg img i < 256)
+    (free : refusedBy p (heldIn img) m (length w) (character tick v bad) ≡ 0) (open-still : over p (heldIn img) tick ≡ false) where
+  abbrev next : Line
+  next = more (pick (frameIn img .begun) (lineOf (frameIn img) (keptIn img)) none) tick v bad
+
+  at-once : calledBy p img m w (character tick v bad)
+      ≡ (record { refusal = 0; count = 0; state = stateWith (stateIn img) next; memory = m; room = w })
+  unfolding calledBy called step upTo still taken withLine
+  at-once =
+      let z : eqb (refusedBy p (heldIn img) m (length w) (character tick v bad)) 0 ≡ true = eq-eqb _ 0 free in
+      let y : put w 0 [] ≡ w = sym (put-nothing w 0) in
+      rw (e, z, open-still, y)
+
+  pub taken-in-place : {img′ : List ℕ} → Takes next img img′ → Called p img m w (character tick v bad) 0 img′ m w
+  unfolding numberOf imageAfter imageOf
+  taken-in-place {img′} t =
+      let all : length img ≡ 165 = (good img e) .all in
+      let front : stateBytes (stateWith (stateIn img) next) ≡ take 21 img = state-as-it-was img all small ((good img e) .locked) next in
+      let rest : List ℕ = lineBytes next ++ put (keptIn img) 0 (next .kept) in
+      let same : take 21 img′ ≡ take 21 img = ap (take 21) (t .image) ∙ take-at (take 21 img) rest 21 (front-length img all) in
+      let s : stateIn img′ ≡ stateIn img = same-front img′ img same in
+      record {
+        answer = rw at-once;
+        state = rw at-once (rw (s, t .holds));
+        image = rw (at-once, front) (t .image);
+        memory = rw at-once;
+        room = rw at-once;
+      }
+
+-- the call that an event is
+module _ (p : Plate) (img m w : List ℕ) (tick v : ℕ) {kind r : ℕ} {img′ m′ w′ : List ℕ} where
+  pub polled : kind ≡ 2 → Called p img m w (poll tick) r img′ m′ w′ → Called p img m w (callOf kind tick v) r img′ m′ w′
+  unfolding callOf
+  polled e q = rw e q
+
+  pub stepped : (kind ≡ 2 → ⊥) → Called p img m w (character tick v (eqb kind 1)) r img′ m′ w′ → Called p img m w (callOf kind tick v) r img′ m′ w′
+  unfolding callOf
+  stepped n q = rw (ne-eqb kind 2 n) q
+
+module _ (p : Plate) (img m w : List ℕ) (tick v : ℕ) {r : ℕ} {img′ m′ w′ : List ℕ} where
+  pub as-told : {a b : Bool} → a ≡ b → Called p img m w (character tick v a) r img′ m′ w′ → Called p img m w (character tick v b) r img′ m′ w′
+  as-told e q = subst (λ (x : Bool). Called p img m w (character tick v x) r img′ m′ w′) e q
+
+  pub as-kind : (kind : ℕ) {bad : Bool} → ((t x : ℕ) → callOf kind t x ≡ character t x bad) → Called p img m w (callOf kind tick v) r img′ m′ w′
+      → Called p img m w (character tick v bad) r img′ m′ w′
+  as-kind kind e q = subst (λ (x : Call). Called p img m w x r img′ m′ w′) (e tick v) q
+
+-- the frame's test, of the state that the image holds
+pub not-over : (p : Plate) (img : List ℕ) (tick : ℕ) {f : Frame} {r : Bool} → f ≡ frameIn img
+    → ((s : meaning.State) (kept : List ℕ) → s .line ≡ lineOf f kept → r ≡ over p s tick) → r ≡ false → over p (heldIn img) tick ≡ false
+not-over p img tick {f} e o q = sym (o (heldIn img) (keptIn img) (ap (λ (x : Frame). lineOf x (keptIn img)) (sym e))) ∙ q

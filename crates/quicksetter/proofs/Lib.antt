@@ -1,0 +1,6 @@
+-- What the proofs of several functions use, and the theorems of the entry points.
+mod Leaving
+mod Calm
+mod Finishing
+mod Freshening
+mod Judging

@@ -1,0 +1,72 @@
+-- What a call from C leaves of image, memory and room, and the number that comes back (01, "Named refusals"). Assumes nothing.
+use Prim.Native.Nat.{ℕ, _+_}
+use mathlib.Core.Path.{_≡_}
+use mathlib.Core.Bool.{Bool, true}
+use mathlib.Core.List.{List}
+use lib.Dec.{eqb}
+use lib.ListN.{length}
+use Rattle.meaning.specs.Bytes.{pick, both, zeros}
+use Rattle.meaning.specs.State as meaning
+use Rattle.meaning.specs.Run.{Call, character, poll, Held, called, refusedBy}
+use Rattle.line.specs.declared.plate.Plate.{Plate}
+use Rattle.board.specs.declared.limits.Board.{Board}
+use Rattle.board.specs.declared.limits.Outcome.{Outcome}
+use Rattle.board.specs.declared.limits.Outcome.the-variants.{Refused, Still, Over}
+use Rattle.board.specs.declared.limits.Stepped.{Stepped}
+use Rattle.image.specs.Image.{isImage, heldIn, keptIn, imageOf, PutsBoard}
+
+abbrev pub plateFrom : ℕ → ℕ → ℕ → ℕ → ℕ → Plate
+plateFrom t b a k q = record { total = t; bits = b; address = a; ticks = k; pause = q }
+
+-- the meaning's call on the state that the image holds; what is no image is R1
+unfoldable pub calledBy : meaning.Plate → List ℕ → List ℕ → List ℕ → Call → Held
+calledBy p img m room g =
+    pick (isImage img) (called p (heldIn img) m room g)
+    (record { refusal = 1; count = 0; state = heldIn img; memory = m; room = room })
+
+-- 0 for silence, 1 to 134 the reply's length, 256 + n for Rn
+unfoldable pub numberOf : Held → ℕ
+numberOf h = pick (eqb (h .refusal) 0) (h .count) (256 + h .refusal)
+
+-- the state after the call, its unused places as they were; a refused call leaves the image as it was
+unfoldable pub imageAfter : List ℕ → Held → List ℕ
+imageAfter img h = pick (eqb (h .refusal) 0) (imageOf (h .state) (keptIn img)) img
+
+pub record Called (p : meaning.Plate) (img m w : List ℕ) (g : Call) (r : ℕ) (img′ m′ w′ : List ℕ) : Type 0 where
+  pub answer : r ≡ numberOf (calledBy p img m w g)
+  pub state : heldIn img′ ≡ (calledBy p img m w g) .state
+  pub image : img′ ≡ imageAfter img (calledBy p img m w g)
+  pub memory : m′ ≡ (calledBy p img m w g) .memory
+  pub room : w′ ≡ (calledBy p img m w g) .room
+
+-- 01, "Fresh state": every byte of the image is written; R1 for an impossible plate or an image of another length
+unfoldable pub freshOk : meaning.Plate → List ℕ → Bool
+freshOk p img = both (meaning.plateOk p) (eqb (length img) 165)
+
+pub record Freshens (p : meaning.Plate) (img : List ℕ) (r : ℕ) (img′ : List ℕ) : Type 0 where
+  pub answer : r ≡ pick (freshOk p img) 0 257
+  pub image : img′ ≡ pick (freshOk p img) (imageOf (meaning.fresh p) (zeros 135)) img
+
+-- what came, as the entries hand it on: a character without (0) or with (1) a parity fault, or a poll (2)
+unfoldable pub callOf : ℕ → ℕ → ℕ → Call
+callOf kind tick value = pick (eqb kind 2) (poll tick) (character tick value (eqb kind 1))
+
+-- R1 to R3 do not apply
+pub record Unrefused (p : meaning.Plate) (img : List ℕ) (memory room : ℕ) : Type 0 where
+  pub image : isImage img ≡ true
+  pub within : (m : List ℕ) (g : Call) → length m ≡ memory → refusedBy p (heldIn img) m room g ≡ 0
+
+-- the outcome of the board's call as the number for C, and the board written back where it was not refused
+abbrev pub outcomeNumber : Outcome → ℕ
+outcomeNumber (Refused n) = 256 + n
+outcomeNumber Still = 0
+outcomeNumber (Over n) = n
+
+abbrev pub LeftBy : Outcome → Board → List ℕ → List ℕ → Type 0
+LeftBy (Refused n) b img img′ = img′ ≡ img
+LeftBy Still b img img′ = PutsBoard (b .state) (b .frame) img img′
+LeftBy (Over n) b img img′ = PutsBoard (b .state) (b .frame) img img′
+
+pub record Finishes (t : Stepped) (img : List ℕ) (r : ℕ) (img′ : List ℕ) : Type 0 where
+  pub answer : r ≡ outcomeNumber (t .outcome)
+  pub left : LeftBy (t .outcome) (t .board) img img′

@@ -1,0 +1,208 @@
+// A character and a poll (01, "Characters become frames").
+ghost use mathlib.Core.Path.{_≡_};
+ghost use mathlib.Core.Bool.{true};
+ghost use Prim.Native.Nat.{ℕ};
+ghost use Rattle.meaning.specs.Bytes.{differ};
+ghost use Rattle.meaning.specs.Run as run;
+ghost use Rattle.line.specs.Line.{plateOf};
+ghost use Rattle.quicksetter.specs.Calls.{plateFrom, callOf, Called, Unrefused};
+use crate::answer::REFUSED;
+use crate::answer::finish;
+use board::Board;
+use image::COUNTER;
+use image::KEPT;
+use image::LENGTH;
+use image::OFFSET;
+use image::WAITING;
+use line::Plate;
+
+// What came: a character, one with a parity fault, or a poll.
+const FAULTY: u8 = 1;
+
+const POLL: u8 = 2;
+
+// What nearly every character meets: no code waits, and R1 to R3 do not apply. Where it says no, `event` decides.
+fn is_calm(
+    image: &[u8],
+    total: u32,
+    bits: u32,
+    address: u32,
+    ticks: u32,
+    pause: u32,
+    memory: usize,
+    room: usize,
+) -> bool
+    ensures { λ r. ⌜ (r ≡ true → Unrefused (plateOf (plateFrom total bits address ticks pause)) (now (image .entry)) memory room) ⌝ }
+{
+    if !image::is_image(image) {
+        return false;
+    }
+    if image::number_at(image, WAITING) != 0 {
+        return false;
+    }
+    if 0xFFFFFF < image::number_at(image, COUNTER) {
+        return false;
+    }
+    let plate = Plate {
+        total,
+        bits,
+        address,
+        ticks,
+        pause,
+    };
+    if !plate.is_ok() {
+        return false;
+    }
+    if commands::size(bits) <= image::number_at(image, OFFSET) as u64 {
+        return false;
+    }
+    if memory as u64 != 16 * (total as u64) + total as u64 {
+        return false;
+    }
+    134 <= room
+}
+
+// Any character or poll, by the board. Its parameters are those of `qs_character`, so that handing them on costs nothing.
+fn event(
+    image: &mut [u8],
+    tick: u32,
+    value: u8,
+    kind: u8,
+    total: u32,
+    bits: u32,
+    address: u32,
+    ticks: u32,
+    pause: u32,
+    memory: &mut [u8],
+    room: &mut [u8],
+) -> usize
+    ensures { λ r. ⌜ Called (plateOf (plateFrom total bits address ticks pause)) (now (image .entry)) (now (memory .entry)) (now (room .entry)) (callOf kind tick value) r (now (image .exit)) (now (memory .exit)) (now (room .exit)) ⌝ }
+{
+    if !image::is_image(image) {
+        return REFUSED + 1;
+    }
+    let plate = Plate {
+        total,
+        bits,
+        address,
+        ticks,
+        pause,
+    };
+    let state = image::state_in(image);
+    let frame = image::frame_in(image);
+    let before = Board { state, frame };
+    if kind == POLL {
+        let polled = board::poll(plate, before, tick, &mut image[KEPT..LENGTH], memory, room);
+        return finish(polled, image);
+    }
+    let stepped = board::character(
+        plate,
+        before,
+        tick,
+        value,
+        kind == FAULTY,
+        &mut image[KEPT..LENGTH],
+        memory,
+        room,
+    );
+    finish(stepped, image)
+}
+
+fn is_fault(parity: u8) -> bool
+    ensures { λ r. ⌜ r ≡ differ parity 0 ⌝ }
+{
+    parity != 0
+}
+
+fn kind_of(faulty: bool) -> u8
+    ensures { λ r. ⌜ ((tick value : ℕ) → callOf r tick value ≡ run.character tick value faulty) ⌝ }
+{
+    if faulty {
+        return FAULTY;
+    }
+    0
+}
+
+#[no_mangle]
+pub extern "C" fn qs_character(
+    image: &mut [u8],
+    tick: u32,
+    value: u8,
+    parity: u8,
+    total: u32,
+    bits: u32,
+    address: u32,
+    ticks: u32,
+    pause: u32,
+    memory: &mut [u8],
+    room: &mut [u8],
+) -> usize
+    ensures { λ r. ⌜ Called (plateOf (plateFrom total bits address ticks pause)) (now (image .entry)) (now (memory .entry)) (now (room .entry)) (run.character tick value (differ parity 0)) r (now (image .exit)) (now (memory .exit)) (now (room .exit)) ⌝ }
+{
+    let faulty = is_fault(parity);
+    if is_calm(
+        image,
+        total,
+        bits,
+        address,
+        ticks,
+        pause,
+        memory.len(),
+        room.len(),
+    ) {
+        let plate = Plate {
+            total,
+            bits,
+            address,
+            ticks,
+            pause,
+        };
+        let frame = image::frame_in(image);
+        if !frame.is_over(plate, tick) {
+            image::take_character(tick, value, faulty, image);
+            return 0;
+        }
+    }
+    event(
+        image,
+        tick,
+        value,
+        kind_of(faulty),
+        total,
+        bits,
+        address,
+        ticks,
+        pause,
+        memory,
+        room,
+    )
+}
+
+#[no_mangle]
+pub extern "C" fn qs_poll(
+    image: &mut [u8],
+    tick: u32,
+    total: u32,
+    bits: u32,
+    address: u32,
+    ticks: u32,
+    pause: u32,
+    memory: &mut [u8],
+    room: &mut [u8],
+) -> usize
+    ensures { λ r. ⌜ Called (plateOf (plateFrom total bits address ticks pause)) (now (image .entry)) (now (memory .entry)) (now (room .entry)) (run.poll tick) r (now (image .exit)) (now (memory .exit)) (now (room .exit)) ⌝ }
+{
+    event(
+        image,
+        tick,
+        0,
+        POLL,
+        total,
+        bits,
+        address,
+        ticks,
+        pause,
+        memory,
+        room,
+    )
+}
