@@ -152,8 +152,8 @@ extern "C" {
 
 /* ---- the board ------------------------------------------------------------------------------------------------------------------------------------------ */
 
-/* Makes the state image of a fresh board: codes 55h, nothing counted, no offset, nothing measured, no fault, no frame open. The kept bytes are left as they
- * were. The host clears memory itself where the board is new.
+/* Makes the state image of a fresh board: codes 55h, nothing counted, no offset, nothing measured, no fault, no frame open. Every byte of the image is
+ * written, the kept bytes too. The host clears memory itself where the board is new.
  * Returns 0. Refuses QS_R1: a plate number beyond its limit, or image_length not QS_IMAGE_LENGTH. */
 size_t qs_fresh(uint32_t total, uint32_t bits, uint32_t address, uint32_t ticks, uint32_t pause, uint8_t *image, size_t image_length);
 

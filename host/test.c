@@ -175,13 +175,13 @@ static void test_good_plates(void) {
 }
 
 static void test_fresh(void) {
-    uint8_t expected[QS_IMAGE_KEPT] = {0x55, 0x55, 0x55, 0x55};
+    uint8_t expected[QS_IMAGE_LENGTH] = {0x55, 0x55, 0x55, 0x55};
     memset(&lent, GUARD_BYTE, sizeof lent);
     remember();
     check(make_fresh(SHEET, QS_IMAGE_LENGTH) == 0, "fresh returns 0", 0);
-    check(memcmp(lent.image, expected, sizeof expected) == 0, "a fresh image's numbers", 0);
+    check(memcmp(lent.image, expected, sizeof expected) == 0, "a fresh image", 0);
     memcpy(lent.image, before.image, sizeof expected);
-    check(as_it_was(), "fresh leaves all behind its numbers as it was", 0);
+    check(as_it_was(), "fresh leaves all behind the image as it was", 0);
     static const size_t wrong[] = {0, 1, QS_IMAGE_KEPT, QS_IMAGE_LENGTH - 1, QS_IMAGE_LENGTH + 1, QS_IMAGE_LENGTH + SPARE};
     for (size_t i = 0; i < sizeof wrong / sizeof *wrong; i++)
         check(make_fresh(SHEET, wrong[i]) == QS_R1 && as_it_was(), "fresh refuses an image's length", wrong[i]);

@@ -360,7 +360,7 @@ static size_t refusal(const uint8_t *image, size_t image_length, uint32_t total,
 size_t hand_fresh(uint32_t total, uint32_t bits, uint32_t address, uint32_t ticks, uint32_t pause, uint8_t *image, size_t image_length) {
     if (image_length != QS_IMAGE_LENGTH || !plate_is_good(total, bits, address, ticks, pause))
         return QS_R1;
-    memset(image, 0, QS_IMAGE_KEPT);
+    memset(image, 0, QS_IMAGE_LENGTH);
     memset(image + QS_IMAGE_CODES, 0x55, 4);
     return 0;
 }

@@ -17,7 +17,7 @@ TABLE = os.path.join(ROOT, "docs", "CONTRACTS.md")
 IMPL = re.compile(r"^impl (\w+) \{")
 # What only the test programs call: it prints, and is run and compared.
 TEST_LIBRARIES = ["trial"]
-FUNCTION = re.compile(r"^(\s*)pub (?:extern \"C\" )?fn (\w+)")
+FUNCTION = re.compile(r"^(\s*)pub (extern \"C\" )?fn (\w+)")
 PASSED_ON = re.compile(r"^pub use (\w+)::(\w+);")
 OPEN_MODULE = re.compile(r"^pub mod (\w+);")
 
@@ -41,7 +41,7 @@ def modules_of(crate):
 
 
 def functions_in(crate, module):
-    """Each `pub fn` of a file, as (type it is a method of or None, name)."""
+    """Each `pub fn` of a file, as (type it is a method of or None, name, whether C calls it)."""
     inside = None
     for line in lines_of(crate, module):
         begun = IMPL.match(line)
@@ -51,7 +51,7 @@ def functions_in(crate, module):
             inside = None
         found = FUNCTION.match(line)
         if found:
-            yield (inside if found.group(1) else None), found.group(2)
+            yield (inside if found.group(1) else None), found.group(3), bool(found.group(2))
 
 
 def public_functions(crate):
@@ -63,13 +63,13 @@ def public_functions(crate):
         module = OPEN_MODULE.match(line)
         if module:
             opened.append(module.group(1))
-    for owner, name in functions_in(crate, "lib"):
+    for owner, name, _ in functions_in(crate, "lib"):
         yield "::".join(part for part in (crate, owner, name) if part)
     types = set().union(*passed.values())
     for module in modules_of(crate):
         prefix = crate + "::" + module if module in opened else crate
-        for owner, name in functions_in(crate, module):
-            if module in opened or owner in types or name in passed.get(module, ()):
+        for owner, name, exported in functions_in(crate, module):
+            if exported or module in opened or owner in types or name in passed.get(module, ()):
                 yield "::".join(part for part in (prefix, owner, name) if part)
 
 
