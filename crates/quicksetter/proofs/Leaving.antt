@@ -27,7 +27,7 @@ use Rattle.board.specs.Board.{stateOf, fitsIn, calledOn, outcomeOf, Steps}
 use Rattle.image.specs.Image.{isImage, stateIn, frameIn, keptIn, heldIn, stateBytes, lineBytes, frameBytes, imageOf, Takes, PutsBoard}
 use Rattle.image.proofs.Standing.{line-row}
 use Rattle.image.proofs.Parts.{kept-length, front-length, line-length, state-as-it-was, same-front, whole-front}
-use Rattle.image.proofs.Round.{good, kept-stays, lent-back}
+use Rattle.image.proofs.Round.{good, kept-stays, lent-back, image-as-it-was}
 use Rattle.quicksetter.specs.Calls.{callOf, calledBy, numberOf, imageAfter, Called, outcomeNumber, LeftBy, Finishes}
 
 abbrev boardIn : List ℕ → Board
@@ -196,6 +196,27 @@ module _ (p : Plate) (img m w : List ℕ) (tick v : ℕ) (bad : Bool) (e : isIma
         image = rw (at-once, front) (t .image);
         memory = rw at-once;
         room = rw at-once;
+      }
+
+-- a poll of a frame that is not over, or of none: nothing is done
+module _ (p : Plate) (img m w : List ℕ) (tick : ℕ) (e : isImage img ≡ true) (small : (i : ℕ) → arg img i < 256)
+    (free : refusedBy p (heldIn img) m (length w) (poll tick) ≡ 0) (open-still : over p (heldIn img) tick ≡ false) where
+  nothing-done : calledBy p img m w (poll tick) ≡ (record { refusal = 0; count = 0; state = heldIn img; memory = m; room = w })
+  unfolding calledBy called step upTo still
+  nothing-done =
+      let z : eqb (refusedBy p (heldIn img) m (length w) (poll tick)) 0 ≡ true = eq-eqb _ 0 free in
+      let y : put w 0 [] ≡ w = sym (put-nothing w 0) in
+      rw (e, z, open-still, y)
+
+  pub left-in-place : Called p img m w (poll tick) 0 img m w
+  unfolding numberOf imageAfter
+  left-in-place =
+      record {
+        answer = rw nothing-done;
+        state = rw nothing-done;
+        image = rw nothing-done (sym (image-as-it-was img e small));
+        memory = rw nothing-done;
+        room = rw nothing-done;
       }
 
 -- the call that an event is

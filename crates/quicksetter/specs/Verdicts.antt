@@ -12,6 +12,7 @@ use Rattle.bench.specs.declared.reply.Refusal.{Refusal}
 use Rattle.bench.specs.declared.reply.Verdict.{Verdict}
 use Rattle.bench.specs.declared.reply.Verdict.the-variants.{Done, DoneWithWarning, Error, ErrorWithWarning, Refused}
 use Rattle.bench.specs.Outcomes.{numberOf}
+use Rattle.quicksetter.specs.declared.replies.Piece.{Piece}
 
 -- a request's length, or 256 + n for Rn
 unfoldable pub requestNumber : meaning.Written → ℕ
@@ -41,3 +42,7 @@ verdictCode DoneWithWarning = 1
 verdictCode (Error e) = 256 + e
 verdictCode (ErrorWithWarning e) = 512 + e
 verdictCode (Refused b) = 1024 + numberOf b
+
+-- where the data part starts in the reply, and its length
+abbrev pub pieceFrom : meaning.Piece → Piece
+pieceFrom h = record { place = h .from; length = h .count }

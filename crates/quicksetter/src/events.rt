@@ -21,7 +21,7 @@ const FAULTY: u8 = 1;
 
 const POLL: u8 = 2;
 
-// What nearly every character meets: no code waits, and R1 to R3 do not apply. Where it says no, `event` decides.
+// What nearly every call meets: no code waits, and R1 to R3 do not apply. Where it says no, `event` decides.
 fn is_calm(
     image: &[u8],
     total: u32,
@@ -192,6 +192,28 @@ pub extern "C" fn qs_poll(
 ) -> usize
     ensures { λ r. ⌜ Called (plateOf (plateFrom total bits address ticks pause)) (now (image .entry)) (now (memory .entry)) (now (room .entry)) (run.poll tick) r (now (image .exit)) (now (memory .exit)) (now (room .exit)) ⌝ }
 {
+    if is_calm(
+        image,
+        total,
+        bits,
+        address,
+        ticks,
+        pause,
+        memory.len(),
+        room.len(),
+    ) {
+        let plate = Plate {
+            total,
+            bits,
+            address,
+            ticks,
+            pause,
+        };
+        let frame = image::frame_in(image);
+        if !frame.is_over(plate, tick) {
+            return 0;
+        }
+    }
     event(
         image,
         tick,

@@ -5,7 +5,7 @@ ghost use Prim.Native.Nat.{_<_};
 ghost use lib.ListN.{length};
 ghost use Rattle.meaning.specs.Bench as meaning;
 ghost use Rattle.bench.specs.Outcomes.{numberOf};
-ghost use Rattle.quicksetter.specs.Verdicts.{writtenNumber, verdictNumber, verdictCode, Writes};
+ghost use Rattle.quicksetter.specs.Verdicts.{writtenNumber, verdictNumber, verdictCode, pieceFrom, Writes};
 use crate::answer::REFUSED;
 use bench::Refusal;
 use bench::Verdict;
@@ -73,4 +73,22 @@ pub extern "C" fn qs_judge(request: &[u8], reply: &[u8]) -> u32
     ensures { λ r. ⌜ r ≡ verdictNumber (meaning.judge (now (request .entry)) (now (reply .entry))) ⌝ }
 {
     verdict_code(bench::judge(request, reply))
+}
+
+// 01, "the data part is handed back as a piece of the reply itself, and on refusal as the empty piece at its front".
+#[no_mangle]
+pub extern "C" fn qs_data_part(request: &[u8], reply: &[u8]) -> Piece
+    ensures { λ r. ⌜ r ≡ pieceFrom (meaning.handed (now (request .entry)) (now (reply .entry))) ⌝ }
+{
+    let verdict = bench::judge(request, reply);
+    if let Verdict::Refused(_) = verdict {
+        return Piece {
+            place: 0,
+            length: 0,
+        };
+    }
+    Piece {
+        place: 2,
+        length: reply.len() - 3,
+    }
 }
