@@ -1,0 +1,5 @@
+pub mod Bytes
+pub mod Rooms
+pub mod Decimal
+pub mod Events
+pub mod Windows

@@ -1,0 +1,5 @@
+pub mod Records
+pub mod Kinds
+pub mod Text
+pub mod Answers
+pub mod Reader
