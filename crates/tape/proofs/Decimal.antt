@@ -5,7 +5,8 @@ use mathlib.Core.List.{List, [], _∷_, _++_}
 use native.Mathlib.Numerals.{add-one}
 use native.Mathlib.Omega.{arith}
 use native.Mathlib.Numerals.{unary-clauses}
-use native.Mathlib.Nat.{pow-suc, one-le-pow, zero-lt-suc}
+use native.Mathlib.Nat.{pow-suc, one-le-pow, zero-lt-suc, pow-le-pow-right}
+use native.Mathlib.Decide.{decLe}
 use lib.ListN.{length, set, length-append}
 use lib.Dec.{ltb}
 use borrow.Author.Tests.{lt-ltb, le-ltb}
@@ -51,5 +52,17 @@ digit-less room at (suc i) n h k =
     let e : suc i - 1 ≡ i = omega arith in
     let l : length (digits 10 i (n / 10)) ≡ i = length-digits i (n / 10) in
     let q : put (set room (at + length (digits 10 i (n / 10))) (48 + n % 10)) at (digits 10 i (n / 10)) ≡ put room at (digits 10 i (n / 10) ++ ((48 + n % 10) ∷ []))
-        = put-back room at (48 + n % 10) (digits 10 i (n / 10)) (omega arith) in
+    = put-back room at (48 + n % 10) (digits 10 i (n / 10)) (omega arith) in
     rw (e, last-digit n) (rw l at q)
+
+-- the place of a record has at most 20 digits
+pub few-digits : (n k : ℕ) → n < 2 ^ 64 → Fewest 10 1 n k → k ≤ 20
+few-digits n k h f = go (decLe k 20)
+  where
+    go : Dec (k ≤ 20) → k ≤ 20
+    go (yes l) = l
+    go (no l) =
+        let m : 20 < k = omega arith in
+        let b : 10 ^ 20 ≤ 10 ^ (k - 1) = pow-le-pow-right (zero-lt-suc 9) {i = 20} {j = k - 1} (omega arith) in
+        let a : 10 ^ (k - 1) ≤ n = f .2 (omega arith) in
+        absurd (omega arith)

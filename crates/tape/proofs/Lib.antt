@@ -3,3 +3,4 @@ pub mod Rooms
 pub mod Decimal
 pub mod Events
 pub mod Windows
+pub mod Texts

@@ -25,7 +25,7 @@ put-put room at xs ys h =
     let j : length (take at room ++ xs) ≡ at + length xs = simp (length-append, k) in
     let e : take at room ++ (xs ++ drop (at + length xs) room) ≡ (take at room ++ xs) ++ drop (at + length xs) room = sym (append-assoc (take at room) xs _) in
     let f : drop (at + length xs + length ys) ((take at room ++ xs) ++ drop (at + length xs) room) ≡ drop (at + (length xs + length ys)) room
-        = rw (← drop-drop (length ys) (at + length xs) ((take at room ++ xs) ++ drop (at + length xs) room), drop-at (take at room ++ xs) (drop (at + length xs) room) (at + length xs) j, drop-drop (length ys) (at + length xs) room, add-assoc at) in
+    = rw (← drop-drop (length ys) (at + length xs) ((take at room ++ xs) ++ drop (at + length xs) room), drop-at (take at room ++ xs) (drop (at + length xs) room) (at + length xs) j, drop-drop (length ys) (at + length xs) room, add-assoc at) in
     rw (e, take-at (take at room ++ xs) (drop (at + length xs) room) (at + length xs) j, f, length-append xs ys, append-assoc (take at room) xs, append-assoc xs ys)
 
 -- one byte is a store
@@ -48,7 +48,7 @@ put-back room at z bs h =
     let k : length (bs ++ (z ∷ [])) ≡ suc (length bs) = simp length-append (omega arith) in
     let n : at + suc (length bs) ≡ suc (at + length bs) = omega arith in
     let d : drop (at + length bs) (set room (at + length bs) z) ≡ z ∷ drop (suc (at + length bs)) room
-        = rw (set-split room (at + length bs) z h) (drop-at (take (at + length bs) room) (z ∷ drop (suc (at + length bs)) room) (at + length bs) (length-take-le (at + length bs) room (omega arith))) in
+    = rw (set-split room (at + length bs) z h) (drop-at (take (at + length bs) room) (z ∷ drop (suc (at + length bs)) room) (at + length bs) (length-take-le (at + length bs) room (omega arith))) in
     rw (take-set-le at room (at + length bs) z (omega arith), d, k, n, append-snoc bs z)
 
 -- one more byte as a space and two digits

@@ -43,7 +43,7 @@ fn places(n: u32) -> usize
 // A tick in decimal, its last digit first.
 fn decimal(n: u32, room: &mut [u8], at: usize) -> usize
     requires { ⌜ at + 10 ≤ length (now room) ⌝ }
-    ensures { λ r. ⌜ Printed (decimalOf n) (now (room .entry)) at r (now (room .exit)) ⌝ }
+    ensures { λ r. ⌜ Printed (decimalOf n) (now (room .entry)) at r (now (room .exit)) × (r ≤ at + 10) ⌝ }
 {
     let k = places(n);
     let mut i = k;
@@ -113,15 +113,23 @@ pub fn first_line(room: &mut [u8], at: usize) -> usize
     copy(b"tick reply\n", room, at)
 }
 
+// The place of a record may have more digits than a tick.
+fn long_decimal(n: u64, room: &mut [u8], at: usize) -> usize
+    requires { ⌜ at + 20 ≤ length (now room) ⌝ }
+    ensures { λ r. ⌜ Printed (decimalOf n) (now (room .entry)) at r (now (room .exit)) × (r ≤ at + 20) ⌝ }
+{
+    let mut digits = [0u8; 20];
+    let k = io::decimal(n, &mut digits);
+    copy(&digits[..k], room, at)
+}
+
 // 01, "N being the decimal place of the record's first byte".
 pub fn bad_line(place: u64, room: &mut [u8], at: usize) -> usize
     requires { ⌜ at + 25 ≤ length (now room) ⌝ }
     ensures { λ r. ⌜ Printed (badLine place) (now (room .entry)) at r (now (room .exit)) ⌝ }
 {
     let from = copy(b"bad ", room, at);
-    let mut digits = [0u8; 20];
-    let k = io::decimal(place, &mut digits);
-    let end = copy(&digits[..k], room, from);
+    let end = long_decimal(place, room, from);
     room[end] = 10;
     end + 1
 }

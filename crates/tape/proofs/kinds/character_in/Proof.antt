@@ -1,3 +1,4 @@
+-- `tape::kinds::character_in` meets its contract. Assumes nothing.
 use mathlib.Core.Path.{sym}
 use Rattle.tape.proofs.Events.{unfitted, character-unfit, character-said}
 use borrow.Author.Needs.{needs}
@@ -7,35 +8,27 @@ use Rattle.tape.proofs.kinds.character_in.Reads as reads
 use Rattle.tape.proofs.kinds.character_in.Lts as lts
 use Rattle.tape.proofs.record.get32.Reads as get32-reads
 
--- src/kinds.rt:63:9
 returns : tie.Need-returns
 returns c = sym (unfitted _ _ _ (c .before .before .pre) 6 _ (c .if1 .taken))
 
--- src/kinds.rt:65:9
 get32-requires : tie.Need-get32-requires
 get32-requires c κs = search needs
 
--- src/kinds.rt:66:19
 add-value : tie.Need-add-value
 add-value c = search needs
 
--- src/kinds.rt:66:17
 shared-slice-read-value : tie.Need-shared-slice-read-value
 shared-slice-read-value c = search needs
 
--- src/kinds.rt:67:19
 add-fault : tie.Need-add-fault
 add-fault c = search needs
 
--- src/kinds.rt:67:17
 shared-slice-read-fault : tie.Need-shared-slice-read-fault
 shared-slice-read-fault c = search needs
 
--- src/kinds.rt:69:9
 returns-2 : tie.Need-returns-2
 returns-2 c = character-unfit _ _ _ (c .before .before .before .before .before .before .pre) (c .before .before .before .before .if1 .left) (c .if2 .taken)
 
--- src/kinds.rt:58:1
 returns-3 : tie.Need-returns-3
 returns-3 c = character-said _ _ _ (c .before .before .before .before .before .before .pre) _ (c .before .before .before .before .if1 .left) (c .before .before .before .get32 .ensures) (c .if2 .left)
 

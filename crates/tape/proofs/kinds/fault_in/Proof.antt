@@ -1,3 +1,4 @@
+-- `tape::kinds::fault_in` meets its contract. Assumes nothing.
 use mathlib.Core.Path.{sym}
 use Rattle.tape.proofs.Events.{unfitted, fault-said}
 use borrow.Author.Needs.{needs}
@@ -6,15 +7,12 @@ use Rattle.tape.proofs.kinds.fault_in.Tie as tie
 use Rattle.tape.proofs.kinds.fault_in.Reads as reads
 use Rattle.tape.proofs.kinds.fault_in.Lts as lts
 
--- src/kinds.rt:106:9
 returns : tie.Need-returns
 returns c = sym (unfitted _ _ _ (c .before .pre) 1 _ (c .if1 .taken))
 
--- src/kinds.rt:108:26
 shared-slice-read-t6 : tie.Need-shared-slice-read-t6
 shared-slice-read-t6 c = search needs
 
--- src/kinds.rt:101:1
 returns-2 : tie.Need-returns-2
 returns-2 c = fault-said _ _ _ (c .before .before .pre) (c .before .if1 .left)
 

@@ -1,3 +1,4 @@
+-- `tape::kinds::measured_in` meets its contract. Assumes nothing.
 use Rattle.tape.specs.Kinds.{call}
 use Rattle.meaning.specs.Run.{measured}
 use Prim.Native.Nat.{ℕ}
@@ -10,15 +11,12 @@ use Rattle.tape.proofs.kinds.measured_in.Reads as reads
 use Rattle.tape.proofs.kinds.measured_in.Lts as lts
 use Rattle.tape.proofs.record.get32.Reads as get32-reads
 
--- src/kinds.rt:95:9
 returns : tie.Need-returns
 returns c = sym (unfitted _ _ _ (c .before .before .pre) 4 _ (c .if1 .taken))
 
--- src/kinds.rt:98:19
 get32-requires : tie.Need-get32-requires
 get32-requires c κs = search needs
 
--- src/kinds.rt:90:1
 returns-2 : tie.Need-returns-2
 returns-2 c = number-said _ _ _ (c .before .before .before .pre) _ (λ (k : ℕ). call (measured k)) (c .before .if1 .left) (c .get32 .ensures)
 

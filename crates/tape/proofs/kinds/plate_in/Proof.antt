@@ -1,3 +1,4 @@
+-- `tape::kinds::plate_in` meets its contract. Assumes nothing.
 use mathlib.Core.Path.{sym}
 use Rattle.tape.proofs.Events.{unfitted, plate-said}
 use borrow.Author.Needs.{needs}
@@ -6,47 +7,36 @@ use Rattle.tape.proofs.kinds.plate_in.Tie as tie
 use Rattle.tape.proofs.kinds.plate_in.Reads as reads
 use Rattle.tape.proofs.kinds.plate_in.Lts as lts
 
--- src/kinds.rt:45:9
 returns : tie.Need-returns
 returns c = sym (unfitted _ _ _ (c .before .pre) 5 _ (c .if1 .taken))
 
--- src/kinds.rt:48:16
 shared-slice-read-t6 : tie.Need-shared-slice-read-t6
 shared-slice-read-t6 c = search needs
 
--- src/kinds.rt:49:17
 add-t7 : tie.Need-add-t7
 add-t7 c = search needs
 
--- src/kinds.rt:49:15
 shared-slice-read-t9 : tie.Need-shared-slice-read-t9
 shared-slice-read-t9 c = search needs
 
--- src/kinds.rt:50:20
 add-t10 : tie.Need-add-t10
 add-t10 c = search needs
 
--- src/kinds.rt:50:18
 shared-slice-read-t12 : tie.Need-shared-slice-read-t12
 shared-slice-read-t12 c = search needs
 
--- src/kinds.rt:51:18
 add-t13 : tie.Need-add-t13
 add-t13 c = search needs
 
--- src/kinds.rt:51:16
 shared-slice-read-t15 : tie.Need-shared-slice-read-t15
 shared-slice-read-t15 c = search needs
 
--- src/kinds.rt:52:18
 add-t16 : tie.Need-add-t16
 add-t16 c = search needs
 
--- src/kinds.rt:52:16
 shared-slice-read-t18 : tie.Need-shared-slice-read-t18
 shared-slice-read-t18 c = search needs
 
--- src/kinds.rt:40:1
 returns-2 : tie.Need-returns-2
 returns-2 c = plate-said _ _ _ (c .before .before .before .before .before .before .pre) (c .before .before .before .before .before .if1 .left)
 

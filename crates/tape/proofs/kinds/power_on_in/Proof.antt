@@ -1,3 +1,4 @@
+-- `tape::kinds::power_on_in` meets its contract. Assumes nothing.
 use borrow.Author.Tests.{eq-eqb, ne-eqb}
 use borrow.Author.Needs.{needs}
 use Rattle.tape.proofs.kinds.power_on_in.Statement.{statement}
@@ -5,11 +6,9 @@ use Rattle.tape.proofs.kinds.power_on_in.Tie as tie
 use Rattle.tape.proofs.kinds.power_on_in.Reads as reads
 use Rattle.tape.proofs.kinds.power_on_in.Lts as lts
 
--- src/kinds.rt:116:9
 returns : tie.Need-returns
 returns c = simp (ne-eqb _ _ (c .if1 .taken))
 
--- src/kinds.rt:112:1
 returns-2 : tie.Need-returns-2
 returns-2 c = simp (eq-eqb _ _ (c .if1 .left))
 

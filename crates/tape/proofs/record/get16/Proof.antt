@@ -1,3 +1,4 @@
+-- `tape::record::get16` meets its contract. Assumes nothing.
 use native.Mathlib.Omega.{arith}
 use mathlib.Core.Path.{sym}
 use Rattle.tape.proofs.Bytes.{little-two}
@@ -8,35 +9,27 @@ use Rattle.tape.proofs.record.get16.Reads as reads
 use Rattle.tape.proofs.record.get16.Lts as lts
 use Rattle.tape.proofs.record.wide16.Reads as wide16-reads
 
--- src/record.rt:51:12
 shared-slice-read-wide16 : tie.Need-shared-slice-read-wide16
 shared-slice-read-wide16 c = search needs
 
--- src/record.rt:51:5
 wide16-requires : tie.Need-wide16-requires
 wide16-requires c κs = search needs
 
--- src/record.rt:51:36
 add-wide16 : tie.Need-add-wide16
 add-wide16 c = search needs
 
--- src/record.rt:51:34
 shared-slice-read-wide16-2 : tie.Need-shared-slice-read-wide16-2
 shared-slice-read-wide16-2 c = search needs
 
--- src/record.rt:51:27
 wide16-requires-2 : tie.Need-wide16-requires-2
 wide16-requires-2 c κs = search needs
 
--- src/record.rt:51:21
 mul-result : tie.Need-mul-result
 mul-result c = search needs
 
--- src/record.rt:51:5
 add-result : tie.Need-add-result
 add-result c = search needs
 
--- src/record.rt:47:1
 returns : tie.Need-returns
 returns c = rw (little-two _ _ (c .before .before .before .before .before .pre)) (omega (arith, c .wide162 .ensures .0, c .before .before .wide16 .ensures .0))
 

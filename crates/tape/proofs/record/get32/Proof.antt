@@ -1,3 +1,4 @@
+-- `tape::record::get32` meets its contract. Assumes nothing.
 use native.Mathlib.Omega.{arith}
 use Rattle.tape.proofs.Bytes.{little-four}
 use borrow.Author.Needs.{needs}
@@ -7,75 +8,57 @@ use Rattle.tape.proofs.record.get32.Reads as reads
 use Rattle.tape.proofs.record.get32.Lts as lts
 use Rattle.tape.proofs.record.wide32.Reads as wide32-reads
 
--- src/record.rt:59:12
 shared-slice-read-wide32 : tie.Need-shared-slice-read-wide32
 shared-slice-read-wide32 c = search needs
 
--- src/record.rt:59:5
 wide32-requires : tie.Need-wide32-requires
 wide32-requires c κs = search needs
 
--- src/record.rt:60:26
 add-wide32 : tie.Need-add-wide32
 add-wide32 c = search needs
 
--- src/record.rt:60:24
 shared-slice-read-wide32-2 : tie.Need-shared-slice-read-wide32-2
 shared-slice-read-wide32-2 c = search needs
 
--- src/record.rt:60:17
 wide32-requires-2 : tie.Need-wide32-requires-2
 wide32-requires-2 c κs = search needs
 
--- src/record.rt:60:11
 mul-result : tie.Need-mul-result
 mul-result c = search needs
 
--- src/record.rt:59:5
 add-result : tie.Need-add-result
 add-result c = search needs
 
--- src/record.rt:61:28
 add-wide32-2 : tie.Need-add-wide32-2
 add-wide32-2 c = search needs
 
--- src/record.rt:61:26
 shared-slice-read-wide32-3 : tie.Need-shared-slice-read-wide32-3
 shared-slice-read-wide32-3 c = search needs
 
--- src/record.rt:61:19
 wide32-requires-3 : tie.Need-wide32-requires-3
 wide32-requires-3 c κs = search needs
 
--- src/record.rt:61:11
 mul-result-2 : tie.Need-mul-result-2
 mul-result-2 c = search needs
 
--- src/record.rt:59:5
 add-result-2 : tie.Need-add-result-2
 add-result-2 c = search needs
 
--- src/record.rt:62:31
 add-wide32-3 : tie.Need-add-wide32-3
 add-wide32-3 c = search needs
 
--- src/record.rt:62:29
 shared-slice-read-wide32-4 : tie.Need-shared-slice-read-wide32-4
 shared-slice-read-wide32-4 c = search needs
 
--- src/record.rt:62:22
 wide32-requires-4 : tie.Need-wide32-requires-4
 wide32-requires-4 c κs = search needs
 
--- src/record.rt:62:11
 mul-result-3 : tie.Need-mul-result-3
 mul-result-3 c = search needs
 
--- src/record.rt:59:5
 add-result-3 : tie.Need-add-result-3
 add-result-3 c = search needs
 
--- src/record.rt:55:1
 returns : tie.Need-returns
 returns c = rw (little-four _ _ (c .before .before .before .before .before .before .before .before .before .pre)) (omega (arith, c .wide324 .ensures .0, c .before .before .wide323 .ensures .0, c .before .before .before .before .wide322 .ensures .0, c .before .before .before .before .before .before .wide32 .ensures .0))
 

@@ -1,50 +1,42 @@
+-- `tape::text::bad_line` meets its contract. Assumes nothing.
+use mathlib.Core.Path.{_≡_, _∙_}
+use lib.ListN.{length-set}
+use native.Mathlib.Omega.{arith}
+use Rattle.tape.proofs.Texts.{same-room, bad-printed}
+-- `tape::text::bad_line` meets its contract. Assumes nothing.
 use borrow.Author.Needs.{needs}
 use Rattle.tape.proofs.text.bad_line.Statement.{statement}
 use Rattle.tape.proofs.text.bad_line.Tie as tie
 use Rattle.tape.proofs.text.bad_line.Reads as reads
 use Rattle.tape.proofs.text.bad_line.Lts as lts
-use Rattle.io.proofs.decimal.Reads as decimal-reads
 use Rattle.tape.proofs.text.copy.Reads as copy-reads
+use Rattle.tape.proofs.text.long_decimal.Reads as long-decimal-reads
 
--- src/text.rt:121:21
 slice-aggregate-copy : tie.Need-slice-aggregate-copy
 slice-aggregate-copy c = search needs
 
--- src/text.rt:121:9
 copy-requires : tie.Need-copy-requires
 copy-requires c κs = search needs
 
--- src/text.rt:123:9
-decimal-requires : tie.Need-decimal-requires
-decimal-requires c κs = search needs
+long-decimal-requires : tie.Need-long-decimal-requires
+long-decimal-requires c κs = search needs
 
--- src/text.rt:124:20
-array-share-prefix-digits : tie.Need-array-share-prefix-digits
-array-share-prefix-digits c = search needs
-
--- src/text.rt:124:20
-slice-aggregate-copy-2 : tie.Need-slice-aggregate-copy-2
-slice-aggregate-copy-2 c = search needs
-
--- src/text.rt:124:9
-copy-requires-2 : tie.Need-copy-requires-2
-copy-requires-2 c κs = ?
-
--- src/text.rt:125:5
 slice-write-room : tie.Need-slice-write-room
-slice-write-room c = ?
+slice-write-room c = search needs
 
--- src/text.rt:126:5
 add-result : tie.Need-add-result
 add-result c = search needs
 
--- src/text.rt:117:1
 same-length : tie.Need-same-length
-same-length c = ?
+same-length c =
+    let h = c .before .before .long-decimal in
+    length-set (h .last .1 .0) (h .result) 10 ∙ same-room (h .ensures .0) ∙ same-room (c .before .before .before .before .before .before .copy .ensures)
 
--- src/text.rt:117:1
 returns : tie.Need-returns
-returns c = ?
+returns c =
+    let h = c .before .before .long-decimal in
+    let p = c .before .before .before .before .before .before .copy .ensures in
+    bad-printed _ p (h .ensures .0) (omega (arith, h .ensures .1, p .next))
 
 pub bad-line-spec : {M : Type 1} → statement M
 bad-line-spec =
@@ -52,10 +44,7 @@ bad-line-spec =
     (tie.spec
     slice-aggregate-copy
     copy-requires
-    decimal-requires
-    array-share-prefix-digits
-    slice-aggregate-copy-2
-    copy-requires-2
+    long-decimal-requires
     slice-write-room
     add-result
     same-length

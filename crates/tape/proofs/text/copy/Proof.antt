@@ -18,31 +18,24 @@ Inv-loop s room₀ at i₀ to₀ room i to =
 abbrev μ-loop : tie.MeasureT-loop
 μ-loop s room₀ at i₀ to₀ room i to = length s - i
 
--- src/text.rt:101:5
 loop-holds : tie.Need-loop-holds Inv-loop μ-loop
 loop-holds c = (search needs, search needs, refl, refl)
 
--- src/text.rt:102:20
 shared-slice-read-room : tie.Need-shared-slice-read-room Inv-loop μ-loop
 shared-slice-read-room c = search needs
 
--- src/text.rt:102:9
 slice-write-room : tie.Need-slice-write-room Inv-loop μ-loop
 slice-write-room c = omega arith
 
--- src/text.rt:103:9
 add-i : tie.Need-add-i Inv-loop μ-loop
 add-i c = search needs
 
--- src/text.rt:104:9
 add-to : tie.Need-add-to Inv-loop μ-loop
 add-to c = search needs
 
--- src/text.rt:101:5
 loop-less : tie.Need-loop-less Inv-loop μ-loop
 loop-less c = search needs
 
--- src/text.rt:101:5
 loop-again : tie.Need-loop-again Inv-loop μ-loop
 loop-again c =
     let u = c .before .before in
@@ -50,11 +43,9 @@ loop-again c =
     let v = u .loop .inv in
     (omega arith, omega arith, simp length-set (v .2), copy-next (a .s .now) (u .loop .room) (u .loop .i) (u .loop .to) (omega arith) (omega arith) ∙ v .3)
 
--- src/text.rt:95:1
 same-length : tie.Need-same-length Inv-loop μ-loop
 same-length c = search needs
 
--- src/text.rt:95:1
 returns : tie.Need-returns Inv-loop μ-loop
 returns c =
     let a = c .before .before .args in

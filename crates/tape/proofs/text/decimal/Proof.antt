@@ -5,7 +5,8 @@ use native.Mathlib.Omega.{arith}
 use lib.ListN.{length, length-set}
 use Rattle.meaning.specs.Bytes.{put}
 use Rattle.io.specs.Digits.{digits}
-use Rattle.tape.proofs.Decimal.{digit-less, same-digits, length-digits}
+use Rattle.tape.proofs.Decimal.{digit-less}
+use Rattle.tape.proofs.Texts.{decimal-printed}
 use borrow.Author.Needs.{needs}
 use Rattle.tape.proofs.text.decimal.Statement.{statement}
 use Rattle.tape.proofs.text.decimal.Tie as tie
@@ -20,53 +21,48 @@ Inv-loop n room₀ at k i₀ rest₀ room i rest =
 abbrev μ-loop : tie.MeasureT-loop
 μ-loop n room₀ at k i₀ rest₀ room i rest = i
 
--- src/text.rt:48:9
 places-requires : tie.Need-places-requires Inv-loop μ-loop
 places-requires c κs = search needs
 
--- src/text.rt:51:5
 loop-holds : tie.Need-loop-holds Inv-loop μ-loop
 loop-holds c = (search needs, refl, refl)
 
--- src/text.rt:52:9
 sub-i : tie.Need-sub-i Inv-loop μ-loop
 sub-i c = search needs
 
--- src/text.rt:53:29
 cast-room : tie.Need-cast-room Inv-loop μ-loop
 cast-room c = search needs
 
--- src/text.rt:53:24
 add-room : tie.Need-add-room Inv-loop μ-loop
 add-room c = search needs
 
--- src/text.rt:53:14
 add-room-2 : tie.Need-add-room-2 Inv-loop μ-loop
 add-room-2 c = search needs
 
--- src/text.rt:53:9
 slice-write-room : tie.Need-slice-write-room Inv-loop μ-loop
 slice-write-room c = search needs
 
--- src/text.rt:51:5
 loop-less : tie.Need-loop-less Inv-loop μ-loop
 loop-less c = search needs
 
--- src/text.rt:51:5
 loop-again : tie.Need-loop-again Inv-loop μ-loop
-loop-again c = search needs
+loop-again c =
+    let u = c .before in
+    let a = u .before .before .before .args in
+    let v = u .loop .inv in
+    (search needs, simp length-set (v .1), digit-less (u .loop .room) (a .at) (u .loop .i) (u .loop .rest) (omega arith) (omega arith) ∙ v .2)
 
--- src/text.rt:56:5
 add-result : tie.Need-add-result Inv-loop μ-loop
 add-result c = search needs
 
--- src/text.rt:44:1
 same-length : tie.Need-same-length Inv-loop μ-loop
 same-length c = search needs
 
--- src/text.rt:44:1
 returns : tie.Need-returns Inv-loop μ-loop
-returns c = search needs
+returns c =
+    let u = c .before in
+    let p = u .before .places .ensures in
+    (decimal-printed _ _ _ (u .loop .i) (u .loop .rest) _ _ (p .0) (p .1) (omega arith) (omega arith) (u .loop .inv .2), omega arith)
 
 pub decimal-spec : {M : Type 1} → statement M
 decimal-spec =

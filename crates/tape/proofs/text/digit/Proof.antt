@@ -7,20 +7,16 @@ use Rattle.tape.proofs.text.digit.Tie as tie
 use Rattle.tape.proofs.text.digit.Reads as reads
 use Rattle.tape.proofs.text.digit.Lts as lts
 
--- src/text.rt:63:17
 add-result : tie.Need-add-result
 add-result c = search needs
 
--- src/text.rt:63:33
 add-result-2 : tie.Need-add-result-2
 add-result-2 c = search needs
 
--- src/text.rt:59:1
 returns : tie.Need-returns
 unfolding digitOf
 returns c = simp (lt-ltb _ _ (c .if1 .taken))
 
--- src/text.rt:59:1
 returns-2 : tie.Need-returns-2
 unfolding digitOf
 returns-2 c = simp (le-ltb _ _ (c .if1 .left))

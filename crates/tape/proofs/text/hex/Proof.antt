@@ -20,59 +20,46 @@ Inv-loop s room₀ at i₀ to₀ room i to =
 abbrev μ-loop : tie.MeasureT-loop
 μ-loop s room₀ at i₀ to₀ room i to = length s - i
 
--- src/text.rt:73:5
 loop-holds : tie.Need-loop-holds Inv-loop μ-loop
 loop-holds c = (search needs, search needs, refl, refl)
 
--- src/text.rt:74:17
 shared-slice-read-b : tie.Need-shared-slice-read-b Inv-loop μ-loop
 shared-slice-read-b c = search needs
 
--- src/text.rt:75:9
 slice-write-room : tie.Need-slice-write-room Inv-loop μ-loop
 slice-write-room c = search needs
 
--- src/text.rt:76:24
 digit-requires : tie.Need-digit-requires Inv-loop μ-loop
-digit-requires c κs = search needs
+digit-requires c κs = omega (arith, c .shared-slice-known2 .given (c .before .before .loop .i))
 
--- src/text.rt:76:14
 add-room : tie.Need-add-room Inv-loop μ-loop
 add-room c = search needs
 
--- src/text.rt:76:9
 slice-write-room-2 : tie.Need-slice-write-room-2 Inv-loop μ-loop
 slice-write-room-2 c = simp length-set (omega arith)
 
--- src/text.rt:77:24
 digit-requires-2 : tie.Need-digit-requires-2 Inv-loop μ-loop
 digit-requires-2 c κs = search needs
 
--- src/text.rt:77:14
 add-room-2 : tie.Need-add-room-2 Inv-loop μ-loop
 add-room-2 c = search needs
 
--- src/text.rt:77:9
 slice-write-room-3 : tie.Need-slice-write-room-3 Inv-loop μ-loop
 slice-write-room-3 c = simp length-set (omega arith)
 
--- src/text.rt:78:9
 add-i : tie.Need-add-i Inv-loop μ-loop
 add-i c = search needs
 
--- src/text.rt:79:9
 add-to : tie.Need-add-to Inv-loop μ-loop
 add-to c = search needs
 
--- src/text.rt:73:5
 loop-less : tie.Need-loop-less Inv-loop μ-loop
 loop-less c = search needs
 
--- src/text.rt:73:5
 loop-again : tie.Need-loop-again Inv-loop μ-loop
 loop-again c =
     let u = c .before .before .before .before in
-    let a = u .before .before .args in
+    let a = u .before .before .before .args in
     let v = u .loop .inv in (
       omega arith,
       omega arith,
@@ -80,15 +67,13 @@ loop-again c =
       rw (c .digit2 .ensures, c .before .digit .ensures) (hex-more (a .s .now) (u .loop .room) (u .loop .i) (u .loop .to) (omega arith) (omega arith)) ∙ v .3,
     )
 
--- src/text.rt:67:1
 same-length : tie.Need-same-length Inv-loop μ-loop
 same-length c = search needs
 
--- src/text.rt:67:1
 returns : tie.Need-returns Inv-loop μ-loop
 unfolding hexOf
 returns c =
-    let a = c .before .before .before .args in
+    let a = c .before .before .before .before .args in
     let v = c .before .loop .inv in
     record { next = rw (length-hex (a .s .now)) (omega arith); bytes = none-left (a .s .now) _ (c .before .loop .i) (c .before .loop .to) hexOf refl (omega arith) (v .3); within = omega arith }
 
