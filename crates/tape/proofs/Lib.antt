@@ -4,3 +4,4 @@ pub mod Decimal
 pub mod Events
 pub mod Windows
 pub mod Texts
+pub mod Streams

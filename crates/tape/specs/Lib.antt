@@ -3,3 +3,4 @@ pub mod Kinds
 pub mod Text
 pub mod Answers
 pub mod Reader
+pub mod Passes
