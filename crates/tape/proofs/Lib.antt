@@ -5,3 +5,4 @@ pub mod Events
 pub mod Windows
 pub mod Texts
 pub mod Streams
+pub mod Worked
