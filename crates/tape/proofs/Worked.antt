@@ -35,3 +35,8 @@ prints = tt
 pub cut-short : T (same (answersOf (take 46 tape)) (firstLine ++ (98 ∷ 97 ∷ 100 ∷ 32 ∷ 51 ∷ 57 ∷ 10 ∷ [])))
 unfolding same part put blank xorFrom xorAll among plateOk fresh none withLine ownByte gap over more taken upTo still step little lengthAt recordAt sized characterIn callOf saidBy decimalIn decimalOf firstLine badLine printedOf bad begun stepped turn answersFrom answersOf
 cut-short = tt
+
+-- 01, "first and once": a second plate is bad, at place 9
+pub plate-once : T (same (answersOf (take 9 tape ++ take 9 tape)) (firstLine ++ (98 ∷ 97 ∷ 100 ∷ 32 ∷ 57 ∷ 10 ∷ [])))
+unfolding same part among plateOk fresh none little lengthAt recordAt sized callOf saidBy decimalIn decimalOf firstLine badLine bad begun turn answersFrom answersOf
+plate-once = tt
