@@ -1,0 +1,34 @@
+use borrow.Author.Needs.{needs}
+use Rattle.answers.proofs.passes.finish.Statement.{statement}
+use Rattle.answers.proofs.passes.finish.Tie as tie
+use Rattle.answers.proofs.passes.finish.Reads as reads
+use Rattle.answers.proofs.passes.finish.Lts as lts
+use Rattle.tape.proofs.bad_line.Reads as bad-line-reads
+
+-- src/passes.rt:258:9
+returns : tie.Need-returns
+returns c = ?
+
+-- src/passes.rt:262:9
+enum-told : tie.Need-enum-told
+enum-told c = search needs
+
+-- src/passes.rt:262:9
+returns-2 : tie.Need-returns-2
+returns-2 c = ?
+
+-- src/passes.rt:264:5
+bad-line-requires : tie.Need-bad-line-requires
+bad-line-requires c κs = search needs
+
+-- src/passes.rt:253:1
+same-length : tie.Need-same-length
+same-length c = search needs
+
+-- src/passes.rt:253:1
+returns-3 : tie.Need-returns-3
+returns-3 c = ?
+
+pub finish-spec : {M : Type 1} → statement M
+finish-spec =
+    tie.close (tie.spec returns enum-told returns-2 bad-line-requires same-length returns-3)

@@ -1,0 +1,230 @@
+use borrow.Author.Needs.{needs}
+use Rattle.answers.proofs.passes.play.Statement.{statement}
+use Rattle.answers.proofs.passes.play.Tie as tie
+use Rattle.answers.proofs.passes.play.Reads as reads
+use Rattle.answers.proofs.passes.play.Lts as lts
+use Rattle.answers.proofs.passes.halt.Reads as halt-reads
+use Rattle.answers.proofs.turns.hear.Reads as hear-reads
+use Rattle.answers.proofs.turns.quick.Reads as quick-reads
+use Rattle.answers.proofs.turns.turn.Reads as turn-reads
+use Rattle.tape.proofs.bad_line.Reads as bad-line-reads
+
+abbrev Inv-loop : tie.InvT-loop
+Inv-loop plate place window from kept₀ memory₀ reply₀ out₀ start state₀ frame₀ at₀ used₀ kept memory reply out state frame at used =
+    ?
+
+abbrev μ-loop : tie.MeasureT-loop
+μ-loop plate place window from kept₀ memory₀ reply₀ out₀ start state₀ frame₀ at₀ used₀ kept memory reply out state frame at used =
+    ?
+
+-- src/passes.rt:77:5
+loop-holds : tie.Need-loop-holds Inv-loop μ-loop
+loop-holds c = ?
+
+-- src/passes.rt:78:12
+sub-if1 : tie.Need-sub-if1 Inv-loop μ-loop
+sub-if1 c = ?
+
+-- src/passes.rt:79:13
+halt-requires : tie.Need-halt-requires Inv-loop μ-loop
+halt-requires c κs = ?
+
+-- src/passes.rt:79:13
+same-length : tie.Need-same-length Inv-loop μ-loop
+same-length c = ?
+
+-- src/passes.rt:79:13
+same-length-2 : tie.Need-same-length-2 Inv-loop μ-loop
+same-length-2 c = ?
+
+-- src/passes.rt:79:13
+same-length-3 : tie.Need-same-length-3 Inv-loop μ-loop
+same-length-3 c = ?
+
+-- src/passes.rt:79:13
+same-length-4 : tie.Need-same-length-4 Inv-loop μ-loop
+same-length-4 c = ?
+
+-- src/passes.rt:79:13
+returns : tie.Need-returns Inv-loop μ-loop
+returns c = ?
+
+-- src/passes.rt:81:15
+hear-requires : tie.Need-hear-requires Inv-loop μ-loop
+hear-requires c κs = ?
+
+-- src/passes.rt:83:53
+enum-told : tie.Need-enum-told Inv-loop μ-loop
+enum-told c = ?
+
+-- src/passes.rt:83:17
+halt-requires-2 : tie.Need-halt-requires-2 Inv-loop μ-loop
+halt-requires-2 c κs = ?
+
+-- src/passes.rt:83:17
+same-length-5 : tie.Need-same-length-5 Inv-loop μ-loop
+same-length-5 c = ?
+
+-- src/passes.rt:83:17
+same-length-6 : tie.Need-same-length-6 Inv-loop μ-loop
+same-length-6 c = ?
+
+-- src/passes.rt:83:17
+same-length-7 : tie.Need-same-length-7 Inv-loop μ-loop
+same-length-7 c = ?
+
+-- src/passes.rt:83:17
+same-length-8 : tie.Need-same-length-8 Inv-loop μ-loop
+same-length-8 c = ?
+
+-- src/passes.rt:83:17
+returns-2 : tie.Need-returns-2 Inv-loop μ-loop
+returns-2 c = ?
+
+-- src/passes.rt:86:50
+enum-told-2 : tie.Need-enum-told-2 Inv-loop μ-loop
+enum-told-2 c = ?
+
+-- src/passes.rt:86:42
+add-bad-line : tie.Need-add-bad-line Inv-loop μ-loop
+add-bad-line c = ?
+
+-- src/passes.rt:86:21
+bad-line-requires : tie.Need-bad-line-requires Inv-loop μ-loop
+bad-line-requires c κs = ?
+
+-- src/passes.rt:87:17
+halt-requires-3 : tie.Need-halt-requires-3 Inv-loop μ-loop
+halt-requires-3 c κs = ?
+
+-- src/passes.rt:87:17
+same-length-9 : tie.Need-same-length-9 Inv-loop μ-loop
+same-length-9 c = ?
+
+-- src/passes.rt:87:17
+same-length-10 : tie.Need-same-length-10 Inv-loop μ-loop
+same-length-10 c = ?
+
+-- src/passes.rt:87:17
+same-length-11 : tie.Need-same-length-11 Inv-loop μ-loop
+same-length-11 c = ?
+
+-- src/passes.rt:87:17
+same-length-12 : tie.Need-same-length-12 Inv-loop μ-loop
+same-length-12 c = ?
+
+-- src/passes.rt:87:17
+returns-3 : tie.Need-returns-3 Inv-loop μ-loop
+returns-3 c = ?
+
+-- src/passes.rt:89:27
+enum-known-event : tie.Need-enum-known-event Inv-loop μ-loop
+enum-known-event c = ?
+
+-- src/passes.rt:90:23
+quick-requires : tie.Need-quick-requires Inv-loop μ-loop
+quick-requires c κs = ?
+
+-- src/passes.rt:91:32
+enum-known-more : tie.Need-enum-known-more Inv-loop μ-loop
+enum-known-more c = ?
+
+-- src/passes.rt:95:29
+enum-told-3 : tie.Need-enum-told-3 Inv-loop μ-loop
+enum-told-3 c = ?
+
+-- src/passes.rt:96:36
+add-here : tie.Need-add-here Inv-loop μ-loop
+add-here c = ?
+
+-- src/passes.rt:97:29
+turn-requires : tie.Need-turn-requires Inv-loop μ-loop
+turn-requires c κs = ?
+
+-- src/passes.rt:101:29
+halt-requires-4 : tie.Need-halt-requires-4 Inv-loop μ-loop
+halt-requires-4 c κs = ?
+
+-- src/passes.rt:101:29
+same-length-13 : tie.Need-same-length-13 Inv-loop μ-loop
+same-length-13 c = ?
+
+-- src/passes.rt:101:29
+same-length-14 : tie.Need-same-length-14 Inv-loop μ-loop
+same-length-14 c = ?
+
+-- src/passes.rt:101:29
+same-length-15 : tie.Need-same-length-15 Inv-loop μ-loop
+same-length-15 c = ?
+
+-- src/passes.rt:101:29
+same-length-16 : tie.Need-same-length-16 Inv-loop μ-loop
+same-length-16 c = ?
+
+-- src/passes.rt:101:29
+returns-4 : tie.Need-returns-4 Inv-loop μ-loop
+returns-4 c = ?
+
+-- src/passes.rt:77:5
+loop-less : tie.Need-loop-less Inv-loop μ-loop
+loop-less c = ?
+
+-- src/passes.rt:77:5
+loop-again : tie.Need-loop-again Inv-loop μ-loop
+loop-again c = ?
+
+-- src/passes.rt:77:5
+loop-less-2 : tie.Need-loop-less-2 Inv-loop μ-loop
+loop-less-2 c = ?
+
+-- src/passes.rt:77:5
+loop-again-2 : tie.Need-loop-again-2 Inv-loop μ-loop
+loop-again-2 c = ?
+
+pub play-spec : {M : Type 1} → statement M
+play-spec =
+    tie.close
+    (tie.spec
+    Inv-loop
+    μ-loop
+    loop-holds
+    sub-if1
+    halt-requires
+    same-length
+    same-length-2
+    same-length-3
+    same-length-4
+    returns
+    hear-requires
+    enum-told
+    halt-requires-2
+    same-length-5
+    same-length-6
+    same-length-7
+    same-length-8
+    returns-2
+    enum-told-2
+    add-bad-line
+    bad-line-requires
+    halt-requires-3
+    same-length-9
+    same-length-10
+    same-length-11
+    same-length-12
+    returns-3
+    enum-known-event
+    quick-requires
+    enum-known-more
+    enum-told-3
+    add-here
+    turn-requires
+    halt-requires-4
+    same-length-13
+    same-length-14
+    same-length-15
+    same-length-16
+    returns-4
+    loop-less
+    loop-again
+    loop-less-2
+    loop-again-2)

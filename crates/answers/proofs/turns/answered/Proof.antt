@@ -1,0 +1,53 @@
+use borrow.Author.Needs.{needs}
+use Rattle.answers.proofs.turns.answered.Statement.{statement}
+use Rattle.answers.proofs.turns.answered.Tie as tie
+use Rattle.answers.proofs.turns.answered.Reads as reads
+use Rattle.answers.proofs.turns.answered.Lts as lts
+use Rattle.answers.proofs.turns.after.Reads as after-reads
+use Rattle.answers.proofs.turns.sent.Reads as sent-reads
+use Rattle.tape.proofs.reply_line.Reads as reply-line-reads
+
+-- src/turns.rt:112:9
+sent-requires : tie.Need-sent-requires
+sent-requires c κs = search needs
+
+-- src/turns.rt:114:9
+after-requires : tie.Need-after-requires
+after-requires c κs = search needs
+
+-- src/turns.rt:114:9
+returns : tie.Need-returns
+returns c = ?
+
+-- src/turns.rt:116:38
+slice-aggregate-reply-line : tie.Need-slice-aggregate-reply-line
+slice-aggregate-reply-line c = ?
+
+-- src/turns.rt:116:9
+reply-line-requires : tie.Need-reply-line-requires
+reply-line-requires c κs = ?
+
+-- src/turns.rt:117:5
+after-requires-2 : tie.Need-after-requires-2
+after-requires-2 c κs = search needs
+
+-- src/turns.rt:106:1
+same-length : tie.Need-same-length
+same-length c = search needs
+
+-- src/turns.rt:106:1
+returns-2 : tie.Need-returns-2
+returns-2 c = ?
+
+pub answered-spec : {M : Type 1} → statement M
+answered-spec =
+    tie.close
+    (tie.spec
+    sent-requires
+    after-requires
+    returns
+    slice-aggregate-reply-line
+    reply-line-requires
+    after-requires-2
+    same-length
+    returns-2)

@@ -1,0 +1,52 @@
+use borrow.Author.Needs.{needs}
+use Rattle.answers.proofs.turns.hear.Statement.{statement}
+use Rattle.answers.proofs.turns.hear.Tie as tie
+use Rattle.answers.proofs.turns.hear.Reads as reads
+use Rattle.answers.proofs.turns.hear.Lts as lts
+use Rattle.tape.proofs.event_of.Reads as event-of-reads
+use Rattle.tape.proofs.record.Cursor.read.Reads as read-reads
+
+-- src/turns.rt:44:11
+read-requires : tie.Need-read-requires
+read-requires c κs = search needs
+
+-- src/turns.rt:45:23
+enum-told : tie.Need-enum-told
+enum-told c = search needs
+
+-- src/turns.rt:46:22
+enum-told-2 : tie.Need-enum-told-2
+enum-told-2 c = search needs
+
+-- src/turns.rt:48:13
+enum-known-kind : tie.Need-enum-known-kind
+enum-known-kind c = search needs
+
+-- src/turns.rt:53:17
+event-of-requires : tie.Need-event-of-requires
+event-of-requires c κs = ?
+
+-- src/turns.rt:40:1
+returns : tie.Need-returns
+returns c = ?
+
+-- src/turns.rt:40:1
+returns-2 : tie.Need-returns-2
+returns-2 c = ?
+
+-- src/turns.rt:40:1
+returns-3 : tie.Need-returns-3
+returns-3 c = ?
+
+pub hear-spec : {M : Type 1} → statement M
+hear-spec =
+    tie.close
+    (tie.spec
+    read-requires
+    enum-told
+    enum-told-2
+    enum-known-kind
+    event-of-requires
+    returns
+    returns-2
+    returns-3)

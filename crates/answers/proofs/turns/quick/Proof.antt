@@ -1,0 +1,67 @@
+use borrow.Author.Needs.{needs}
+use Rattle.answers.proofs.turns.quick.Statement.{statement}
+use Rattle.answers.proofs.turns.quick.Tie as tie
+use Rattle.answers.proofs.turns.quick.Reads as reads
+use Rattle.answers.proofs.turns.quick.Lts as lts
+use Rattle.line.proofs.characters.Frame.is_over.Reads as is-over-reads
+use Rattle.line.proofs.characters.Frame.with_character.Reads as with-character-reads
+
+-- src/turns.rt:69:13
+enum-known-event : tie.Need-enum-known-event
+enum-known-event c = search needs
+
+-- src/turns.rt:73:16
+is-over-requires : tie.Need-is-over-requires
+is-over-requires c κs = search needs
+
+-- src/turns.rt:74:17
+returns : tie.Need-returns
+returns c = search needs
+
+-- src/turns.rt:76:24
+with-character-requires : tie.Need-with-character-requires
+with-character-requires c κs = search needs
+
+-- src/turns.rt:78:23
+enum-known-event-2 : tie.Need-enum-known-event-2
+enum-known-event-2 c = search needs
+
+-- src/turns.rt:79:16
+is-over-requires-2 : tie.Need-is-over-requires-2
+is-over-requires-2 c κs = search needs
+
+-- src/turns.rt:80:17
+returns-2 : tie.Need-returns-2
+returns-2 c = search needs
+
+-- src/turns.rt:63:1
+same-length : tie.Need-same-length
+same-length c = search needs
+
+-- src/turns.rt:63:1
+returns-3 : tie.Need-returns-3
+returns-3 c = ?
+
+-- src/turns.rt:63:1
+returns-4 : tie.Need-returns-4
+returns-4 c = ?
+
+-- src/turns.rt:63:1
+returns-5 : tie.Need-returns-5
+returns-5 c = search needs
+
+pub quick-spec : {M : Type 1} → statement M
+quick-spec =
+    tie.close
+    (tie.spec
+    enum-known-event
+    is-over-requires
+    returns
+    with-character-requires
+    enum-known-event-2
+    is-over-requires-2
+    returns-2
+    same-length
+    returns-3
+    returns-4
+    returns-5)
