@@ -1,0 +1,47 @@
+-- What the bench's answers say, by this paper's numbers (01, "Named refusals"): R4, R5, B0 to B6. Assumes nothing.
+use mathlib.Core.Path.{_≡_}
+use mathlib.Core.Bool.{true, false}
+use mathlib.Core.List.{List, []}
+use Prim.Native.Nat.{ℕ, _≤_}
+use lib.ListN.{length}
+use Rattle.meaning.specs.Bench as meaning
+use Rattle.bench.specs.declared.request.Written.{Written}
+use Rattle.bench.specs.declared.request.Written.the-variants.{Request, R4, R5}
+use Rattle.bench.specs.declared.reply.Refusal.{Refusal}
+use Rattle.bench.specs.declared.reply.Refusal.the-variants.{B0, B1, B2, B3, B4, B5, B6}
+use Rattle.bench.specs.declared.reply.Verdict.{Verdict}
+use Rattle.bench.specs.declared.reply.Verdict.the-variants.{Done, DoneWithWarning, Error, ErrorWithWarning, Refused}
+
+-- what writing came to, with the room as it is afterwards
+abbrev pub writtenOf : Written → List ℕ → meaning.Written
+writtenOf (Request n) room = record { refusal = 0; count = n; room = room }
+writtenOf R4 room = record { refusal = 4; count = 0; room = room }
+writtenOf R5 room = record { refusal = 5; count = 0; room = room }
+
+abbrev pub numberOf : Refusal → ℕ
+numberOf B0 = 0
+numberOf B1 = 1
+numberOf B2 = 2
+numberOf B3 = 3
+numberOf B4 = 4
+numberOf B5 = 5
+numberOf B6 = 6
+
+-- the verdict says nothing of the data: that is handed back by a second call
+abbrev pub verdictOf : Verdict → meaning.Verdict
+verdictOf Done = meaning.done false []
+verdictOf DoneWithWarning = meaning.done true []
+verdictOf (Error e) = meaning.failed false e
+verdictOf (ErrorWithWarning e) = meaning.failed true e
+verdictOf (Refused b) = meaning.refusal (numberOf b)
+
+abbrev pub withoutData : meaning.Verdict → meaning.Verdict
+withoutData (meaning.refusal n) = meaning.refusal n
+withoutData (meaning.done w d) = meaning.done w []
+withoutData (meaning.failed w e) = meaning.failed w e
+
+-- a request and a reply, and the reply is no error reply
+pub record Ordinary (q r : List ℕ) : Type 0 where
+  pub long : 3 ≤ length q
+  pub heard : 3 ≤ length r
+  pub ordinary : meaning.errorReply q r ≡ false

@@ -1,0 +1,174 @@
+// Judging a reply (01, "The bench", and "Named refusals", B0 to B6).
+ghost use mathlib.Core.Path.{_≡_};
+ghost use mathlib.Core.Bool.{true, false, not};
+ghost use mathlib.Core.List.{List};
+ghost use Prim.Native.Nat.{ℕ, _+_, _%_, _≤_};
+ghost use lib.Dec.{eqb};
+ghost use lib.ListN.{length};
+ghost use denote.Ref.{ptr};
+ghost use Rattle.meaning.specs.Bytes.{both, either, arg, part};
+ghost use Rattle.meaning.specs.Bench.{boardByte, addressByte, written, fromAsked, errorReply, content, handed};
+ghost use Rattle.meaning.specs.Bench as meaning;
+ghost use Rattle.bench.specs.Outcomes.{verdictOf, withoutData, Ordinary};
+use crate::bytes::byte_at;
+use crate::bytes::data_part;
+use crate::bytes::first;
+use crate::bytes::same;
+use crate::request::is_allowed;
+
+// The refusals by their numbers in 01.
+pub enum Refusal {
+    B0,
+    B1,
+    B2,
+    B3,
+    B4,
+    B5,
+    B6,
+}
+
+// An error has its code.
+pub enum Verdict {
+    Done,
+    DoneWithWarning,
+    Error(u8),
+    ErrorWithWarning(u8),
+    Refused(Refusal),
+}
+
+fn is_board(address: u8) -> bool
+    ensures { λ r. ⌜ r ≡ boardByte address ⌝ }
+{
+    if address < 0x40 {
+        return false;
+    }
+    address <= 0x5F
+}
+
+fn is_address(address: u8) -> bool
+    ensures { λ r. ⌜ r ≡ addressByte address ⌝ }
+{
+    if is_board(address) {
+        return true;
+    }
+    address == 0xFF
+}
+
+// B0: the request is one that the bench writes.
+fn is_written(request: &[u8]) -> bool
+    ensures { λ r. ⌜ r ≡ written (now (request .entry)) ⌝ }
+{
+    if request.len() < 3 {
+        return false;
+    }
+    if frame::xor_of(request) != 0 {
+        return false;
+    }
+    if !is_address(request[0]) {
+        return false;
+    }
+    is_allowed(request[1], data_part(request))
+}
+
+// B3: "address not the asked one; for broadcast, not 40h to 5Fh".
+fn from_asked(asked: u8, answering: u8) -> bool
+    ensures { λ r. ⌜ r ≡ fromAsked asked answering ⌝ }
+{
+    if asked == 0xFF {
+        return is_board(answering);
+    }
+    answering == asked
+}
+
+// B4: the command without bit 7 is the request's or 50h.
+fn command_fits(asked: u8, answering: u8) -> bool
+    ensures { λ r. ⌜ r ≡ either (eqb (answering % 128) asked) (eqb (answering % 128) 0x50) ⌝ }
+{
+    let low = answering % 128;
+    if low == asked {
+        return true;
+    }
+    low == 0x50
+}
+
+// 01, "A reply whose command is 50h or D0h is error code, except to a request 50h".
+fn is_error(asked: u8, answering: u8) -> bool
+    ensures { λ r. ⌜ r ≡ both (eqb (answering % 128) 0x50) (not (eqb asked 0x50)) ⌝ }
+{
+    if answering % 128 == 0x50 {
+        return asked != 0x50;
+    }
+    false
+}
+
+// B5 of an error reply.
+fn error_verdict(reply: &[u8]) -> Verdict
+    requires { ⌜ 3 ≤ length (now reply) ⌝ }
+    ensures { λ r. ⌜ ((q : List ℕ) → errorReply q (now (reply .entry)) ≡ true → verdictOf r ≡ withoutData (content q (now (reply .entry)))) ⌝ }
+{
+    if reply.len() != 4 {
+        return Verdict::Refused(Refusal::B5);
+    }
+    if reply[1] < 128 {
+        return Verdict::Error(reply[2]);
+    }
+    Verdict::ErrorWithWarning(reply[2])
+}
+
+// B5 and B6 of any other reply.
+fn done_verdict(request: &[u8], reply: &[u8]) -> Verdict
+    requires { ⌜ Ordinary (now request) (now reply) ⌝ }
+    ensures { λ r. ⌜ verdictOf r ≡ withoutData (content (now (request .entry)) (now (reply .entry))) ⌝ }
+{
+    let row = frame::row_of(request[1]);
+    let wanted = row.reply;
+    let asked = data_part(request);
+    let answered = data_part(reply);
+    if !frame::length_fits(wanted, byte_at(asked, 2), answered.len()) {
+        return Verdict::Refused(Refusal::B5);
+    }
+    if !same(first(answered, row.repeats), first(asked, row.repeats)) {
+        return Verdict::Refused(Refusal::B6);
+    }
+    if reply[1] < 128 {
+        return Verdict::Done;
+    }
+    Verdict::DoneWithWarning
+}
+
+// 01, "Checks in order: B0 to B6".
+pub fn judge(request: &[u8], reply: &[u8]) -> Verdict
+    ensures { λ r. ⌜ verdictOf r ≡ withoutData (meaning.judge (now (request .entry)) (now (reply .entry))) ⌝ }
+{
+    if !is_written(request) {
+        return Verdict::Refused(Refusal::B0);
+    }
+    if reply.len() < 3 {
+        return Verdict::Refused(Refusal::B1);
+    }
+    if frame::xor_of(reply) != 0 {
+        return Verdict::Refused(Refusal::B2);
+    }
+    if !from_asked(request[0], reply[0]) {
+        return Verdict::Refused(Refusal::B3);
+    }
+    if !command_fits(request[1], reply[1]) {
+        return Verdict::Refused(Refusal::B4);
+    }
+    if is_error(request[1], reply[1]) {
+        return error_verdict(reply);
+    }
+    done_verdict(request, reply)
+}
+
+// 01, "the data part is handed back as a piece of the reply itself, and on refusal as the empty piece at its front".
+pub fn data_of<'a>(request: &[u8], reply: &'a [u8]) -> &'a [u8]
+    ensures { λ r. ⌜ now r ≡ part (now (reply .entry)) ((handed (now (request .entry)) (now (reply .entry))) .from) ((handed (now (request .entry)) (now (reply .entry))) .count) ⌝ }
+    ensures { λ r. ⌜ ptr r ≡ (ptr (reply .entry) .0, (handed (now (request .entry)) (now (reply .entry))) .from + ptr (reply .entry) .1) ⌝ }
+{
+    let verdict = judge(request, reply);
+    if let Verdict::Refused(_) = verdict {
+        return &reply[..0];
+    }
+    data_part(reply)
+}

@@ -1,0 +1,72 @@
+// Writing a request (01, "Named refusals", R4 and R5).
+ghost use mathlib.Core.Path.{_≡_};
+ghost use mathlib.Core.Bool.{true};
+ghost use Rattle.meaning.specs.Commands.{commandOf};
+ghost use Rattle.meaning.specs.Bench.{addressOk, addressFor, allowed, writes};
+ghost use Rattle.bench.specs.Outcomes.{writtenOf};
+use crate::bytes::byte_at;
+
+// The length of the request that fills the front of the room, or the refusal; refused, the room is untouched.
+pub enum Written {
+    Request { len: usize },
+    R4,
+    R5,
+}
+
+// 01, "It writes a request for an address 0 to 31 or broadcast": broadcast is the number 255.
+fn address_ok(address: u32) -> bool
+    ensures { λ r. ⌜ r ≡ addressOk address ⌝ }
+{
+    if address <= 31 {
+        return true;
+    }
+    address == 255
+}
+
+fn address_byte(address: u32) -> u8
+    requires { ⌜ addressOk address ≡ true ⌝ }
+    ensures { λ r. ⌜ r ≡ addressFor address ⌝ }
+{
+    if address == 255 {
+        return 0xFF;
+    }
+    0x40 + address as u8
+}
+
+// R5: "4Ah's count 0 or over 128; 4Fh's number over 3. Not otherwise".
+pub fn is_allowed(command: u8, body: &[u8]) -> bool
+    ensures { λ r. ⌜ r ≡ allowed (commandOf command) (now (body .entry)) ⌝ }
+{
+    let row = frame::row_of(command);
+    let wanted = row.request;
+    let count = byte_at(body, 2);
+    if !frame::length_fits(wanted, count, body.len()) {
+        return false;
+    }
+    if command == 0x4A {
+        return 1 <= count && count <= 128;
+    }
+    if command == 0x4F {
+        return byte_at(body, 0) <= 3;
+    }
+    true
+}
+
+// R4 before R5. `address` is 0 to 31, or 255 for broadcast.
+pub fn write_request(address: u32, command: u8, body: &[u8], room: &mut [u8]) -> Written
+    ensures { λ r. ⌜ writtenOf r (now (room .exit)) ≡ writes address command (now (body .entry)) (now (room .entry)) ⌝ }
+{
+    if room.len() < 135 {
+        return Written::R4;
+    }
+    if !address_ok(address) {
+        return Written::R5;
+    }
+    if !is_allowed(command, body) {
+        return Written::R5;
+    }
+    frame::write(address_byte(address), command, body, room);
+    Written::Request {
+        len: body.len() + 3,
+    }
+}

@@ -1,0 +1,211 @@
+-- A closed frame by its judgement: silence, an error code, a request worked and answered. Assumes nothing.
+use Prim.Native.Nat.{ℕ, suc, _+_, _-_, _≤_, _<_}
+use native.Mathlib.Omega.{arith}
+use mathlib.Core.Path.{_≡_, refl, sym, ap, _∙_}
+use mathlib.Core.Bool.{Bool, true, false, false≢true}
+use mathlib.Core.List.{List, [], _∷_}
+use borrow.Author.Tests.{ne-eqb, ltb-true, ltb-false}
+use lib.Dec.{eqb, ltb}
+use lib.ListN.{length, take, drop, length-take, length-drop}
+use lib.Seq.{length-take-le, take-take, take-nil}
+use Rattle.meaning.specs.Bytes.{put, part}
+use Rattle.meaning.specs.State as meaning
+use Rattle.meaning.specs.State.{none, plateOk, ownByte}
+use Rattle.meaning.specs.Commands as commands
+use Rattle.meaning.specs.Commands.{commandOf, asked, row, lengthFits, unknown, worked}
+use Rattle.meaning.specs.Frames.{Outcome, commandByte, dataOf, closed, sealed, message, warned, still, outcome, leaves, ending, work}
+use Rattle.meaning.proofs.Puts.{length-put}
+use Rattle.meaning.proofs.Limits as limits
+use Rattle.frame.specs.declared.answer.Answer.{Answer}
+use Rattle.frame.specs.declared.answer.Answer.the-variants.{Refuse, Accept, Quiet}
+use Rattle.frame.specs.Answers.{told, dataIn, memoryAfter, stateAfter}
+use Rattle.frame.proofs.Laws.{seal-data}
+use Rattle.line.specs.declared.plate.Plate.{Plate}
+use Rattle.line.specs.declared.characters.Frame.{Frame}
+use Rattle.line.specs.declared.judge.Judgement.{Judgement}
+use Rattle.line.specs.declared.judge.Judgement.the-variants.{Short, Elsewhere, Fault, Request}
+use Rattle.line.specs.Line.{plateOf, lineOf, Fits}
+use Rattle.line.specs.Judge.{judgementOf, endingBy}
+use Rattle.line.proofs.Judging.{ends-as-judged, request-fits}
+use Rattle.line.proofs.Limits.{low-address}
+use Rattle.commands.specs.declared.state.State.{State}
+use Rattle.commands.specs.declared.rows.Worked.{Worked}
+use Rattle.commands.specs.State.{stateWith}
+use Rattle.commands.specs.Rows.{Answers}
+use Rattle.commands.proofs.Answering.{put-nothing}
+use Rattle.board.specs.declared.closing.Closed.{Closed}
+use Rattle.board.specs.Work.{Ready, Workable, WorksOn, replyOf, Brief, Sendable, Sends, Closes}
+use Rattle.board.proofs.Sending.{part-length, sealed-length}
+
+drop-two : (n : ℕ) (k : List ℕ) → drop 2 (take (suc (suc n)) k) ≡ take n (drop 2 k)
+drop-two n [] = sym (take-nil n)
+drop-two n (x ∷ []) = sym (take-nil n)
+drop-two n (x ∷ y ∷ r) = refl
+
+-- the data part of the kept bytes, lent on
+pub data-part : (k : List ℕ) (n : ℕ) → 3 ≤ n → n ≤ length k → take (n - 1 - 2) (drop 2 k) ≡ dataOf (take n k)
+unfolding dataOf
+data-part k n low all =
+    let e : n ≡ suc (suc (n - 2)) = omega arith in
+    let d : drop 2 (take n k) ≡ take (n - 2) (drop 2 k) = ap (λ (z : ℕ). drop 2 (take z k)) e ∙ drop-two (n - 2) k in
+    let i : n - 1 - 2 ≡ n - 3 = omega arith in
+    rw (length-take-le n k all, d, take-take (n - 3) (n - 2) (drop 2 k) (omega arith), i)
+
+high-unknown : (c : ℕ) → 128 ≤ c → commandOf c ≡ unknown
+unfolding commandOf
+high-unknown c h =
+    let n : (x : ℕ) → x < 128 → eqb c x ≡ false = λ x l. ne-eqb c x (λ z. omega arith) in
+    rw (
+      n 0x42 (omega arith),
+      n 0x43 (omega arith),
+      n 0x46 (omega arith),
+      n 0x47 (omega arith),
+      n 0x49 (omega arith),
+      n 0x4A (omega arith),
+      n 0x4B (omega arith),
+      n 0x4C (omega arith),
+      n 0x4D (omega arith),
+      n 0x4E (omega arith),
+      n 0x4F (omega arith),
+      n 0x50 (omega arith),
+      n 0x53 (omega arith),
+    )
+
+unknown-never : (d : List ℕ) → asked unknown d ≡ false
+unfolding asked row lengthFits
+unknown-never d = refl
+
+-- a command that its row allows has bit 7 clear
+pub plain : (c : ℕ) (d : List ℕ) → asked (commandOf c) d ≡ true → c < 128
+plain c d h = go (ltb c 128) refl
+  where
+    go : (t : Bool) → ltb c 128 ≡ t → c < 128
+    go true e = ltb-true c 128 e
+    go false e = absurd (false≢true (sym (unknown-never d) ∙ sym (ap (λ (x : commands.Command). asked x d) (high-unknown c (ltb-false c 128 e))) ∙ h))
+
+-- what an answer leaves, in a room where its data stands already
+record Left (p : meaning.Plate) (s : meaning.State) (c : ℕ) (m w : List ℕ) (a : commands.Answer) (t : State) (n : ℕ) (m′ w′ : List ℕ) : Type 0 where
+  state : stateWith t none ≡ (outcome p s m c a) .state
+  sent : n ≡ length ((outcome p s m c a) .reply)
+  memory : m′ ≡ (outcome p s m c a) .memory
+  room : w′ ≡ put w 0 ((outcome p s m c a) .reply)
+
+abbrev Few : commands.Answer → Type 0
+Few (commands.refuse e) = Unit
+Few (commands.accept d s m) = length d ≤ 131
+Few (commands.quiet s m) = Unit
+
+-- a message whose data stands in the room already
+module _ (p : meaning.Plate) (s : meaning.State) (c : ℕ) (d w : List ℕ) (few : length d ≤ 131) (wide : 134 ≤ length w) where
+  as-long : length (message p s c (part (put w 2 d) 2 (length d))) ≡ length (message p s c d)
+  unfolding message
+  as-long =
+      let same : length (part (put w 2 d) 2 (length d)) ≡ length d = part-length (put w 2 d) (length d) few (rw (length-put w 2 d (omega arith)) wide) in
+      sealed-length (ownByte p s) (warned c (s .queue)) (part (put w 2 d) 2 (length d)) ∙ ap (λ (z : ℕ). z + 3) same
+      ∙ sym (sealed-length (ownByte p s) (warned c (s .queue)) d)
+
+  as-put : put (put w 2 d) 0 (message p s c (part (put w 2 d) 2 (length d))) ≡ put w 0 (message p s c d)
+  unfolding message
+  as-put = seal-data (ownByte p s) (warned c (s .queue)) (length d) d w refl (omega arith)
+
+few-told : (a : commands.Answer) → Few a → Brief (told a)
+few-told (commands.refuse e) h = tt
+few-told (commands.accept d s m) h = h
+few-told (commands.quiet s m) h = tt
+
+left : (p : meaning.Plate) (s : meaning.State) (c : ℕ) (m w : List ℕ) (a : commands.Answer) (t : State) (x : Answer) {n : ℕ} {m′ v w′ : List ℕ} → Few a → 134 ≤ length w
+    → x ≡ told a → stateWith t none ≡ stateAfter a s → m′ ≡ memoryAfter a m → v ≡ dataIn a w → Sends p t c x v n w′ → Left p s c m w a t n m′ w′
+unfolding outcome replyOf
+left p s c m w (commands.refuse e) t x {n} {m′} {v} {w′} few wide i j k l h =
+    let y : Sends p t c (Refuse e) w n w′ = rw (i, l) at h in
+    record {
+      state = j;
+      sent = y .count ∙ ap (λ (z : meaning.State). length (message p z 0x50 (e ∷ []))) j;
+      memory = k;
+      room = y .bytes ∙ ap (λ (z : meaning.State). put w 0 (message p z 0x50 (e ∷ []))) j;
+    }
+left p s c m w (commands.accept d s′ m″) t x {n} {m′} {v} {w′} few wide i j k l h =
+    let y : Sends p t c (Accept (length d)) (put w 2 d) n w′ = rw (i, l) at h in
+    record {
+      state = j;
+      sent = y .count ∙ ap (λ (z : meaning.State). length (message p z c (part (put w 2 d) 2 (length d)))) j ∙ as-long p s′ c d w few wide;
+      memory = k;
+      room = y .bytes ∙ ap (λ (z : meaning.State). put (put w 2 d) 0 (message p z c (part (put w 2 d) 2 (length d)))) j ∙ as-put p s′ c d w few wide;
+    }
+left p s c m w (commands.quiet s′ m″) t x {n} {m′} {v} {w′} few wide i j k l h =
+    let y : Sends p t c Quiet w n w′ = rw (i, l) at h in
+    record { state = j; sent = y .count; memory = k; room = y .bytes }
+
+module _ (p : meaning.Plate) (s : State) (f : Frame) (k m w : List ℕ) {own : ℕ} (o : own ≡ ownByte p (stateWith s none)) where
+  worked-as : {j : Judgement} → judgementOf own (closed (lineOf f k)) ≡ j
+      → work p (stateWith s none) m (closed (lineOf f k))
+      ≡ leaves p (stateWith s none) m (commandByte (take (f .len) k)) (endingBy p (stateWith s none) m (closed (lineOf f k)) j)
+  unfolding work closed
+  worked-as e = rw (ends-as-judged p (stateWith s none) m (closed (lineOf f k)), ← o, e)
+
+  pub too-short : judgementOf own (closed (lineOf f k)) ≡ Short → Closes p s f k m w (record { state = s; sent = 0 }) m w
+  unfolding leaves still
+  too-short e = record { state = rw (worked-as e); sent = rw (worked-as e); memory = rw (worked-as e); room = rw (worked-as e) (put-nothing w 0) }
+
+  pub for-another : judgementOf own (closed (lineOf f k)) ≡ Elsewhere → Closes p s f k m w (record { state = s; sent = 0 }) m w
+  unfolding leaves still
+  for-another e = record { state = rw (worked-as e); sent = rw (worked-as e); memory = rw (worked-as e); room = rw (worked-as e) (put-nothing w 0) }
+
+  pub faulty : {e c n : ℕ} {w′ : List ℕ} → judgementOf own (closed (lineOf f k)) ≡ Fault e → Sends p s c (Refuse e) w n w′
+      → Closes p s f k m w (record { state = s; sent = n }) m w′
+  unfolding leaves outcome replyOf
+  faulty e h = record { state = rw (worked-as e); sent = rw (worked-as e) (h .count); memory = rw (worked-as e); room = rw (worked-as e) (h .bytes) }
+
+  pub requested : {c n : ℕ} {r : Worked} {m′ v w′ : List ℕ} → judgementOf own (closed (lineOf f k)) ≡ Request c → 134 ≤ length w
+      → WorksOn (worked (commandOf c) p (stateWith s none) m (dataOf (take (f .len) k))) s m w r m′ v → Sends p (r .state) c (r .answer) v n w′
+      → Closes p s f k m w (record { state = r .state; sent = n }) m′ w′
+  unfolding leaves closed
+  requested {c} {n} {r} {m′} {v} {w′} e wide x h =
+      let b : commandByte (take (f .len) k) ≡ c = (request-fits own (closed (lineOf f k)) e) .byte in
+      let a : commands.Answer = worked (commandOf c) p (stateWith s none) m (dataOf (take (f .len) k)) in
+      let y : Left p (stateWith s none) c m w a (r .state) n m′ w′ =
+      left p (stateWith s none) c m w a (r .state) (r .answer) (limits.brief p (stateWith s none) m (dataOf (take (f .len) k)) (commandOf c)) wide
+      (x .row .answer) (x .row .state) (x .memory) (x .row .room) h in
+      record { state = rw (worked-as e, b) (y .state); sent = rw (worked-as e, b) (y .sent); memory = rw (worked-as e, b) (y .memory); room = rw (worked-as e, b) (y .room) }
+
+-- what `work` and `reply` ask, from what `close` asks
+module _ (p : Plate) (s : State) (f : Frame) (k m w : List ℕ) (h : Ready p s f k m w) where
+  within : f .len ≤ length k
+  within = omega (arith, h .fits .few, h .fits .all)
+
+  pub own-known : p .address ≤ 31
+  own-known = low-address (plateOf p) (h .plate)
+
+  pub error-sendable : (e : ℕ) {v : List ℕ} → 134 ≤ length v → Sendable p 0x50 (Refuse e) v
+  error-sendable e l = record { address = own-known; plain = omega arith; brief = tt; room = l }
+
+  module _ (own : ℕ) {c : ℕ} (e : judgementOf own (closed (lineOf f k)) ≡ Request c) where
+    pub long : 3 ≤ f .len
+    unfolding closed
+    long = omega (arith, ltb-false (length (take (f .len) k)) 3 ((request-fits own (closed (lineOf f k)) e) .long), length-take (f .len) k)
+
+    part-of : take (f .len - 1 - 2) (drop 2 k) ≡ dataOf (take (f .len) k)
+    part-of = data-part k (f .len) long within
+
+    right : asked (commandOf c) (dataOf (take (f .len) k)) ≡ true
+    unfolding closed
+    right = rw ((request-fits own (closed (lineOf f k)) e) .byte) at ((request-fits own (closed (lineOf f k)) e) .right)
+
+    pub workable : Workable p s c (take (f .len - 1 - 2) (drop 2 k)) m w
+    workable = record { plate = h .plate; counter = h .counter; size = h .size; room = h .room; fits = rw part-of right }
+
+    pub sendable : {r : Worked} {m′ v u : List ℕ} → WorksOn (worked (commandOf c) (plateOf p) (stateWith s none) m (take (f .len - 1 - 2) (drop 2 k))) s m w r m′ v
+        → 134 ≤ length u → Sendable p c (r .answer) u
+    sendable x l =
+        let d : List ℕ = take (f .len - 1 - 2) (drop 2 k) in
+        let q : meaning.State = stateWith s none in
+        record {
+          address = own-known;
+          plain = plain c (dataOf (take (f .len) k)) right;
+          brief = rw (x .row .answer) (few-told (worked (commandOf c) (plateOf p) q m d) (limits.brief (plateOf p) q m d (commandOf c)));
+          room = l;
+        }
+
+    pub worked-on : {r : Worked} {m′ v : List ℕ} → WorksOn (worked (commandOf c) (plateOf p) (stateWith s none) m (take (f .len - 1 - 2) (drop 2 k))) s m w r m′ v
+        → WorksOn (worked (commandOf c) (plateOf p) (stateWith s none) m (dataOf (take (f .len) k))) s m w r m′ v
+    worked-on x = rw part-of at x

@@ -1,0 +1,6 @@
+-- What the proofs of several functions use, and the laws that callers cite.
+pub mod Bounding
+pub mod Stepping
+mod Sending
+mod Endings
+pub mod Promises

@@ -1,0 +1,163 @@
+-- The board does the meaning's step, stays within the limits, and its contracts leave no choice. Assumes nothing.
+use Prim.Native.Nat.{ℕ, zero, suc, _+_, _≤_, min}
+use native.Mathlib.Omega.{arith}
+use native.Mathlib.Decide.{ℕ-discrete}
+use mathlib.Core.Path.{_≡_, refl, sym, ap, _∙_}
+use mathlib.Core.Bool.{Bool, true, false}
+use mathlib.Core.List.{List}
+use borrow.Author.Tests.{le-leb, eq-eqb, le-ltb, eqb-true}
+use lib.Dec.{T, eqb, leb}
+use lib.ListN.{length, take, drop, length-take, length-drop, length-append}
+use lib.Seq.{length-take-le}
+use Rattle.meaning.specs.Bytes.{pick, put, both}
+use Rattle.meaning.specs.State as meaning
+use Rattle.meaning.specs.State.{Plate, Line, plateOk, stateOk, fresh}
+use Rattle.meaning.specs.Fields.{imageLength}
+use Rattle.meaning.specs.Run as run
+use Rattle.meaning.specs.Run.{Call, Held, step, called, closes, refusedBy, lends}
+use Rattle.meaning.proofs.Puts.{length-put}
+use Rattle.meaning.proofs.Limits.{keeps-limits, fresh-within}
+use Rattle.meaning.proofs.Sizes.{keeps-size}
+use Rattle.line.specs.declared.characters.Frame.{Frame}
+use Rattle.line.specs.Line.{lineOf}
+use Rattle.commands.specs.declared.state.State.{State}
+use Rattle.commands.proofs.Same.{same-state}
+use Rattle.board.specs.declared.limits.Board.{Board}
+use Rattle.board.specs.declared.limits.Outcome as code
+use Rattle.board.specs.declared.limits.Outcome.the-variants.{Still, Over}
+use Rattle.board.specs.declared.limits.Stepped.{Stepped}
+use Rattle.board.specs.Board.{stateOf, fitsIn, refusalOn, calledOn, outcomeOf, Steps}
+use Rattle.board.specs.Promises.{DoesStep, Within, Reached, start, next}
+use Rattle.board.proofs.Stepping.{held-on}
+
+holds : (b : Bool) → T b → b ≡ true
+holds true h = refl
+holds false h = absurd h
+
+held : (b : Bool) → b ≡ true → T b
+held b e = rw e tt
+
+-- where nothing is refused, the call does the meaning's step
+module _ (p : Plate) (b : Board) (k m w : List ℕ) {r : Stepped} {k′ m′ w′ : List ℕ} where
+  pub does-step : (g : Call) → refusalOn p b k m (length w) g ≡ 0 → Steps p b k m w g r k′ m′ w′ → DoesStep p b k m w g r k′ m′ w′
+  unfolding outcomeOf
+  does-step g e s =
+      let h = held-on p b k m w g e in
+      record { state = rw h at (s .state); memory = rw h at (s .memory); room = rw h at (s .room); outcome = rw h at (s .outcome) }
+
+  pub character-steps : (t v : ℕ) (bad : Bool) → refusalOn p b k m (length w) (run.character t v bad) ≡ 0
+      → Steps p b k m w (run.character t v bad) r k′ m′ w′ → DoesStep p b k m w (run.character t v bad) r k′ m′ w′
+  character-steps t v bad = does-step (run.character t v bad)
+
+  pub poll-steps : (t : ℕ) → refusalOn p b k m (length w) (run.poll t) ≡ 0 → Steps p b k m w (run.poll t) r k′ m′ w′ → DoesStep p b k m w (run.poll t) r k′ m′ w′
+  poll-steps t = does-step (run.poll t)
+
+  pub measured-steps : (x : ℕ) → refusalOn p b k m (length w) (run.measured x) ≡ 0 → Steps p b k m w (run.measured x) r k′ m′ w′
+      → DoesStep p b k m w (run.measured x) r k′ m′ w′
+  measured-steps x = does-step (run.measured x)
+
+  pub fault-steps : (c : ℕ) → refusalOn p b k m (length w) (run.fault c) ≡ 0 → Steps p b k m w (run.fault c) r k′ m′ w′ → DoesStep p b k m w (run.fault c) r k′ m′ w′
+  fault-steps c = does-step (run.fault c)
+
+  pub power-on-steps : refusalOn p b k m (length w) run.power-on ≡ 0 → Steps p b k m w run.power-on r k′ m′ w′ → DoesStep p b k m w run.power-on r k′ m′ w′
+  power-on-steps = does-step run.power-on
+
+-- within the limits and with room enough nothing is refused
+pub unrefused : (p : Plate) (b : Board) (k m : List ℕ) (n : ℕ) (g : Call) → Within p b k m → 134 ≤ n → refusalOn p b k m n g ≡ 0
+unfolding refusalOn refusedBy fitsIn
+unrefused p b k m n g h wide =
+    rw (le-leb (b .frame .len) 135 (h .few), eq-eqb (length k) 135 (h .places), h .plate, h .state, eq-eqb (length m) (imageLength (p .total)) (h .size), le-ltb n 134 wide)
+    (either-way (lends g))
+  where
+    either-way : (t : Bool) → _≡_ {A = ℕ} (pick t 0 0) 0
+    either-way true = refl
+    either-way false = refl
+
+-- and an unrefused call stays within
+pub stays-within : (p : Plate) (b : Board) (k m w : List ℕ) (g : Call) {r : Stepped} {k′ m′ w′ : List ℕ} → Within p b k m → 134 ≤ length w
+    → Steps p b k m w g r k′ m′ w′ → Within p (r .board) k′ m′
+stays-within p b k m w g {r} {k′} h wide s =
+    let e = unrefused p b k m (length w) g h wide in
+    let d = does-step p b k m w g e s in
+    let q = ap (λ (x : Held). x .refusal) (held-on p b k m w g e) in
+    let ln : Line = (step p (stateOf b k) m g) .state .line in
+    let kk : k′ ≡ put k 0 (ln .kept) = rw (held-on p b k m w g e) at (s .bytes) in
+    let same : take (r .board .frame .len) k′ ≡ ln .kept = ap (λ (x : meaning.State). x .line .kept) (d .state) in
+    let low : length (ln .kept) ≤ 135 = rw (← same) (omega (arith, length-take (r .board .frame .len) k′, s .few q)) in
+    record {
+      plate = h .plate;
+      state = rw (d .state) (holds (stateOk p ((step p (stateOf b k) m g) .state)) (keeps-limits p (stateOf b k) m g (held (stateOk p (stateOf b k)) (h .state))));
+      few = s .few q;
+      places = rw kk (length-put k 0 (ln .kept) (omega (arith, h .places)) ∙ h .places);
+      size = rw (d .memory) (keeps-size p (stateOf b k) m g (h .size));
+    }
+
+-- so a host that only calls, from fresh, never meets a refusal
+pub reached-within : (p : Plate) {b : Board} {k m : List ℕ} → Reached p b k m → Within p b k m
+reached-within p (start b k m i j l n e) =
+    record { plate = i; state = rw e (holds (stateOk p (fresh p)) (fresh-within p)); few = n; places = j; size = l }
+reached-within p (next b k m w g r k′ m′ w′ h wide s) = stays-within p b k m w g (reached-within p h) wide s
+
+pub never-refused : (p : Plate) (b : Board) (k m : List ℕ) (n : ℕ) (g : Call) → Reached p b k m → 134 ≤ n → refusalOn p b k m n g ≡ 0
+never-refused p b k m n g h wide = unrefused p b k m n g (reached-within p h) wide
+
+frames : {a a′ : Bool} {b c d b′ c′ d′ : ℕ} {x y x′ y′ : Bool} → a ≡ a′ → b ≡ b′ → c ≡ c′ → d ≡ d′ → x ≡ x′ → y ≡ y′
+    → _≡_ {A = Frame} (record { begun = a; last = b; len = c; sum = d; longer = x; parity = y }) (record { begun = a′; last = b′; len = c′; sum = d′; longer = x′; parity = y′ })
+frames i j k n o q = rw (i, j, k, n, o, q)
+
+same-len : (a c : ℕ) (k : List ℕ) → a ≤ 135 → c ≤ 135 → 135 ≤ length k → take a k ≡ take c k → a ≡ c
+same-len a c k h i j e = sym (length-take-le a k (omega arith)) ∙ ap length e ∙ length-take-le c k (omega arith)
+
+boards : {s t : State} {f g : Frame} → s ≡ t → f ≡ g → _≡_ {A = Board} (record { state = s; frame = f }) (record { state = t; frame = g })
+boards i j = rw (i, j)
+
+-- the meaning's state says which board it is
+pub same-state-same-board : (a b : Board) (k : List ℕ) → a .frame .len ≤ 135 → b .frame .len ≤ 135 → 135 ≤ length k → stateOf a k ≡ stateOf b k → a ≡ b
+same-state-same-board a b k h i j e =
+    let l : lineOf (a .frame) k ≡ lineOf (b .frame) k = ap (λ (x : meaning.State). x .line) e in
+    boards (same-state (a .state) (b .state) (lineOf (a .frame) k) (lineOf (b .frame) k) e)
+    (frames (ap (λ (x : Line). x .begun) l) (ap (λ (x : Line). x .last) l) (same-len (a .frame .len) (b .frame .len) k h i j (ap (λ (x : Line). x .kept) l))
+    (ap (λ (x : Line). x .sum) l) (ap (λ (x : Line). x .longer) l) (ap (λ (x : Line). x .parity) l))
+
+-- what a contract's outcome is made of
+pub record Alike (r t : Stepped) (k′ k″ m′ m″ w′ w″ : List ℕ) : Type 0 where
+  pub stepped : r ≡ t
+  pub kept : k′ ≡ k″
+  pub memory : m′ ≡ m″
+  pub room : w′ ≡ w″
+
+put-long : (k x : List ℕ) → length k ≤ length (put k 0 x)
+unfolding put
+put-long k x = simp (length-append, length-drop) (omega arith)
+
+-- a call that is not refused has its 135 places
+has-places : (p : Plate) (b : Board) (k m w : List ℕ) (g : Call) → (calledOn p b k m w g) .refusal ≡ 0 → length k ≡ 135
+unfolding calledOn fitsIn
+has-places p b k m w g e = go (leb (b .frame .len) 135) (eqb (length k) 135) refl e
+  where
+    go : (x y : Bool) → eqb (length k) 135 ≡ y
+        → (pick (both x y) (called p (stateOf b k) m w g) (record { refusal = 1; count = 0; state = stateOf b k; memory = m; room = w })) .refusal ≡ 0 → length k ≡ 135
+    go x true q e = eqb-true (length k) 135 q
+    go true false q e = absurd (omega arith)
+    go false false q e = absurd (omega arith)
+
+outcomes : {a b : Board} {x y : code.Outcome} → a ≡ b → x ≡ y → _≡_ {A = Stepped} (record { board = a; outcome = x }) (record { board = b; outcome = y })
+outcomes i j = rw (i, j)
+
+-- no two differing outcomes satisfy the contract of a call
+pub one-outcome : (p : Plate) (b : Board) (k m w : List ℕ) (g : Call) {r t : Stepped} {k′ k″ m′ m″ w′ w″ : List ℕ} → Steps p b k m w g r k′ m′ w′
+    → Steps p b k m w g t k″ m″ w″ → Alike r t k′ k″ m′ m″ w′ w″
+one-outcome p b k m w g {r} {t} {k′} {k″} x y =
+    record {
+      stepped = outcomes (go (ℕ-discrete ((calledOn p b k m w g) .refusal) 0)) (x .outcome ∙ sym (y .outcome));
+      kept = x .bytes ∙ sym (y .bytes);
+      memory = x .memory ∙ sym (y .memory);
+      room = x .room ∙ sym (y .room);
+    }
+  where
+    go : Dec ((calledOn p b k m w g) .refusal ≡ 0) → r .board ≡ t .board
+    go (yes e) =
+        let kk : k′ ≡ k″ = x .bytes ∙ sym (y .bytes) in
+        let long : 135 ≤ length k′ = rw (x .bytes) (omega (arith, put-long k ((calledOn p b k m w g) .state .line .kept), has-places p b k m w g e)) in
+        same-state-same-board (r .board) (t .board) k′ (x .few e) (y .few e) long (x .state ∙ sym (ap (stateOf (t .board)) kk ∙ y .state))
+    go (no h) = x .refused h ∙ sym (y .refused h)

@@ -1,0 +1,56 @@
+-- The reply by the answer: an error code, data, or none. Assumes nothing.
+use Prim.Native.Nat.{ℕ, suc, _+_, _≤_}
+use native.Mathlib.Omega.{arith}
+use native.Mathlib.Numerals.{add-one}
+use mathlib.Core.Path.{_≡_, refl, sym, ap, _∙_}
+use mathlib.Core.List.{List, [], _∷_, _++_}
+use lib.ListN.{length, take, drop, length-append, length-take, length-drop}
+use Rattle.meaning.specs.Bytes.{put, part, xorAll}
+use Rattle.meaning.specs.State as meaning
+use Rattle.meaning.specs.State.{none, ownByte}
+use Rattle.meaning.specs.Frames.{sealed, message, warned}
+use Rattle.frame.specs.declared.answer.Answer.{Answer}
+use Rattle.frame.specs.declared.answer.Answer.the-variants.{Refuse, Accept, Quiet}
+use Rattle.commands.specs.declared.state.State.{State}
+use Rattle.commands.specs.Queue.{queueOf}
+use Rattle.commands.specs.State.{stateWith}
+use Rattle.commands.proofs.Answering.{put-nothing}
+use Rattle.board.specs.Work.{replyOf, Brief, Sends}
+
+pub sealed-length : (a c : ℕ) (d : List ℕ) → length (sealed (a ∷ c ∷ d)) ≡ length d + 3
+unfolding sealed
+sealed-length a c d = simp length-append (omega arith)
+
+pub part-length : (w : List ℕ) (n : ℕ) → n ≤ 131 → 134 ≤ length w → length (part w 2 n) ≡ n
+unfolding part
+part-length w n few wide = simp (length-take, length-drop) (omega arith)
+
+pub brief-data : {x : Answer} {n : ℕ} → Brief x → x ≡ Accept n → n ≤ 131
+brief-data h e = rw e at h
+
+pub enough-room : {n l : ℕ} → n ≤ 131 → 134 ≤ l → n + 3 ≤ l
+enough-room h k = omega arith
+
+module _ (p : meaning.Plate) (s : State) (c : ℕ) (w : List ℕ) {x : Answer} where
+  pub error-sent : {own mark e : ℕ} {w′ : List ℕ} → x ≡ Refuse e → own ≡ ownByte p (stateWith s none) → mark ≡ warned 0x50 (queueOf (s .faults))
+      → w′ ≡ put w 0 (sealed (own ∷ mark ∷ e ∷ [])) → Sends p s c x w 4 w′
+  unfolding replyOf message
+  error-sent {e = e} q o k h =
+      record {
+        count = rw q (sym (sealed-length (ownByte p (stateWith s none)) (warned 0x50 (queueOf (s .faults))) (e ∷ [])));
+        bytes = rw (q, ← o, ← k) h;
+      }
+
+  pub data-sent : {own mark n : ℕ} {w′ : List ℕ} → x ≡ Accept n → n ≤ 131 → 134 ≤ length w → own ≡ ownByte p (stateWith s none)
+      → mark ≡ warned c (queueOf (s .faults)) → w′ ≡ put w 0 (sealed (own ∷ mark ∷ part w 2 n)) → Sends p s c x w (n + 3) w′
+  unfolding replyOf message
+  data-sent {n = n} q few wide o k h =
+      let l : length (part w 2 n) ≡ n = part-length w n few wide in
+      record {
+        count = rw q (sym (sealed-length (ownByte p (stateWith s none)) (warned c (queueOf (s .faults))) (part w 2 n) ∙ rw l));
+        bytes = rw (q, ← o, ← k) h;
+      }
+
+  pub none-sent : x ≡ Quiet → Sends p s c x w 0 w
+  unfolding replyOf
+  none-sent q = record { count = rw q; bytes = rw q (put-nothing w 0) }

@@ -1,0 +1,50 @@
+-- The code's board as the meaning's state, and what a call leaves (01, "Named refusals"). Assumes nothing.
+use Prim.Native.Nat.{ℕ, _≤_}
+use mathlib.Core.Path.{_≡_}
+use mathlib.Core.Bool.{Bool, true, false}
+use mathlib.Core.List.{List}
+use lib.Dec.{eqb, leb}
+use lib.ListN.{length}
+use Rattle.meaning.specs.Bytes.{pick, both, put}
+use Rattle.meaning.specs.State.{Plate, State, plateOk, stateOk}
+use Rattle.meaning.specs.Run.{Call, Held, refusedBy, called, closes}
+use Rattle.line.specs.Line.{lineOf}
+use Rattle.commands.specs.State.{stateWith}
+use Rattle.board.specs.declared.limits.Board.{Board}
+use Rattle.board.specs.declared.limits.Outcome.{Outcome}
+use Rattle.board.specs.declared.limits.Outcome.the-variants.{Refused, Still, Over}
+use Rattle.board.specs.declared.limits.Stepped.{Stepped}
+
+abbrev pub stateOf : Board → List ℕ → State
+stateOf b kept = stateWith (b .state) (lineOf (b .frame) kept)
+
+-- 01, "at most 135 kept bytes", of the frame's number and of the lent places
+unfoldable pub fitsIn : Board → List ℕ → Bool
+fitsIn b kept = both (leb (b .frame .len) 135) (eqb (length kept) 135)
+
+-- R1 is within plate, numbers and kept bytes, whatever the 135 places hold
+pub record Bounds (p : Plate) (b : Board) (r : Bool) : Type 0 where
+  pub bound : (kept : List ℕ) → length kept ≡ 135 → r ≡ both (leb (b .frame .len) 135) (both (plateOk p) (stateOk p (stateOf b kept)))
+
+-- 01, R1 to R3, 0 where none applies: the meaning's, and R1 also for what the meaning's state cannot hold
+unfoldable pub refusalOn : Plate → Board → List ℕ → List ℕ → ℕ → Call → ℕ
+refusalOn p b kept m room g = pick (fitsIn b kept) (refusedBy p (stateOf b kept) m room g) 1
+
+unfoldable pub calledOn : Plate → Board → List ℕ → List ℕ → List ℕ → Call → Held
+calledOn p b kept m room g =
+    pick (fitsIn b kept) (called p (stateOf b kept) m room g)
+    (record { refusal = 1; count = 0; state = stateOf b kept; memory = m; room = room })
+
+-- 01, "Named refusals", in the code's cases; `over` says whether the call closes a frame
+unfoldable pub outcomeOf : Held → Bool → Outcome
+outcomeOf h over = pick (eqb (h .refusal) 0) (pick over (Over (h .count)) Still) (Refused (h .refusal))
+
+-- what a call leaves of board, kept bytes, memory and room. Places past the kept bytes are untouched
+pub record Steps (p : Plate) (b : Board) (kept m w : List ℕ) (g : Call) (r : Stepped) (kept′ m′ w′ : List ℕ) : Type 0 where
+  pub outcome : r .outcome ≡ outcomeOf (calledOn p b kept m w g) (closes p (stateOf b kept) g)
+  pub state : stateOf (r .board) kept′ ≡ (calledOn p b kept m w g) .state
+  pub bytes : kept′ ≡ put kept 0 ((calledOn p b kept m w g) .state .line .kept)
+  pub memory : m′ ≡ (calledOn p b kept m w g) .memory
+  pub room : w′ ≡ (calledOn p b kept m w g) .room
+  pub few : (calledOn p b kept m w g) .refusal ≡ 0 → r .board .frame .len ≤ 135
+  pub refused : ((calledOn p b kept m w g) .refusal ≡ 0 → ⊥) → r .board ≡ b

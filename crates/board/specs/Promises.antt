@@ -1,0 +1,35 @@
+-- What the board promises beyond its single contracts: it does the meaning's step, stays within the limits, and leaves no choice. Assumes nothing.
+use Prim.Native.Nat.{ℕ, _≤_}
+use mathlib.Core.Path.{_≡_}
+use mathlib.Core.Bool.{true}
+use mathlib.Core.List.{List}
+use lib.ListN.{length}
+use Rattle.meaning.specs.Bytes.{pick, put}
+use Rattle.meaning.specs.State.{Plate, plateOk, stateOk, fresh}
+use Rattle.meaning.specs.Fields.{imageLength}
+use Rattle.meaning.specs.Run.{Call, step, closes}
+use Rattle.board.specs.declared.limits.Board.{Board}
+use Rattle.board.specs.declared.limits.Outcome.the-variants.{Still, Over}
+use Rattle.board.specs.declared.limits.Stepped.{Stepped}
+use Rattle.board.specs.Board.{stateOf, refusalOn, Steps}
+
+-- the call does the meaning's step: state, memory, reply
+pub record DoesStep (p : Plate) (b : Board) (kept m w : List ℕ) (g : Call) (r : Stepped) (kept′ m′ w′ : List ℕ) : Type 0 where
+  pub state : stateOf (r .board) kept′ ≡ (step p (stateOf b kept) m g) .state
+  pub memory : m′ ≡ (step p (stateOf b kept) m g) .memory
+  pub room : w′ ≡ put w 0 ((step p (stateOf b kept) m g) .reply)
+  pub outcome : r .outcome ≡ pick (closes p (stateOf b kept) g) (Over (length ((step p (stateOf b kept) m g) .reply))) Still
+
+-- plate, state, kept bytes and memory are within their limits: no R1, no R2
+pub record Within (p : Plate) (b : Board) (kept m : List ℕ) : Type 0 where
+  pub plate : plateOk p ≡ true
+  pub state : stateOk p (stateOf b kept) ≡ true
+  pub few : b .frame .len ≤ 135
+  pub places : length kept ≡ 135
+  pub size : length m ≡ imageLength (p .total)
+
+-- what a host holds that starts fresh with a good plate, 135 places and a memory of the right size, and only calls, with room enough
+pub data Reached (p : Plate) : Board → List ℕ → List ℕ → Type 0 where
+  start : (b : Board) (kept m : List ℕ) → plateOk p ≡ true → length kept ≡ 135 → length m ≡ imageLength (p .total) → b .frame .len ≤ 135 → stateOf b kept ≡ fresh p → Reached p b kept m
+  next : (b : Board) (kept m w : List ℕ) (g : Call) (r : Stepped) (kept′ m′ w′ : List ℕ) → Reached p b kept m → 134 ≤ length w
+      → Steps p b kept m w g r kept′ m′ w′ → Reached p (r .board) kept′ m′

@@ -1,0 +1,74 @@
+-- A frame is closed: what its work, its reply and its close ask and leave (01, "Characters become frames"). Assumes nothing.
+use Prim.Native.Nat.{ℕ, _≤_, _<_}
+use mathlib.Core.Path.{_≡_}
+use mathlib.Core.Bool.{true}
+use mathlib.Core.List.{List, [], _∷_}
+use lib.ListN.{length}
+use Rattle.meaning.specs.Bytes.{part, put}
+use Rattle.meaning.specs.State as meaning
+use Rattle.meaning.specs.State.{none, plateOk}
+use Rattle.meaning.specs.Fields.{imageLength}
+use Rattle.meaning.specs.Commands.{commandOf, asked, worked}
+use Rattle.meaning.specs.Commands as commands
+use Rattle.meaning.specs.Frames.{closed, message, work}
+use Rattle.frame.specs.declared.answer.Answer.{Answer}
+use Rattle.frame.specs.declared.answer.Answer.the-variants.{Refuse, Accept, Quiet}
+use Rattle.frame.specs.Answers.{memoryAfter}
+use Rattle.line.specs.declared.plate.Plate.{Plate}
+use Rattle.line.specs.declared.characters.Frame.{Frame}
+use Rattle.line.specs.Line.{plateOf, lineOf, Fits}
+use Rattle.commands.specs.declared.state.State.{State}
+use Rattle.commands.specs.declared.rows.Worked.{Worked}
+use Rattle.commands.specs.State.{stateWith}
+use Rattle.commands.specs.Rows.{Answers}
+use Rattle.board.specs.declared.closing.Closed.{Closed}
+
+-- within the limits, R1 to R3
+pub record Ready (p : Plate) (s : State) (f : Frame) (kept m w : List ℕ) : Type 0 where
+  pub plate : plateOk (plateOf p) ≡ true
+  pub counter : s .counter ≤ 0xFFFFFF
+  pub fits : Fits f kept
+  pub size : length m ≡ imageLength (p .total)
+  pub room : 134 ≤ length w
+
+-- .. and a request whose data d has its row's length
+pub record Workable (p : Plate) (s : State) (c : ℕ) (d m w : List ℕ) : Type 0 where
+  pub plate : plateOk (plateOf p) ≡ true
+  pub counter : s .counter ≤ 0xFFFFFF
+  pub size : length m ≡ imageLength (p .total)
+  pub room : 134 ≤ length w
+  pub fits : asked (commandOf c) d ≡ true
+
+-- the answer a of the meaning, worked on state, memory and room
+pub record WorksOn (a : commands.Answer) (s : State) (m w : List ℕ) (r : Worked) (m′ w′ : List ℕ) : Type 0 where
+  pub row : Answers a s none w r w′
+  pub memory : m′ ≡ memoryAfter a m
+
+-- 01, "An error reply is address, 50h, code, checksum"; other data stands from place 2 of the room on; the state is the one after the work
+unfoldable pub replyOf : meaning.Plate → meaning.State → ℕ → Answer → List ℕ → List ℕ
+replyOf p s c (Refuse e) w = message p s 0x50 (e ∷ [])
+replyOf p s c (Accept n) w = message p s c (part w 2 n)
+replyOf p s c Quiet w = []
+
+-- data that a reply has room for
+abbrev pub Brief : Answer → Type 0
+Brief (Refuse e) = Unit
+Brief (Accept n) = n ≤ 131
+Brief Quiet = Unit
+
+pub record Sendable (p : Plate) (c : ℕ) (x : Answer) (w : List ℕ) : Type 0 where
+  pub address : p .address ≤ 31
+  pub plain : c < 128
+  pub brief : Brief x
+  pub room : 134 ≤ length w
+
+pub record Sends (p : meaning.Plate) (s : State) (c : ℕ) (x : Answer) (w : List ℕ) (r : ℕ) (w′ : List ℕ) : Type 0 where
+  pub count : r ≡ length (replyOf p (stateWith s none) c x w)
+  pub bytes : w′ ≡ put w 0 (replyOf p (stateWith s none) c x w)
+
+-- what a closed frame leaves: the meaning's work on a board with no frame open
+pub record Closes (p : meaning.Plate) (s : State) (f : Frame) (kept m w : List ℕ) (r : Closed) (m′ w′ : List ℕ) : Type 0 where
+  pub state : stateWith (r .state) none ≡ (work p (stateWith s none) m (closed (lineOf f kept))) .state
+  pub sent : r .sent ≡ length ((work p (stateWith s none) m (closed (lineOf f kept))) .reply)
+  pub memory : m′ ≡ (work p (stateWith s none) m (closed (lineOf f kept))) .memory
+  pub room : w′ ≡ put w 0 ((work p (stateWith s none) m (closed (lineOf f kept))) .reply)

@@ -1,0 +1,125 @@
+// What the host calls: a character, a poll, a measured position, a fault, power-on (01, "characters and times in").
+ghost use mathlib.Core.Path.{_≡_};
+ghost use mathlib.Core.List.{List};
+ghost use Prim.Native.Nat.{ℕ};
+ghost use lib.ListN.{length};
+ghost use Rattle.meaning.specs.State as meaning;
+ghost use Rattle.meaning.specs.Run as run;
+ghost use Rattle.line.specs.Line.{plateOf};
+ghost use Rattle.board.specs.Board.{stateOf, Steps};
+use crate::closing::close;
+use crate::limits::Board;
+use crate::limits::Outcome;
+use crate::limits::Stepped;
+use crate::limits::refusal;
+use crate::limits::within_limits;
+use commands::State;
+use line::Frame;
+use line::Plate;
+
+// 01, "Fresh state". Its limits are the plate's, so a plate beyond its limits is told by the first call.
+pub fn fresh(plate: Plate) -> Board
+    ensures { λ r. ⌜ ((kept : List ℕ) → stateOf r kept ≡ meaning.fresh (plateOf plate)) ⌝ }
+{
+    Board {
+        state: State::fresh(),
+        frame: Frame::none(),
+    }
+}
+
+fn stepped(state: State, frame: Frame, outcome: Outcome) -> Stepped
+    ensures { λ r. ⌜ r ≡ record { board = record { state = state; frame = frame }; outcome = outcome } ⌝ }
+{
+    let board = Board { state, frame };
+    Stepped { board, outcome }
+}
+
+// A character at its end. Where the open frame is over it is closed, and the character opens the next.
+pub fn character(
+    plate: Plate,
+    board: Board,
+    tick: u32,
+    value: u8,
+    parity: bool,
+    kept: &mut [u8],
+    memory: &mut [u8],
+    room: &mut [u8],
+) -> Stepped
+    ensures { λ r. ⌜ Steps (plateOf plate) board (now (kept .entry)) (now (memory .entry)) (now (room .entry)) (run.character tick value parity) r (now (kept .exit)) (now (memory .exit)) (now (room .exit)) ⌝ }
+{
+    let refused = refusal(plate, board, kept.len(), memory.len(), room.len());
+    let state = board.state;
+    let frame = board.frame;
+    if refused != 0 {
+        return stepped(state, frame, Outcome::Refused(refused));
+    }
+    if frame.is_over(plate, tick) {
+        let closed = close(plate, state, frame, kept, memory, room);
+        let next = closed.state;
+        let first = Frame::none().with_character(tick, value, parity, kept);
+        return stepped(next, first, Outcome::Over(closed.sent));
+    }
+    let more = frame.with_character(tick, value, parity, kept);
+    stepped(state, more, Outcome::Still)
+}
+
+// A poll: an open frame that is over is closed, and nothing else changes.
+pub fn poll(
+    plate: Plate,
+    board: Board,
+    tick: u32,
+    kept: &mut [u8],
+    memory: &mut [u8],
+    room: &mut [u8],
+) -> Stepped
+    ensures { λ r. ⌜ Steps (plateOf plate) board (now (kept .entry)) (now (memory .entry)) (now (room .entry)) (run.poll tick) r (now (kept .exit)) (now (memory .exit)) (now (room .exit)) ⌝ }
+{
+    let refused = refusal(plate, board, kept.len(), memory.len(), room.len());
+    let state = board.state;
+    let frame = board.frame;
+    if refused != 0 {
+        return stepped(state, frame, Outcome::Refused(refused));
+    }
+    if frame.is_over(plate, tick) {
+        let closed = close(plate, state, frame, kept, memory, room);
+        let next = closed.state;
+        return stepped(next, Frame::none(), Outcome::Over(closed.sent));
+    }
+    stepped(state, frame, Outcome::Still)
+}
+
+// 01, "measured, any 32-bit number": kept as given.
+pub fn measured(plate: Plate, board: Board, position: u32) -> Stepped
+    ensures { λ r. ⌜ ((kept m w : List ℕ) → length kept ≡ 135 → Steps (plateOf plate) board kept m w (run.measured position) r kept m w) ⌝ }
+{
+    let state = board.state;
+    let frame = board.frame;
+    if !within_limits(plate, board) {
+        return stepped(state, frame, Outcome::Refused(1));
+    }
+    stepped(state.with_measured(position), frame, Outcome::Still)
+}
+
+// 01, "The host notes codes".
+pub fn fault(plate: Plate, board: Board, code: u8) -> Stepped
+    ensures { λ r. ⌜ ((kept m w : List ℕ) → length kept ≡ 135 → Steps (plateOf plate) board kept m w (run.fault code) r kept m w) ⌝ }
+{
+    let state = board.state;
+    let frame = board.frame;
+    if !within_limits(plate, board) {
+        return stepped(state, frame, Outcome::Refused(1));
+    }
+    stepped(state.note(code), frame, Outcome::Still)
+}
+
+// 01, "Power-on empties the queue, drops an open frame and unlocks; all else stays".
+pub fn power_on(plate: Plate, board: Board) -> Stepped
+    ensures { λ r. ⌜ ((kept m w : List ℕ) → length kept ≡ 135 → Steps (plateOf plate) board kept m w run.power-on r kept m w) ⌝ }
+{
+    let state = board.state;
+    let frame = board.frame;
+    if !within_limits(plate, board) {
+        return stepped(state, frame, Outcome::Refused(1));
+    }
+    stepped(state.power_on(), Frame::none(), Outcome::Still)
+}

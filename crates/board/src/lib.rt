@@ -1,0 +1,19 @@
+// The board: characters and times in, reply bytes out (01, "What belongs to the board and to the bench").
+mod calls;
+mod closing;
+mod limits;
+mod reply;
+mod rows;
+
+pub use calls::character;
+pub use calls::fault;
+pub use calls::fresh;
+pub use calls::measured;
+pub use calls::poll;
+pub use calls::power_on;
+pub use closing::Closed;
+pub use closing::close;
+pub use limits::Board;
+pub use limits::Outcome;
+pub use limits::Stepped;
+pub use limits::refusal;

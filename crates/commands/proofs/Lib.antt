@@ -1,0 +1,7 @@
+-- What the proofs of several functions use, and the laws that callers cite.
+mod Places
+mod States
+mod Turns
+pub mod Answering
+mod Ways
+pub mod Same

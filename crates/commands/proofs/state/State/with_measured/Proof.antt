@@ -1,0 +1,14 @@
+use mathlib.Core.Path.{refl}
+use Rattle.meaning.specs.State.{withMeasured}
+use Rattle.commands.proofs.state.State.with_measured.Statement.{statement}
+use Rattle.commands.proofs.state.State.with_measured.Tie as tie
+use Rattle.commands.proofs.state.State.with_measured.Reads as reads
+use Rattle.commands.proofs.state.State.with_measured.Lts as lts
+
+-- src/state.rt:56:5
+returns : tie.Need-returns
+unfolding withMeasured
+returns c = λ l. refl
+
+pub with-measured-spec : {M : Type 1} → statement M
+with-measured-spec = tie.close (tie.spec returns)

@@ -1,0 +1,17 @@
+// The fault queue, the board's state, and the commands that work on it alone (01, "Fresh state", "Faults", "The commands").
+mod faults;
+mod rows;
+mod state;
+
+pub use faults::Faults;
+pub use rows::Worked;
+pub use rows::clear_counter;
+pub use rows::read_counter;
+pub use rows::read_fault;
+pub use rows::read_position;
+pub use rows::reset;
+pub use rows::set_code;
+pub use rows::set_position;
+pub use rows::step_counter;
+pub use state::State;
+pub use state::size;

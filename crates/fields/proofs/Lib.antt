@@ -1,0 +1,9 @@
+pub mod Walk
+pub mod Tables
+pub mod Pieces
+pub mod Finds
+pub mod Rows
+pub mod Accesses
+pub mod Signed
+pub mod Over
+pub mod Shapes

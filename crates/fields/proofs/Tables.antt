@@ -1,0 +1,162 @@
+-- Laws of any status table, sound or not: how a walk that halts and goes on adds up, and where the fields of a sound one lie. Assumes nothing.
+use Prim.Native.Nat.{ℕ, zero, suc, _+_, _-_, _*_, _≤_, _<_, min}
+use mathlib.Core.Bool.{Bool, true, false, not}
+use mathlib.Core.Path.{_≡_, refl, sym, ap, subst, _∙_}
+use mathlib.Core.List.{List, [], _∷_}
+use native.Mathlib.Omega.{arith}
+use native.Mathlib.Decide.{decLe}
+use lib.ListN.{length, take, drop, getD, length-drop}
+use lib.Seq.{take-all}
+use lib.Dec.{leb}
+use borrow.Author.Tests.{leb-true}
+use Rattle.fields.specs.Memory.{Sits}
+use Rattle.meaning.specs.Bytes.{both, blank}
+use Rattle.meaning.specs.Fields.{blocks, exists, fieldCount, used, sound, table, freeBlocks, statusAt, Survey, survey}
+
+module _ (s : ℕ) (r : List ℕ) where
+  count-yes : exists s ≡ true → fieldCount (s ∷ r) ≡ suc (fieldCount r)
+  unfolding fieldCount
+  count-yes e = rw e
+
+  count-no : exists s ≡ false → fieldCount (s ∷ r) ≡ 0
+  unfolding fieldCount
+  count-no e = rw e
+
+  used-yes : exists s ≡ true → used (s ∷ r) ≡ blocks s + used r
+  unfolding used
+  used-yes e = rw e
+
+  used-no : exists s ≡ false → used (s ∷ r) ≡ 0
+  unfolding used
+  used-no e = rw e
+
+count-nil : fieldCount [] ≡ 0
+unfolding fieldCount
+count-nil = refl
+
+used-nil : used [] ≡ 0
+unfolding used
+used-nil = refl
+
+pub blocks-most : (s : ℕ) → blocks s ≤ 8
+unfolding blocks
+blocks-most s = omega arith
+
+-- there are at most as many fields as bytes
+pub count-le : (l : List ℕ) → fieldCount l ≤ length l
+count-le [] = omega (arith, count-nil)
+count-le (s ∷ r) = go (exists s) refl (count-le r)
+  where
+    go : (b : Bool) → exists s ≡ b → fieldCount r ≤ length r → fieldCount (s ∷ r) ≤ suc (length r)
+    go true e h = omega (arith, count-yes s r e)
+    go false e h = omega (arith, count-no s r e)
+
+-- and at most eight blocks to a byte
+pub used-le : (l : List ℕ) → used l ≤ 8 * length l
+used-le [] = omega (arith, used-nil)
+used-le (s ∷ r) = go (exists s) refl (used-le r)
+  where
+    go : (b : Bool) → exists s ≡ b → used r ≤ 8 * length r → used (s ∷ r) ≤ 8 * suc (length r)
+    go true e h = omega (arith, used-yes s r e, blocks-most s)
+    go false e h = omega (arith, used-no s r e)
+
+-- a walk that halts before field f and goes on where it halted passes all fields
+pub count-halt : (l : List ℕ) (f : ℕ) → fieldCount l ≡ fieldCount (take f l) + fieldCount (drop (fieldCount (take f l)) l)
+count-halt l zero = rw count-nil (omega arith)
+count-halt [] (suc f) = rw count-nil (omega (arith, count-nil))
+count-halt (s ∷ r) (suc f) = go (exists s) refl (count-halt r f)
+  where
+    go : (b : Bool) → exists s ≡ b → fieldCount r ≡ fieldCount (take f r) + fieldCount (drop (fieldCount (take f r)) r)
+        → fieldCount (s ∷ r) ≡ fieldCount (s ∷ take f r) + fieldCount (drop (fieldCount (s ∷ take f r)) (s ∷ r))
+    go true e h = rw (count-yes s r e, count-yes s (take f r) e) (omega arith)
+    go false e h = rw (count-no s (take f r) e) (omega arith)
+
+-- .. and all their blocks
+pub used-halt : (l : List ℕ) (f : ℕ) → used l ≡ used (take f l) + used (drop (fieldCount (take f l)) l)
+used-halt l zero = rw (count-nil, used-nil) (omega arith)
+used-halt [] (suc f) = rw count-nil (omega (arith, used-nil))
+used-halt (s ∷ r) (suc f) = go (exists s) refl (used-halt r f)
+  where
+    go : (b : Bool) → exists s ≡ b → used r ≡ used (take f r) + used (drop (fieldCount (take f r)) r)
+        → used (s ∷ r) ≡ used (s ∷ take f r) + used (drop (fieldCount (s ∷ take f r)) (s ∷ r))
+    go true e h = rw (count-yes s (take f r) e, used-yes s r e, used-yes s (take f r) e) (omega arith)
+    go false e h = rw (count-no s (take f r) e, used-no s (take f r) e) (omega arith)
+
+-- past the end there is nothing to take
+pub take-least : (n : ℕ) (l : List ℕ) → take (min n (length l)) l ≡ take n l
+take-least n l = go (decLe n (length l))
+  where
+    go : Dec (n ≤ length l) → take (min n (length l)) l ≡ take n l
+    go (yes h) = let e : min n (length l) ≡ n = omega arith in ap (λ (k : ℕ). take k l) e
+    go (no h) = take-all (min n (length l)) l (omega arith) ∙ sym (take-all n l (omega arith))
+
+-- `&l[a..]` is what is left at a
+pub rest-is : (l : List ℕ) (a : ℕ) → take (length l - a) (drop a l) ≡ drop a l
+rest-is l a = take-all (length l - a) (drop a l) (omega (arith, length-drop a l))
+
+-- what a walk that halts before field f finds, first and then
+module _ (l : List ℕ) (f n b n₂ b₂ : ℕ) (first : n ≡ fieldCount (take f l)) (start : b ≡ used (take f l)) (then : n₂ ≡ fieldCount (drop n l)) (more : b₂ ≡ used (drop n l)) where
+  pub walk-fields : n + n₂ ≡ fieldCount l
+  walk-fields = rw (then, first) (sym (count-halt l f))
+
+  pub walk-used : b + b₂ ≡ used l
+  walk-used = rw (start, more, first) (sym (used-halt l f))
+
+-- what it finds is the survey
+pub survey-is : (t f : ℕ) (m l : List ℕ) → table t m ≡ l → (trusted blank-rest : Bool) (n u free first status : ℕ)
+    → n ≡ fieldCount l → u ≡ used l → blank-rest ≡ blank (drop n l) → trusted ≡ both blank-rest (leb u t) → free ≡ t - u → first ≡ used (take f l) → status ≡ statusAt l f
+    → _≡_ {A = Survey} (record { trusted = trusted; fields = n; free = free; first = first; status = status }) (survey t m f)
+unfolding survey sound freeBlocks
+survey-is t f m l e trusted blank-rest n u free first status p q z s r i k =
+    rw (e, ← p, ← q, ← z, ← s, ← r, ← i, ← k)
+
+pub blocks-some : (s : ℕ) → 1 ≤ blocks s
+unfolding blocks
+blocks-some s = omega arith
+
+-- each field has a block
+count-le-used : (l : List ℕ) → fieldCount l ≤ used l
+count-le-used [] = omega (arith, count-nil)
+count-le-used (s ∷ r) = go (exists s) refl (count-le-used r)
+  where
+    go : (b : Bool) → exists s ≡ b → fieldCount r ≤ used r → fieldCount (s ∷ r) ≤ used (s ∷ r)
+    go true e h = omega (arith, count-yes s r e, used-yes s r e, blocks-some s)
+    go false e h = omega (arith, count-no s r e)
+
+-- a field ends no later than the last one
+used-own : (l : List ℕ) (f : ℕ) → f < fieldCount l → used (take f l) + blocks (getD l f 0) ≤ used l
+used-own [] f h = absurd (omega (arith, count-nil))
+used-own (s ∷ r) f h = go f h (exists s) refl (used-own r)
+  where
+    go : (g : ℕ) → g < fieldCount (s ∷ r) → (b : Bool) → exists s ≡ b → ((i : ℕ) → i < fieldCount r → used (take i r) + blocks (getD r i 0) ≤ used r)
+        → used (take g (s ∷ r)) + blocks (getD (s ∷ r) g 0) ≤ used (s ∷ r)
+    go zero k true e ih = omega (arith, used-nil, used-yes s r e)
+    go (suc g) k true e ih = omega (arith, ih g (omega (arith, count-yes s r e)), used-yes s r e, used-yes s (take g r) e)
+    go g k false e ih = absurd (omega (arith, count-no s r e))
+
+both-right : (a b : Bool) → both a b ≡ true → b ≡ true
+both-right true b e = e
+both-right false b e = cc
+
+sound-fits : (t : ℕ) (l : List ℕ) → sound t l ≡ true → used l ≤ t
+unfolding sound
+sound-fits t l e = leb-true _ _ (both-right (blank (drop (fieldCount l) l)) (leb (used l) t) e)
+
+sits-in : (t : ℕ) (m : List ℕ) (f : ℕ) → (survey t m f) .trusted ≡ true → Sits t (survey t m f) f
+unfolding survey freeBlocks statusAt
+sits-in t m f e =
+    let l = table t m in
+    let u = sound-fits t l e in
+    record { room = omega (arith, count-le-used l); own = λ h. omega (arith, used-own l f h) }
+
+-- where the fields of a sound table lie
+pub sits : (t : ℕ) (m : List ℕ) (f : ℕ) (v : Survey) → v ≡ survey t m f → v .trusted ≡ true → Sits t v f
+sits t m f v e = subst (λ (w : Survey). w .trusted ≡ true → Sits t w f) (sym e) (sits-in t m f)
+
+-- what a survey finds is no more than there are blocks
+free-in : (t : ℕ) (m : List ℕ) (f : ℕ) → (survey t m f) .free ≤ t
+unfolding survey freeBlocks
+free-in t m f = omega arith
+
+pub free-le : (t : ℕ) (m : List ℕ) (f : ℕ) (v : Survey) → v ≡ survey t m f → v .free ≤ t
+free-le t m f v e = subst (λ (w : Survey). w .free ≤ t) (sym e) (free-in t m f)

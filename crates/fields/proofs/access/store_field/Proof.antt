@@ -1,0 +1,132 @@
+-- `fields::access::store_field` meets its contract. Assumes nothing.
+use borrow.Author.Tests.{not-true, not-false}
+use lib.ListN.{length-drop}
+use mathlib.Core.Path.{sym, _∙_}
+use Rattle.fields.proofs.Accesses.{store-refused, store-locked, store-own}
+use Rattle.fields.proofs.Rows.{asked-4B, works-refuse}
+use Rattle.fields.specs.declared.find.Found.the-variants.{Field}
+use Rattle.fields.specs.declared.find.Found.{Found}
+use Rattle.fields.specs.Found.{OpenTo}
+use Rattle.meaning.specs.Bytes.{arg}
+use native.Mathlib.Omega.{arith}
+use mathlib.Core.Path.{subst}
+use borrow.Author.Needs.{needs}
+use Rattle.fields.proofs.access.store_field.Statement.{statement}
+use Rattle.fields.proofs.access.store_field.Tie as tie
+
+-- where the call began
+abbrev entry : tie.After-open-field → tie.Start
+entry c = c .before .before .before .before .before .before .before
+
+-- past the `let` the field is there
+said : (c : tie.After-found) → OpenTo (entry (c .before .before) .args .codes) (arg (entry (c .before .before) .args .request .now) 3) (entry (c .before .before) .args .total) (entry (c .before .before) .args .memory .now) (arg (entry (c .before .before) .args .request .now) 0) (Field (c .found .given .0 .0) (c .found .given .0 .1 .0) (c .found .given .0 .1 .1 .0))
+said c =
+    let a = entry (c .before .before) .args in
+    subst (λ (g : Found). OpenTo (a .codes) (arg (a .request .now) 3) (a .total) (a .memory .now) (arg (a .request .now) 0) g) (c .found .given .1) (c .before .before .open-field .ensures)
+
+shared-slice-read-open-field : tie.Need-shared-slice-read-open-field
+shared-slice-read-open-field c =
+    let s = c .before .before .before .before .before in
+    omega (arith, asked-4B (s .args .request .now) (s .pre .wanted))
+
+shared-slice-read-open-field-2 : tie.Need-shared-slice-read-open-field-2
+shared-slice-read-open-field-2 c =
+    let s = c .before .before .before .before .before .before in
+    omega (arith, asked-4B (s .args .request .now) (s .pre .wanted))
+
+open-field-requires : tie.Need-open-field-requires
+open-field-requires c κs = search needs
+
+enum-known-found : tie.Need-enum-known-found
+enum-known-found c = search needs
+
+enum-told : tie.Need-enum-told
+enum-told c = search needs
+
+refusal-requires : tie.Need-refusal-requires
+refusal-requires c κs = search needs
+
+same-length : tie.Need-same-length
+same-length c = search needs
+
+returns : tie.Need-returns
+returns c = λ p s e q.
+    let k = c .before .before .before in
+    let a = entry k .args in
+    rw (c .refusal .ensures)
+    (works-refuse _ (a .memory .now) (a .room .now) _ (store-refused p s (a .codes) (a .total) (a .memory .now) (a .request .now) e q _ (k .open-field .ensures) (c .before .before .match .keys2)))
+
+is-writable-requires : tie.Need-is-writable-requires
+is-writable-requires c κs = search needs
+
+same-length-2 : tie.Need-same-length-2
+same-length-2 c = search needs
+
+returns-2 : tie.Need-returns-2
+returns-2 c = λ p s e q.
+    let f = c .before .before .before in
+    let a = entry (f .before .before) .args in
+    works-refuse _ (a .memory .now) (a .room .now) _
+    (store-locked p s (a .codes) (a .total) (a .memory .now) (a .request .now) e q _ _ _ (said f) (sym (c .before .is-writable .ensures) ∙ not-true _ (c .if1 .taken)))
+
+sub-store-own : tie.Need-sub-store-own
+sub-store-own c =
+    let l = said (c .before .before .before) .place in
+    omega (arith, l .ends)
+
+part-store-own-start : tie.Need-part-store-own-start
+part-store-own-start c =
+    let l = said (c .before .before .before) .place in
+    omega (arith, l .ends)
+
+part-store-own-end : tie.Need-part-store-own-end
+part-store-own-end c =
+    let f = c .before .before .before in
+    let l = said f .place in
+    omega (arith, l .within, entry (f .before .before) .pre .lent .fit .long)
+
+store-own-requires : tie.Need-store-own-requires
+store-own-requires c κs =
+    let s = entry (c .before .before .before .before .before .before .before) in
+    let k = asked-4B (s .args .request .now) (s .pre .wanted) in
+    record { long = k .2; some = k .0; room = s .pre .lent .room }
+
+same-length-3 : tie.Need-same-length-3
+same-length-3 c = search needs
+
+same-length-4 : tie.Need-same-length-4
+same-length-4 c = search needs
+
+returns-3 : tie.Need-returns-3
+returns-3 c = λ p s e q.
+    let y = c .before .before .before .before in
+    let l = y .before .before .before in
+    let f = l .before .before .before in
+    let b = entry (f .before .before) in
+    let a = b .args in
+    let k = asked-4B (a .request .now) (b .pre .wanted) in
+    store-own p s (a .codes) (a .total) (a .memory .now) (a .request .now) e q _ _ _ (said f) (b .pre .lent .fit)
+    (sym (l .before .is-writable .ensures) ∙ not-false _ (l .if1 .left)) (simp length-drop (omega arith)) (a .room .now) _ _ _ (y .store-own .ensures s)
+
+pub store-field-spec : {M : Type 1} → statement M
+store-field-spec =
+    tie.close
+    (tie.spec
+    shared-slice-read-open-field
+    shared-slice-read-open-field-2
+    open-field-requires
+    enum-known-found
+    enum-told
+    refusal-requires
+    same-length
+    returns
+    is-writable-requires
+    same-length-2
+    returns-2
+    sub-store-own
+    part-store-own-start
+    part-store-own-end
+    store-own-requires
+    same-length-3
+    same-length-4
+    returns-3)

@@ -1,0 +1,38 @@
+-- `fields::shape::judge_delete` meets its contract. Assumes nothing.
+use Rattle.fields.proofs.Shapes.{delete-barred, delete-held, delete-granted}
+use Rattle.fields.specs.Memory.{surveyOf}
+use mathlib.Core.Path.{sym, _∙_}
+use borrow.Author.Needs.{needs}
+use Rattle.fields.proofs.shape.judge_delete.Statement.{statement}
+use Rattle.fields.proofs.shape.judge_delete.Tie as tie
+
+is-wrong-code-requires : tie.Need-is-wrong-code-requires
+is-wrong-code-requires c κs = search needs
+
+returns : tie.Need-returns
+returns c = λ t gone sits there.
+    let a = c .before .before .args in
+    delete-barred (a .codes) t (a .field) (surveyOf (a .seen)) (a .code) gone (λ s e. sym (c .if1 .taken) ∙ c .before .is-wrong-code .ensures s e)
+
+add-if2 : tie.Need-add-if2
+add-if2 c = search needs
+
+returns-2 : tie.Need-returns-2
+returns-2 c = λ t gone sits there.
+    let l = c .before .before in
+    let a = l .before .before .args in
+    delete-held (a .codes) t (a .field) (surveyOf (a .seen)) (a .code) gone (λ s e. sym (l .if1 .left) ∙ l .before .is-wrong-code .ensures s e) (c .if2 .taken)
+
+blocks-in-requires : tie.Need-blocks-in-requires
+blocks-in-requires c κs = search needs
+
+returns-3 : tie.Need-returns-3
+returns-3 c = λ t gone sits there.
+    let l = c .before .before .before in
+    let a = l .before .before .args in
+    delete-granted (a .codes) t (a .field) (surveyOf (a .seen)) (a .code) gone (λ s e. sym (l .if1 .left) ∙ l .before .is-wrong-code .ensures s e) (c .before .if2 .left) _ (c .blocks-in .ensures) sits
+
+pub judge-delete-spec : {M : Type 1} → statement M
+judge-delete-spec =
+    tie.close
+    (tie.spec is-wrong-code-requires returns add-if2 returns-2 blocks-in-requires returns-3)

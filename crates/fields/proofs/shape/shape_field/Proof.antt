@@ -1,0 +1,114 @@
+-- `fields::shape::shape_field` meets its contract. Assumes nothing.
+use Rattle.fields.proofs.Shapes.{not-granted}
+use Rattle.fields.proofs.Rows.{asked-4D, works-refuse, works-accept}
+use Rattle.fields.proofs.Tables.{sits, free-le}
+use Rattle.fields.specs.declared.shape.Grant.the-variants.{Granted}
+use Rattle.fields.specs.declared.shape.Grant.{Grant}
+use Rattle.fields.specs.Shape.{Shapes}
+use Rattle.fields.specs.Memory.{surveyOf}
+use Rattle.meaning.specs.Bytes.{arg}
+use native.Mathlib.Omega.{arith}
+use mathlib.Core.Path.{subst, _∙_}
+use borrow.Author.Needs.{needs}
+use Rattle.fields.proofs.shape.shape_field.Statement.{statement}
+use Rattle.fields.proofs.shape.shape_field.Tie as tie
+
+-- where the call began
+abbrev entry : tie.After-judge-shape → tie.Start
+entry c = c .before .before .before .before .before .before .before
+
+-- past the `let` the change is granted
+said : (c : tie.After-grant) → Shapes (entry (c .before .before) .args .codes) (entry (c .before .before) .args .total) (surveyOf (c .before .before .before .survey .result)) (entry (c .before .before) .args .request .now) (Granted (c .grant .given .0 .0))
+said c =
+    let k = c .before .before in
+    let a = entry k .args in
+    subst (λ (g : Grant). Shapes (a .codes) (a .total) (surveyOf (k .before .survey .result)) (a .request .now) g) (c .grant .given .1) (k .judge-shape .ensures)
+
+shared-slice-read-field : tie.Need-shared-slice-read-field
+shared-slice-read-field c =
+    let s = c .before .before .before .before in
+    omega (arith, asked-4D (s .args .request .now) (s .pre .wanted))
+
+survey-requires : tie.Need-survey-requires
+survey-requires c κs = search needs
+
+judge-shape-requires : tie.Need-judge-shape-requires
+judge-shape-requires c κs =
+    let b = c .before .before .before .before .before .before in
+    let a = b .args in
+    let d = a .request .now in
+    let v = surveyOf (c .survey .result) in
+    record {
+      few = b .pre .lent .fit .few;
+      free = free-le (a .total) (a .memory .now) (arg d 0) v (c .survey .ensures);
+      sits = λ h. sits (a .total) (a .memory .now) (arg d 0) v (c .survey .ensures) h;
+      long = asked-4D d (b .pre .wanted);
+    }
+
+enum-known-grant : tie.Need-enum-known-grant
+enum-known-grant c = search needs
+
+enum-told : tie.Need-enum-told
+enum-told c = search needs
+
+no-grant-requires : tie.Need-no-grant-requires
+no-grant-requires c κs = search needs
+
+same-length : tie.Need-same-length
+same-length c = search needs
+
+returns : tie.Need-returns
+returns c = λ p s e q.
+    let k = c .before .before .before in
+    let a = entry k .args in
+    let d = a .request .now in
+    rw (c .no-grant .ensures)
+    (works-refuse _ (a .memory .now) (a .room .now) _
+    (k .judge-shape .ensures .answer p s (a .memory .now) e q (k .before .survey .ensures) ∙ not-granted (k .judge-shape .result) (c .before .before .match .keys2) (a .total) s (a .memory .now) (arg d 0) (arg d 1)))
+
+apply-requires : tie.Need-apply-requires
+apply-requires c κs =
+    let g = c .before .before in
+    record { fit = entry (g .before .before) .pre .lent .fit; room = said g .place }
+
+shared-slice-read-reply-two : tie.Need-shared-slice-read-reply-two
+shared-slice-read-reply-two c =
+    let b = entry (c .before .before .before .before .before .before .before .before) in
+    omega (arith, asked-4D (b .args .request .now) (b .pre .wanted))
+
+reply-two-requires : tie.Need-reply-two-requires
+reply-two-requires c κs = search needs
+
+same-length-2 : tie.Need-same-length-2
+same-length-2 c = search needs
+
+same-length-3 : tie.Need-same-length-3
+same-length-3 c = search needs
+
+returns-2 : tie.Need-returns-2
+returns-2 c = λ p s e q.
+    let y = c .before .before .before .before .before .before .before in
+    let g = y .before .before .before in
+    let k = g .before .before in
+    let a = entry k .args in
+    rw (y .apply .ensures)
+    (works-accept _ (a .memory .now) (a .room .now) _ s _ _ _ (said g .answer p s (a .memory .now) e q (k .before .survey .ensures)) (c .before .before .reply-two .ensures))
+
+pub shape-field-spec : {M : Type 1} → statement M
+shape-field-spec =
+    tie.close
+    (tie.spec
+    shared-slice-read-field
+    survey-requires
+    judge-shape-requires
+    enum-known-grant
+    enum-told
+    no-grant-requires
+    same-length
+    returns
+    apply-requires
+    shared-slice-read-reply-two
+    reply-two-requires
+    same-length-2
+    same-length-3
+    returns-2)

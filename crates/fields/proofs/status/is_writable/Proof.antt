@@ -1,0 +1,12 @@
+-- `fields::status::is_writable` meets its contract. Assumes nothing.
+use Rattle.meaning.specs.Fields.{writable}
+use borrow.Author.Needs.{needs}
+use Rattle.fields.proofs.status.is_writable.Statement.{statement}
+use Rattle.fields.proofs.status.is_writable.Tie as tie
+
+returns : tie.Need-returns
+unfolding writable
+returns c = search needs
+
+pub is-writable-spec : {M : Type 1} → statement M
+is-writable-spec = tie.close (tie.spec returns)

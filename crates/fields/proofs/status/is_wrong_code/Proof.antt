@@ -1,0 +1,20 @@
+-- `fields::status::is_wrong_code` meets its contract. Assumes nothing.
+use Rattle.meaning.specs.Commands.{wrongCode}
+use Rattle.meaning.specs.State.{code}
+use Rattle.meaning.specs.Fields.{codeNo}
+use borrow.Author.Needs.{needs}
+use Rattle.fields.proofs.status.is_wrong_code.Statement.{statement}
+use Rattle.fields.proofs.status.is_wrong_code.Tie as tie
+
+cast-number : tie.Need-cast-number
+cast-number c = search needs
+
+array-read-result : tie.Need-array-read-result
+array-read-result c = search needs
+
+returns : tie.Need-returns
+unfolding wrongCode code codeNo
+returns c = λ s e. rw e
+
+pub is-wrong-code-spec : {M : Type 1} → statement M
+is-wrong-code-spec = tie.close (tie.spec cast-number array-read-result returns)

@@ -1,0 +1,105 @@
+-- `fields::table::walk` meets its contract. Assumes nothing.
+use Rattle.fields.proofs.Tables.{count-le, used-le, walk-fields, walk-used, survey-is}
+use Rattle.meaning.specs.Fields.{fieldCount, used}
+use Rattle.meaning.specs.Bytes.{blank, both}
+use lib.ListN.{take, length-take, length-drop}
+use native.Mathlib.Omega.{arith}
+use mathlib.Core.Path.{_≡_, ap, _∙_}
+use Prim.Native.Nat.{_+_}
+use borrow.Author.Needs.{needs}
+use Rattle.fields.proofs.table.walk.Statement.{statement}
+use Rattle.fields.proofs.table.walk.Tie as tie
+
+-- before the named field
+fields-before : (c : tie.After-count-fields) → c .count-fields .result .fields ≡ fieldCount (take (c .before .before .before .args .field) (c .before .before .before .args .statuses .now))
+fields-before c = c .count-fields .ensures .fields ∙ ap fieldCount (c .before .front .ensures)
+
+used-before : (c : tie.After-count-fields) → c .count-fields .result .blocks ≡ used (take (c .before .before .before .args .field) (c .before .before .before .args .statuses .now))
+used-before c = c .count-fields .ensures .blocks ∙ ap used (c .before .front .ensures)
+
+-- and in all
+all-fields : (c : tie.After-count-fields2) → c .before .before .count-fields .result .fields + c .count-fields2 .result .fields ≡ fieldCount (c .before .before .before .before .before .args .statuses .now)
+all-fields c =
+    let b = c .before .before in
+    let a = b .before .before .before .args in
+    walk-fields (a .statuses .now) (a .field) _ _ _ _ (fields-before b) (used-before b)
+    (c .count-fields2 .ensures .fields ∙ ap fieldCount (c .before .past .ensures)) (c .count-fields2 .ensures .blocks ∙ ap used (c .before .past .ensures))
+
+all-used : (c : tie.After-count-fields2) → c .before .before .count-fields .result .blocks + c .count-fields2 .result .blocks ≡ used (c .before .before .before .before .before .args .statuses .now)
+all-used c =
+    let b = c .before .before in
+    let a = b .before .before .before .args in
+    walk-used (a .statuses .now) (a .field) _ _ _ _ (fields-before b) (used-before b)
+    (c .count-fields2 .ensures .fields ∙ ap fieldCount (c .before .past .ensures)) (c .count-fields2 .ensures .blocks ∙ ap used (c .before .past .ensures))
+
+front-requires : tie.Need-front-requires
+front-requires c κs = search needs
+
+count-fields-requires : tie.Need-count-fields-requires
+count-fields-requires c κs = simp (c .front .ensures, length-take) (omega arith)
+
+past-requires : tie.Need-past-requires
+past-requires c κs =
+    let s = c .before .before .before in
+    let l = s .args .statuses .now in
+    omega (arith, fields-before c, count-le (take (s .args .field) l), length-take (s .args .field) l)
+
+count-fields-requires-2 : tie.Need-count-fields-requires-2
+count-fields-requires-2 c κs = simp (c .past .ensures, length-drop) (omega arith)
+
+add-fields : tie.Need-add-fields
+add-fields c =
+    let k = c .before .before in
+    let a = all-fields k in
+    omega (arith, count-le (k .before .before .before .before .before .args .statuses .now))
+
+add-used : tie.Need-add-used
+add-used c =
+    let k = c .before .before .before .before in
+    let a = all-used k in
+    omega (arith, used-le (k .before .before .before .before .before .args .statuses .now))
+
+past-requires-2 : tie.Need-past-requires-2
+past-requires-2 c κs =
+    let k = c .before .before .before .before in
+    let a = all-fields k in
+    omega (arith, count-le (k .before .before .before .before .before .args .statuses .now))
+
+is-blank-requires : tie.Need-is-blank-requires
+is-blank-requires c κs = search needs
+
+both-requires : tie.Need-both-requires
+both-requires c κs = search needs
+
+less-requires : tie.Need-less-requires
+less-requires c κs = search needs
+
+status-at-requires : tie.Need-status-at-requires
+status-at-requires c κs = search needs
+
+returns : tie.Need-returns
+returns c = λ m e.
+    let p = c .before .before .before .before in
+    let k = p .before .before .before .before .before in
+    let b = k .before .before in
+    let a = b .before .before .before .args in
+    survey-is (a .total) (a .field) m (a .statuses .now) e _ (c .before .before .before .is-blank .result) _ _ _ _ _
+    (all-fields k) (all-used k) (c .before .before .before .is-blank .ensures ∙ ap blank (p .past2 .ensures)) (c .before .before .both .ensures)
+    (c .before .less .ensures) (used-before b) (c .status-at .ensures)
+
+pub walk-spec : {M : Type 1} → statement M
+walk-spec =
+    tie.close
+    (tie.spec
+    front-requires
+    count-fields-requires
+    past-requires
+    count-fields-requires-2
+    add-fields
+    add-used
+    past-requires-2
+    is-blank-requires
+    both-requires
+    less-requires
+    status-at-requires
+    returns)

@@ -1,0 +1,67 @@
+-- `fields::tell::field_status` meets its contract. Assumes nothing.
+use Rattle.fields.proofs.Rows.{asked-4C, works-refuse, works-accept, status-refused, status-told}
+use Rattle.fields.specs.declared.find.Found.the-variants.{Field}
+use Rattle.fields.specs.declared.find.Found.{Found}
+use Rattle.fields.specs.Found.{FoundIn}
+use Rattle.meaning.specs.Bytes.{arg}
+use native.Mathlib.Omega.{arith}
+use mathlib.Core.Path.{subst}
+use borrow.Author.Needs.{needs}
+use Rattle.fields.proofs.tell.field_status.Statement.{statement}
+use Rattle.fields.proofs.tell.field_status.Tie as tie
+
+-- past the `let` the field is there
+said : (c : tie.After-found) → FoundIn (c .before .before .before .before .before .before .before .args .total) (c .before .before .before .before .before .before .before .args .memory .now) (arg (c .before .before .before .before .before .before .before .args .request .now) 0) (Field (c .found .given .0 .0) (c .found .given .0 .1 .0) (c .found .given .0 .1 .1 .0))
+said c =
+    let k = c .before .before in
+    let a = k .before .before .before .before .before .args in
+    subst (λ (g : Found). FoundIn (a .total) (a .memory .now) (arg (a .request .now) 0) g) (c .found .given .1) (k .find-field .ensures)
+
+shared-slice-read-field : tie.Need-shared-slice-read-field
+shared-slice-read-field c =
+    let s = c .before .before .before .before in
+    omega (arith, asked-4C (s .args .request .now) (s .pre .wanted))
+
+find-field-requires : tie.Need-find-field-requires
+find-field-requires c κs = search needs
+
+enum-known-found : tie.Need-enum-known-found
+enum-known-found c = search needs
+
+enum-told : tie.Need-enum-told
+enum-told c = search needs
+
+refusal-requires : tie.Need-refusal-requires
+refusal-requires c κs = search needs
+
+returns : tie.Need-returns
+returns c = λ p s e.
+    let k = c .before .before .before in
+    let a = k .before .before .before .before .before .args in
+    rw (c .refusal .ensures) (works-refuse _ (a .memory .now) (a .room .now) _ (status-refused p s (a .total) (a .memory .now) (a .request .now) e _ (k .find-field .ensures) (c .before .before .match .keys2)))
+
+reply-two-requires : tie.Need-reply-two-requires
+reply-two-requires c κs = search needs
+
+same-length : tie.Need-same-length
+same-length c = search needs
+
+returns-2 : tie.Need-returns-2
+returns-2 c = λ p s e.
+    let k = c .before .before .before .before .before in
+    let a = k .before .before .before .before .before .before .before .args in
+    works-accept _ (a .memory .now) (a .room .now) _ s (a .memory .now) _ _ (status-told p s (a .total) (a .memory .now) (a .request .now) e _ _ _ (said k)) (c .before .before .reply-two .ensures)
+
+pub field-status-spec : {M : Type 1} → statement M
+field-status-spec =
+    tie.close
+    (tie.spec
+    shared-slice-read-field
+    find-field-requires
+    enum-known-found
+    enum-told
+    refusal-requires
+    returns
+    reply-two-requires
+    same-length
+    returns-2)

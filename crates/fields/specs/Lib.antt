@@ -1,0 +1,4 @@
+pub mod Memory
+pub mod Replies
+pub mod Found
+pub mod Shape

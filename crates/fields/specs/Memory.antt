@@ -1,0 +1,32 @@
+-- The lent memory as the code holds it: its size, and what a walk of the table finds. Assumes nothing.
+use Prim.Native.Nat.{ℕ, _+_, _≤_, _<_}
+use mathlib.Core.Path.{_≡_}
+use mathlib.Core.List.{List}
+use lib.ListN.{length}
+use Rattle.meaning.specs.Fields as meaning
+use Rattle.fields.specs.declared.seen.Survey.{Survey}
+use Rattle.fields.specs.declared.table.Tally.{Tally}
+
+-- 01, "Plate" and "Memory": at most 112 blocks, and 17T bytes
+pub record Fit (total : ℕ) (m : List ℕ) : Type 0 where
+  pub few : total ≤ 112
+  pub long : length m ≡ meaning.imageLength total
+
+-- .. with a room that is large enough (R3)
+pub record Lent (total : ℕ) (m w : List ℕ) : Type 0 where
+  pub fit : Fit total m
+  pub room : 134 ≤ length w
+
+-- 01, "03h": the fields at the front of some status bytes, and their blocks
+pub record Tallied (statuses : List ℕ) (r : Tally) : Type 0 where
+  pub fields : r .fields ≡ meaning.fieldCount statuses
+  pub blocks : r .blocks ≡ meaning.used statuses
+
+-- the survey that the struct stands for
+abbrev pub surveyOf : Survey → meaning.Survey
+surveyOf v = record { trusted = v .sound; fields = v .fields; free = v .free; first = v .first; status = v .status }
+
+-- 01, "Fields lie one after another from block 0": what a survey of a sound table tells of field f. Each field has a block, and ends where the free blocks begin or before
+pub record Sits (t : ℕ) (v : meaning.Survey) (f : ℕ) : Type 0 where
+  pub room : v .fields + v .free ≤ t
+  pub own : f < v .fields → v .first + meaning.blocks (v .status) + v .free ≤ t

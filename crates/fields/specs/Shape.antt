@@ -1,0 +1,56 @@
+-- What a judgement of 4Dh comes to, in the terms of the meaning. Assumes nothing.
+use Prim.Native.Nat.{ℕ, _+_, _≤_, _<_}
+use mathlib.Core.Bool.{true}
+use mathlib.Core.Path.{_≡_}
+use mathlib.Core.List.{List, [], _∷_}
+use lib.ListN.{length}
+use Rattle.meaning.specs.Bytes.{arg}
+use Rattle.meaning.specs.State.{Plate, State}
+use Rattle.meaning.specs.Fields.{Survey, survey, putStatus}
+use Rattle.meaning.specs.Commands.{Answer, refuse, accept, resize, shapeField}
+use Rattle.fields.specs.declared.change.Change.{Change}
+use Rattle.fields.specs.declared.shape.Grant.{Grant}
+use Rattle.fields.specs.declared.shape.Grant.the-variants.{Granted, Refused}
+use Rattle.fields.specs.Memory.{Fit, Sits}
+
+-- what is granted is done and told, with the status that was asked for; else the error code
+abbrev pub shaped : Grant → ℕ → State → List ℕ → ℕ → ℕ → Answer
+shaped (Granted c) t s m f asked = accept (f ∷ asked ∷ []) s (putStatus t (resize m (c .start) (c .old) (c .new)) f (c .status))
+shaped (Refused e) t s m f asked = refuse e
+
+-- the error code, 0 where there is none
+abbrev pub codeOf : Grant → ℕ
+codeOf (Granted c) = 0
+codeOf (Refused e) = e
+
+-- the field has its place in the table, and its blocks in the memory before and after
+pub record Room (t f : ℕ) (c : Change) : Type 0 where
+  pub below : f < t
+  pub ends : c .start + c .old ≤ t
+  pub will-end : c .start + c .new ≤ t
+
+abbrev pub Placed : ℕ → ℕ → Grant → Type 0
+Placed t f (Granted c) = Room t f c
+Placed t f (Refused e) = Unit
+
+pub record Settable (t : ℕ) (m : List ℕ) (f : ℕ) (c : Change) : Type 0 where
+  pub fit : Fit t m
+  pub room : Room t f c
+
+-- one of create, modify, delete, judged
+pub record Judged (codes : List ℕ) (t f asked : ℕ) (row : State → List ℕ → Answer) (r : Grant) : Type 0 where
+  pub answer : (s : State) (m : List ℕ) → s .codes ≡ codes → row s m ≡ shaped r t s m f asked
+  pub place : Placed t f r
+
+-- what the judge is given: a request's data of three bytes, and a survey for the field that it names
+pub record Surveyed (t : ℕ) (v : Survey) (d : List ℕ) : Type 0 where
+  pub few : t ≤ 112
+  pub free : v .free ≤ t
+  pub sits : v .trusted ≡ true → Sits t v (arg d 0)
+  pub long : length d ≡ 3
+
+-- the whole row judged, for every memory that the survey is of
+pub record Shapes (codes : List ℕ) (t : ℕ) (v : Survey) (d : List ℕ) (r : Grant) : Type 0 where
+  pub answer : (p : Plate) (s : State) (m : List ℕ) → p .total ≡ t → s .codes ≡ codes → v ≡ survey t m (arg d 0)
+      → shapeField p s m d ≡ shaped r t s m (arg d 0) (arg d 1)
+  pub place : Placed t (arg d 0) r

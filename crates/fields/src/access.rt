@@ -1,0 +1,97 @@
+// 4Ah and 4Bh: a field's bytes read and stored (01, "The commands").
+ghost use mathlib.Core.Path.{_≡_};
+ghost use mathlib.Core.List.{List};
+ghost use Prim.Native.Nat.{ℕ};
+ghost use Rattle.meaning.specs.State.{Plate, State};
+ghost use Rattle.meaning.specs.Commands.{c4A, c4B, readField, storeField};
+ghost use Rattle.frame.specs.Answers.{Works};
+ghost use Rattle.fields.specs.Replies.{Asked, Readable, Storable, readOwn, storeOwn};
+use crate::find::Found;
+use crate::find::open_field;
+use crate::find::refusal;
+use crate::reply::repeat_three;
+use crate::status::is_writable;
+use frame::Answer;
+use frame::fill;
+
+// The reader of offset and count, on the field's own part of memory. 11h; field, offset, count and the bytes.
+fn read_own(own: &[u8], request: &[u8], room: &mut [u8]) -> Answer
+    requires { ⌜ Readable (now request) (now room) ⌝ }
+    ensures { λ r. ⌜ ((s : State) (m : List ℕ) → Works (readOwn (now (own .entry)) (now (request .entry)) s m) m (now (room .entry)) r m (now (room .exit))) ⌝ }
+{
+    let count = request[2] as usize;
+    let from = request[1] as usize;
+    let to = from + count;
+    if own.len() < to {
+        return Answer::Refuse(0x11);
+    }
+    repeat_three(request, room);
+    fill(&own[from..to], &mut room[5..]);
+    Answer::Accept(3 + count)
+}
+
+// 4Ah: field, offset, count, code. 03h; 12h; 0Fh; 0Dh if count is 0 or over 128; 11h.
+pub fn read_field(
+    memory: &[u8],
+    total: usize,
+    codes: [u8; 4],
+    request: &[u8],
+    room: &mut [u8],
+) -> Answer
+    requires { ⌜ Asked c4A total (now memory) (now request) (now room) ⌝ }
+    ensures { λ r. ⌜ ((p : Plate) (s : State) → p .total ≡ total → s .codes ≡ codes
+        → Works (readField p s (now (memory .entry)) (now (request .entry))) (now (memory .entry)) (now (room .entry)) r (now (memory .entry)) (now (room .exit))) ⌝ }
+{
+    let found = open_field(memory, total, codes, request[0], request[3]);
+    let Found::Field {
+        from,
+        to,
+        status: _,
+    } = found
+    else {
+        return refusal(found);
+    };
+    if request[2] == 0 {
+        return Answer::Refuse(0x0D);
+    }
+    if 128 < request[2] {
+        return Answer::Refuse(0x0D);
+    }
+    read_own(&memory[from..to], request, room)
+}
+
+// 11h; the bytes are stored into the field's own part of memory; field, offset, count.
+fn store_own(own: &mut [u8], request: &[u8], room: &mut [u8]) -> Answer
+    requires { ⌜ Storable (now request) (now room) ⌝ }
+    ensures { λ r. ⌜ ((s : State) → Works (storeOwn (now (own .entry)) (now (request .entry)) s) (now (own .entry)) (now (room .entry)) r (now (own .exit)) (now (room .exit))) ⌝ }
+{
+    let from = request[1] as usize;
+    if own.len() < from + request[2] as usize {
+        return Answer::Refuse(0x11);
+    }
+    fill(&request[4..], &mut own[from..]);
+    repeat_three(request, room);
+    Answer::Accept(3)
+}
+
+// 4Bh: field, offset, count, code, data. 03h; 12h; 0Fh; 0Eh if bit 6 is clear; 11h; stores.
+pub fn store_field(
+    memory: &mut [u8],
+    total: usize,
+    codes: [u8; 4],
+    request: &[u8],
+    room: &mut [u8],
+) -> Answer
+    requires { ⌜ Asked c4B total (now memory) (now request) (now room) ⌝ }
+    ensures { λ r. ⌜ ((p : Plate) (s : State) → p .total ≡ total → s .codes ≡ codes
+        → Works (storeField p s (now (memory .entry)) (now (request .entry))) (now (memory .entry)) (now (room .entry)) r (now (memory .exit)) (now (room .exit))) ⌝ }
+{
+    let found = open_field(memory, total, codes, request[0], request[3]);
+    let Found::Field { from, to, status } = found else {
+        return refusal(found);
+    };
+    if !is_writable(status) {
+        return Answer::Refuse(0x0E);
+    }
+    store_own(&mut memory[from..to], request, room)
+}

@@ -1,0 +1,72 @@
+// A named field looked up in the table, with the checks that 4Ah, 4Bh and 4Ch begin with (01, "The commands").
+ghost use mathlib.Core.Path.{_≡_};
+ghost use Rattle.frame.specs.declared.answer.Answer.the-variants as told;
+ghost use Rattle.fields.specs.Memory.{Fit};
+ghost use Rattle.fields.specs.Found.{FoundIn, OpenTo, codeIn};
+use crate::sizes::bytes_of;
+use crate::status::blocks_in;
+use crate::status::is_barred;
+use crate::table::survey;
+use frame::Answer;
+
+pub enum Found {
+    // The field's own part of memory, from its first byte up to the one past its last, and its status.
+    Field { from: usize, to: usize, status: u8 },
+    // The error code.
+    Refused(u8),
+}
+
+// 03h; 12h.
+pub(crate) fn find_field(memory: &[u8], total: usize, field: u8) -> Found
+    requires { ⌜ Fit total (now memory) ⌝ }
+    ensures { λ r. ⌜ FoundIn total (now (memory .entry)) field r ⌝ }
+{
+    let seen = survey(memory, total, field);
+    if !seen.sound {
+        return Found::Refused(0x03);
+    }
+    if seen.fields <= field as usize {
+        return Found::Refused(0x12);
+    }
+    let from = bytes_of(seen.first);
+    let to = from + bytes_of(blocks_in(seen.status) as usize);
+    Found::Field {
+        from,
+        to,
+        status: seen.status,
+    }
+}
+
+// 03h; 12h; 0Fh.
+pub(crate) fn open_field(memory: &[u8], total: usize, codes: [u8; 4], field: u8, code: u8) -> Found
+    requires { ⌜ Fit total (now memory) ⌝ }
+    ensures { λ r. ⌜ OpenTo codes code total (now (memory .entry)) field r ⌝ }
+{
+    let found = find_field(memory, total, field);
+    let Found::Field {
+        from: _,
+        to: _,
+        status,
+    } = found
+    else {
+        return found;
+    };
+    if is_barred(codes, status, code) {
+        return Found::Refused(0x0F);
+    }
+    found
+}
+
+// The error answer where no field was found.
+pub(crate) fn refusal(found: Found) -> Answer
+    ensures { λ r. ⌜ r ≡ told.Refuse (codeIn found) ⌝ }
+{
+    match found {
+        Found::Refused(code) => Answer::Refuse(code),
+        Found::Field {
+            from: _,
+            to: _,
+            status: _,
+        } => Answer::Refuse(0),
+    }
+}

@@ -1,0 +1,163 @@
+// 4Dh: a field created, modified or deleted (01, "4Dh").
+ghost use mathlib.Core.Path.{_≡_};
+ghost use mathlib.Core.List.{List};
+ghost use Prim.Native.Nat.{ℕ, _+_, _≤_, _<_};
+ghost use Rattle.meaning.specs.Bytes.{both, differ};
+ghost use Rattle.meaning.specs.State.{Plate, State};
+ghost use Rattle.meaning.specs.Commands.{c4D, create, modify, delete, shapeField};
+ghost use Rattle.frame.specs.declared.answer.Answer.the-variants as told;
+ghost use Rattle.frame.specs.Answers.{Works};
+ghost use Rattle.fields.specs.Memory.{Sits, surveyOf};
+ghost use Rattle.fields.specs.Replies.{Asked};
+ghost use Rattle.fields.specs.Shape.{Judged, Shapes, Surveyed, codeOf};
+use crate::change::Change;
+use crate::change::apply;
+use crate::change::lacks_room;
+use crate::reply::reply_two;
+use crate::seen::Survey;
+use crate::status::blocks_in;
+use crate::status::has_field;
+use crate::status::is_wrong_code;
+use crate::table::survey;
+use frame::Answer;
+
+pub enum Grant {
+    Granted(Change),
+    // The error code.
+    Refused(u8),
+}
+
+// 01, "10h if the size changes and the field is not the last".
+fn is_held(seen: Survey, field: u8, new: u8, old: u8) -> bool
+    ensures { λ r. ⌜ r ≡ both (differ new old) (differ (field + 1) (seen .fields)) ⌝ }
+{
+    if new == old {
+        return false;
+    }
+    field as usize + 1 != seen.fields
+}
+
+// 0Fh unless the code equals the one the new status names, whatever bit 3 says; 10h.
+fn judge_create(seen: Survey, total: usize, codes: [u8; 4], new: u8, code: u8) -> Grant
+    requires { ⌜ (total ≤ 112) × (seen .free ≤ total) ⌝ }
+    ensures { λ r. ⌜ ((f : ℕ) → Sits total (surveyOf seen) f → f ≡ seen .fields
+        → Judged codes total f new (λ (s : State) (m : List ℕ). create total s m (surveyOf seen) f new code) r) ⌝ }
+{
+    if is_wrong_code(codes, new, code) {
+        return Grant::Refused(0x0F);
+    }
+    let blocks = blocks_in(new);
+    if lacks_room(seen.free, blocks, 0) {
+        return Grant::Refused(0x10);
+    }
+    Grant::Granted(Change {
+        start: total - seen.free,
+        old: 0,
+        new: blocks,
+        status: new,
+    })
+}
+
+// 0Fh unless the code equals the one the stored status names; 10h; 10h.
+fn judge_modify(seen: Survey, codes: [u8; 4], field: u8, new: u8, code: u8) -> Grant
+    requires { ⌜ seen .free ≤ 65535 ⌝ }
+    ensures { λ r. ⌜ ((t : ℕ) → Sits t (surveyOf seen) field → field < seen .fields
+        → Judged codes t field new (λ (s : State) (m : List ℕ). modify t s m (surveyOf seen) field new code) r) ⌝ }
+{
+    let stored = seen.status;
+    if is_wrong_code(codes, stored, code) {
+        return Grant::Refused(0x0F);
+    }
+    let blocks = blocks_in(new);
+    let old = blocks_in(stored);
+    if is_held(seen, field, blocks, old) {
+        return Grant::Refused(0x10);
+    }
+    if lacks_room(seen.free, blocks, old) {
+        return Grant::Refused(0x10);
+    }
+    Grant::Granted(Change {
+        start: seen.first,
+        old,
+        new: blocks,
+        status: new,
+    })
+}
+
+// 0Fh as for modify; 10h if not the last. The status is 00h then, whatever was asked.
+fn judge_delete(seen: Survey, codes: [u8; 4], field: u8, code: u8) -> Grant
+    ensures { λ r. ⌜ ((t gone : ℕ) → Sits t (surveyOf seen) field → field < seen .fields
+        → Judged codes t field gone (λ (s : State) (m : List ℕ). delete t s m (surveyOf seen) field gone code) r) ⌝ }
+{
+    if is_wrong_code(codes, seen.status, code) {
+        return Grant::Refused(0x0F);
+    }
+    if field as usize + 1 != seen.fields {
+        return Grant::Refused(0x10);
+    }
+    Grant::Granted(Change {
+        start: seen.first,
+        old: blocks_in(seen.status),
+        new: 0,
+        status: 0,
+    })
+}
+
+// 03h; then create, modify or delete, otherwise 12h.
+fn judge_shape(seen: Survey, total: usize, codes: [u8; 4], request: &[u8]) -> Grant
+    requires { ⌜ Surveyed total (surveyOf seen) (now request) ⌝ }
+    ensures { λ r. ⌜ Shapes codes total (surveyOf seen) (now (request .entry)) r ⌝ }
+{
+    let field = request[0];
+    let number = field as usize;
+    let status = request[1];
+    let code = request[2];
+    if !seen.sound {
+        return Grant::Refused(0x03);
+    }
+    if has_field(status) {
+        if number == seen.fields {
+            return judge_create(seen, total, codes, status, code);
+        }
+        if seen.fields < number {
+            return Grant::Refused(0x12);
+        }
+        return judge_modify(seen, codes, field, status, code);
+    }
+    if seen.fields <= number {
+        return Grant::Refused(0x12);
+    }
+    judge_delete(seen, codes, field, code)
+}
+
+// The error answer where nothing is granted.
+fn no_grant(grant: Grant) -> Answer
+    ensures { λ r. ⌜ r ≡ told.Refuse (codeOf grant) ⌝ }
+{
+    match grant {
+        Grant::Refused(code) => Answer::Refuse(code),
+        Grant::Granted(_) => Answer::Refuse(0),
+    }
+}
+
+// 4Dh: field, status, code. The reply repeats the status as received.
+pub fn shape_field(
+    memory: &mut [u8],
+    total: usize,
+    codes: [u8; 4],
+    request: &[u8],
+    room: &mut [u8],
+) -> Answer
+    requires { ⌜ Asked c4D total (now memory) (now request) (now room) ⌝ }
+    ensures { λ r. ⌜ ((p : Plate) (s : State) → p .total ≡ total → s .codes ≡ codes
+        → Works (shapeField p s (now (memory .entry)) (now (request .entry))) (now (memory .entry)) (now (room .entry)) r (now (memory .exit)) (now (room .exit))) ⌝ }
+{
+    let field = request[0];
+    let seen = survey(memory, total, field);
+    let grant = judge_shape(seen, total, codes, request);
+    let Grant::Granted(change) = grant else {
+        return no_grant(grant);
+    };
+    apply(memory, total, field, change);
+    reply_two(field, request[1], room)
+}

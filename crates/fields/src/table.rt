@@ -1,0 +1,103 @@
+// The status table, walked once (01, "03h").
+ghost use mathlib.Core.Path.{_≡_};
+ghost use Prim.Native.Nat.{ℕ, _≤_};
+ghost use mathlib.Core.List.{List};
+ghost use lib.ListN.{length, take, drop};
+ghost use Rattle.meaning.specs.Bytes.{blank, both};
+ghost use Rattle.meaning.specs.Fields.{survey, statusAt, table};
+ghost use Rattle.fields.specs.Memory.{Fit, Tallied, surveyOf};
+use crate::seen::Survey;
+use crate::sizes::bytes_of;
+use crate::sizes::least;
+use crate::sizes::less;
+use crate::status::blocks_in;
+use crate::status::has_field;
+
+// How many fields stand at the front, and their blocks.
+pub struct Tally {
+    pub fields: usize,
+    pub blocks: usize,
+}
+
+// 01, "its first n bytes have bit 7 set": the status bytes at the front that have it.
+pub(crate) fn count_fields(statuses: &[u8]) -> Tally
+    requires { ⌜ length (now statuses) ≤ 112 ⌝ }
+    ensures { λ r. ⌜ Tallied (now (statuses .entry)) r ⌝ }
+{
+    let mut blocks: usize = 0;
+    let mut fields = 0;
+    while fields < statuses.len() {
+        let status = statuses[fields];
+        if !has_field(status) {
+            return Tally { fields, blocks };
+        }
+        blocks += blocks_in(status) as usize;
+        fields += 1;
+    }
+    Tally { fields, blocks }
+}
+
+// 01, "the rest are 00h". The bits of all bytes are gathered, with no test in the loop: the usual table is blank to its end.
+pub(crate) fn is_blank(rest: &[u8]) -> bool
+    ensures { λ r. ⌜ r ≡ blank (now (rest .entry)) ⌝ }
+{
+    let mut bits: u8 = 0;
+    let mut i = 0;
+    while i < rest.len() {
+        bits |= rest[i];
+        i += 1;
+    }
+    bits == 0
+}
+
+fn both(a: bool, b: bool) -> bool
+    ensures { λ r. ⌜ r ≡ both a b ⌝ }
+{
+    if a { b } else { false }
+}
+
+fn front(bytes: &[u8], n: usize) -> &[u8]
+    ensures { λ r. ⌜ now r ≡ take n (now (bytes .entry)) ⌝ }
+{
+    let end = least(n, bytes.len());
+    &bytes[..end]
+}
+
+fn past(bytes: &[u8], n: usize) -> &[u8]
+    requires { ⌜ n ≤ length (now bytes) ⌝ }
+    ensures { λ r. ⌜ now r ≡ drop n (now (bytes .entry)) ⌝ }
+{
+    &bytes[n..]
+}
+
+fn status_at(table: &[u8], field: usize) -> u8
+    ensures { λ r. ⌜ r ≡ statusAt (now (table .entry)) field ⌝ }
+{
+    if field < table.len() { table[field] } else { 0 }
+}
+
+// The walk halts at the named field, to note where it starts, and goes on from there: no status is passed twice.
+fn walk(statuses: &[u8], total: usize, field: usize) -> Survey
+    requires { ⌜ (total ≤ 112) × (length (now statuses) ≡ total) ⌝ }
+    ensures { λ r. ⌜ ((m : List ℕ) → table total m ≡ now (statuses .entry) → surveyOf r ≡ survey total m field) ⌝ }
+{
+    let before = count_fields(front(statuses, field));
+    let after = count_fields(past(statuses, before.fields));
+    let fields = before.fields + after.fields;
+    let used = before.blocks + after.blocks;
+    let rest_blank = is_blank(past(statuses, fields));
+    Survey {
+        sound: both(rest_blank, used <= total),
+        fields,
+        free: less(total, used),
+        first: before.blocks,
+        status: status_at(statuses, field),
+    }
+}
+
+pub fn survey(memory: &[u8], total: usize, field: u8) -> Survey
+    requires { ⌜ Fit total (now memory) ⌝ }
+    ensures { λ r. ⌜ surveyOf r ≡ survey total (now (memory .entry)) field ⌝ }
+{
+    walk(past(memory, bytes_of(total)), total, field as usize)
+}

@@ -1,0 +1,98 @@
+-- Laws of the checksum's loop, of bytes put into a room, and of a frame that is sealed round its data. Assumes nothing.
+use mathlib.Core.Path.{_≡_, refl, sym, ap, _∙_}
+use mathlib.Core.Bool.{Bool, true, false}
+use mathlib.Core.List.{List, [], _∷_, _++_, append-nil}
+use Prim.Native.Nat.{ℕ, zero, suc, _+_, _-_, _<_, _≤_}
+use native.Mathlib.Numerals.{add-one}
+use native.Mathlib.Nat.{zero-add}
+use native.Mathlib.Omega.{arith}
+use lib.ListN.{length, take, drop, getD, set, length-append, length-take, length-drop}
+use lib.Seq.{drop-cons, take-suc, set-at, set-split, append-snoc, length-take-le, take-length, drop-length, take-at, drop-drop}
+use lib.Bits.{bitXor, xor-self}
+use lib.Dec.{eqb}
+use borrow.Author.Tests.{le-leb, lt-leb, eq-eqb, ne-eqb, eqb-true, eqb-false}
+use borrow.Rule.Slice.PartMut.{putMid, midOf}
+use Rattle.meaning.specs.Bytes.{arg, xorFrom, xorAll, part, put}
+use Rattle.meaning.specs.Commands.{counted, lengthFits}
+use Rattle.meaning.specs.Frames.{sealed}
+use Rattle.meaning.proofs.Puts.{drop-put-low}
+use Rattle.meaning.proofs.Wire.{xor-snoc, length-sealed}
+use Rattle.meaning.proofs.Bytewise.{xor-cancel}
+
+-- one byte more is passed
+pub xor-more : (s : List ℕ) (i x : ℕ) → i < length s → xorFrom (bitXor x (getD s i 0)) (drop (i + 1) s) ≡ xorFrom x (drop i s)
+unfolding xorFrom
+xor-more s i x h = rw (add-one, drop-cons s i 0)
+
+-- a list with its checksum has checksum 0 (meaning's `xor-sealed`), and only then
+pub xor-opens : (s : List ℕ) (z : ℕ) → xorAll (s ++ (z ∷ [])) ≡ 0 → z ≡ xorAll s
+unfolding xorAll
+xor-opens s z e = sym (xor-cancel (xorFrom 0 s) z z (sym (xor-snoc 0 s z) ∙ e ∙ sym (xor-self z)))
+
+-- one byte more is copied
+pub fill-more : (s d : List ℕ) (i : ℕ) → i < length s → i < length d
+    → set (take i s ++ drop i d) i (getD s i 0) ≡ take (i + 1) s ++ drop (i + 1) d
+fill-more s d i h k =
+    rw (add-one, drop-cons d i 0, take-suc s i 0)
+    (set-at (take i s) (getD d i 0) (drop (suc i) d) (getD s i 0) i (length-take-le i s (omega arith)) ∙ sym (append-snoc (take i s) (getD s i 0) (drop (suc i) d)))
+
+-- bytes put at the front
+pub put-front : (m bs : List ℕ) → put m 0 bs ≡ bs ++ drop (length bs) m
+unfolding put
+put-front m bs = rw zero-add
+
+-- the tail of a room from place a on, lent, filled at its front and come back
+pub tail-filled : (room d : List ℕ) (a : ℕ) → a + length d ≤ length room
+    → putMid a (length room - a) room (put (midOf a (length room - a) room) 0 d) ≡ put room a d
+unfolding put
+tail-filled room d a h =
+    let k : length room - a ≡ length (drop a room) = sym (length-drop a room) in
+    rw (k, take-length (drop a room), drop-length (drop a room), zero-add, append-nil, drop-drop (length d) a room)
+
+-- the data of a sealed frame, where it stood already
+pub sealed-round : (a c n : ℕ) (room : List ℕ) → n + 3 ≤ length room
+    → set (set (set room 0 a) 1 c) (n + 2) (xorFrom (bitXor a c) (take (n + 2 - 2) (drop 2 room))) ≡ put room 0 (sealed (a ∷ c ∷ part room 2 n))
+unfolding sealed part xorAll xorFrom
+sealed-round a c n [] h = absurd (omega arith)
+sealed-round a c n (x ∷ []) h = absurd (omega arith)
+sealed-round a c n (x ∷ y ∷ r) h =
+    let z : ℕ = xorFrom (bitXor a c) (take n r) in
+    let q : List ℕ = a ∷ c ∷ (take n r ++ (z ∷ [])) in
+    let k : length q ≡ suc (suc (suc n)) = simp (length-append, length-take) (omega arith) in
+    let s : n + 2 ≡ suc (suc n) = omega arith in
+    let t : n + 2 - 2 ≡ n = omega arith in
+    rw (t, s, put-front (x ∷ y ∷ r) q, k, set-split r n z (omega arith)) (sym (append-snoc (a ∷ c ∷ take n r) z (drop (suc n) r)))
+
+part-put : (n : ℕ) (d room : List ℕ) → length d ≡ n → 2 ≤ length room → part (put room 2 d) 2 n ≡ d
+unfolding part put
+part-put n d [] e h = absurd (omega arith)
+part-put n d (x ∷ []) e h = absurd (omega arith)
+part-put n d (x ∷ y ∷ r) e h = take-at d (drop (2 + length d) (x ∷ y ∷ r)) n e
+
+-- data put from place 2 on and then sealed is the whole frame put at the front
+pub seal-data : (a c n : ℕ) (d room : List ℕ) → length d ≡ n → n + 3 ≤ length room
+    → put (put room 2 d) 0 (sealed (a ∷ c ∷ part (put room 2 d) 2 n)) ≡ put room 0 (sealed (a ∷ c ∷ d))
+seal-data a c n d room e h =
+    let q : List ℕ = sealed (a ∷ c ∷ d) in
+    let k : 2 + length d ≤ length q = omega (arith, length-sealed (a ∷ c ∷ d)) in
+    rw (part-put n d room e (omega arith), put-front (put room 2 d) q, put-front room q, drop-put-low room 2 d (omega arith) (length q) k)
+
+-- a count past its base: too few, too many, and compared by what is past
+pub too-few : (b : ℕ) (d x : List ℕ) → length x ≤ b → lengthFits (counted b) d x ≡ false
+unfolding lengthFits
+too-few b d x h = simp (lt-leb (b + 1) (length x) (omega arith))
+
+pub too-many : (b : ℕ) (d x : List ℕ) → b < length x → 128 < length x - b → lengthFits (counted b) d x ≡ false
+unfolding lengthFits
+too-many b d x h k = simp (le-leb (b + 1) (length x) (omega arith), lt-leb (length x) (b + 128) (omega arith))
+
+shifted : (b n k : ℕ) → b < n → eqb (n - b) k ≡ eqb n (b + k)
+shifted b n k h = go (eqb (n - b) k) refl
+  where
+    go : (t : Bool) → eqb (n - b) k ≡ t → t ≡ eqb n (b + k)
+    go true e = sym (eq-eqb n (b + k) (omega (arith, eqb-true (n - b) k e)))
+    go false e = sym (ne-eqb n (b + k) (λ q. eqb-false (n - b) k e (omega arith)))
+
+pub count-past : (b : ℕ) (d x : List ℕ) → b < length x → length x - b ≤ 128 → eqb (length x - b) (arg d 2) ≡ lengthFits (counted b) d x
+unfolding lengthFits
+count-past b d x h k = simp (le-leb (b + 1) (length x) (omega arith), le-leb (length x) (b + 128) (omega arith)) (shifted b (length x) (arg d 2) h)

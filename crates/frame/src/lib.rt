@@ -1,0 +1,16 @@
+// What board and bench share: the frame of 000, 2.3.3, the table of the commands, and what a command comes to.
+mod answer;
+mod room;
+mod sum;
+mod table;
+
+pub use answer::Answer;
+pub use room::fill;
+pub use room::seal;
+pub use room::write;
+pub use sum::xor_from;
+pub use sum::xor_of;
+pub use table::Length;
+pub use table::Row;
+pub use table::length_fits;
+pub use table::row_of;

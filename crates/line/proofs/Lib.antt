@@ -1,0 +1,5 @@
+-- What the proofs of several functions use, and the laws that callers cite.
+mod Product
+mod Kept
+pub mod Judging
+pub mod Limits

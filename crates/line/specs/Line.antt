@@ -1,0 +1,38 @@
+-- The code's plate and open frame as those of the meaning (01, "Plate", "Characters become frames"). Assumes nothing.
+use Prim.Native.Nat.{ℕ, _≤_}
+use mathlib.Core.Path.{_≡_}
+use mathlib.Core.Bool.{Bool, false}
+use mathlib.Core.List.{List}
+use lib.ListN.{length, take}
+use Rattle.meaning.specs.Bytes.{pick, put}
+use Rattle.meaning.specs.State as meaning
+use Rattle.meaning.specs.Frames.{more}
+use Rattle.line.specs.declared.plate.Plate.{Plate}
+use Rattle.line.specs.declared.characters.Frame.{Frame}
+
+abbrev pub plateOf : Plate → meaning.Plate
+plateOf p = record { total = p .total; bits = p .bits; address = p .address; ticks = p .ticks; pause = p .pause }
+
+-- the first `len` of the lent places hold the kept bytes; the others carry no meaning
+abbrev pub lineOf : Frame → List ℕ → meaning.Line
+lineOf f kept = record { begun = f .begun; kept = take (f .len) kept; sum = f .sum; longer = f .longer; parity = f .parity; last = f .last }
+
+-- 01, "no frame open"
+abbrev pub noFrame : Frame
+noFrame = record { begun = false; last = 0; len = 0; sum = 0; longer = false; parity = false }
+
+-- 01, "at most 135 kept bytes": the frame's numbers and the lent places are within their limits
+pub record Fits (f : Frame) (kept : List ℕ) : Type 0 where
+  pub few : f .len ≤ 135
+  pub all : length kept ≡ 135
+
+-- a frame is left with the line l: its numbers say l, and of the lent places those that l keeps are written, the others untouched
+pub record Extends (l : meaning.Line) (kept : List ℕ) (r : Frame) (kept′ : List ℕ) : Type 0 where
+  pub line : lineOf r kept′ ≡ l
+  pub bytes : kept′ ≡ put kept 0 (l .kept)
+  pub few : r .len ≤ 135
+
+-- the frame that the next character goes on with
+pub record Starts (f r : Frame) : Type 0 where
+  pub line : (kept : List ℕ) → lineOf r kept ≡ pick (f .begun) (lineOf f kept) meaning.none
+  pub few : f .len ≤ 135 → r .len ≤ 135

@@ -1,0 +1,91 @@
+// The open frame's numbers, and one more character (01, "Characters become frames"). The kept bytes are lent, and written in place.
+ghost use mathlib.Core.Path.{_≡_};
+ghost use mathlib.Core.List.{List};
+ghost use Prim.Native.Nat.{ℕ};
+ghost use Rattle.meaning.specs.Bytes.{pick};
+ghost use Rattle.meaning.specs.State.{State, none};
+ghost use Rattle.meaning.specs.Frames.{over, more};
+ghost use Rattle.line.specs.Line.{plateOf, lineOf, noFrame, Fits, Starts, Extends};
+use crate::plate::Plate;
+use crate::stamps::gap;
+
+// Whether a frame is open, the stamp of its last character, how many of its bytes are kept, the XOR of all of them, whether more than
+// 135 came, and whether a character had a parity fault.
+pub struct Frame {
+    pub begun: bool,
+    pub last: u32,
+    pub len: u8,
+    pub sum: u8,
+    pub longer: bool,
+    pub parity: bool,
+}
+
+impl Frame {
+    pub fn none() -> Frame
+        ensures { λ r. ⌜ r ≡ noFrame ⌝ }
+    {
+        Frame {
+            begun: false,
+            last: 0,
+            len: 0,
+            sum: 0,
+            longer: false,
+            parity: false,
+        }
+    }
+
+    // Ruling of 01: equality closes. The one test that character and poll share.
+    pub fn is_over(self, plate: Plate, tick: u32) -> bool
+        ensures { λ r. ⌜ ((s : State) (kept : List ℕ) → s .line ≡ lineOf self kept → r ≡ over (plateOf plate) s tick) ⌝ }
+    {
+        if self.begun {
+            let pause = (plate.pause as u64) * (plate.ticks as u64);
+            if pause <= gap(self.last, tick) as u64 {
+                return true;
+            }
+            return false;
+        }
+        false
+    }
+}
+
+impl Frame {
+    // With no frame open a character starts from an empty one, whatever the unused numbers say.
+    fn current(self) -> Frame
+        ensures { λ r. ⌜ Starts self r ⌝ }
+    {
+        if self.begun {
+            return self;
+        }
+        Frame::none()
+    }
+
+    // 01, "Up to 135 bytes are kept; of a longer frame the XOR of all its bytes, the fact that it is longer and any parity fault".
+    fn push(self, tick: u32, value: u8, parity: bool, kept: &mut [u8]) -> Frame
+        requires { ⌜ Fits self (now kept) ⌝ }
+        ensures { λ r. ⌜ Extends (more (lineOf self (now (kept .entry))) tick value parity) (now (kept .entry)) r (now (kept .exit)) ⌝ }
+    {
+        let len = self.len;
+        let mut next = self;
+        next.begun = true;
+        next.last = tick;
+        next.sum = self.sum ^ value;
+        next.parity = self.parity | parity;
+        if len < 135 {
+            let at = len as usize;
+            kept[at] = value;
+            next.len = len + 1;
+            return next;
+        }
+        next.longer = true;
+        next
+    }
+
+    // One more character: where there is room its byte goes to the next of the lent places.
+    pub fn with_character(self, tick: u32, value: u8, parity: bool, kept: &mut [u8]) -> Frame
+        requires { ⌜ Fits self (now kept) ⌝ }
+        ensures { λ r. ⌜ Extends (more (pick (self .begun) (lineOf self (now (kept .entry))) none) tick value parity) (now (kept .entry)) r (now (kept .exit)) ⌝ }
+    {
+        self.current().push(tick, value, parity, kept)
+    }
+}

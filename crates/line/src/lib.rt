@@ -1,0 +1,12 @@
+// The line: the plate, stamps and gaps, the open frame's numbers, and the judge of a closed frame (01, "Characters become frames").
+mod characters;
+mod judge;
+mod plate;
+mod stamps;
+
+pub use characters::Frame;
+pub use judge::Judgement;
+pub use plate::Plate;
+pub use plate::own_byte;
+pub use stamps::gap;
+pub use stamps::stamp_after;

@@ -1,0 +1,90 @@
+// The plate and its limits, and the board's own address byte (01, "Plate").
+ghost use mathlib.Core.Path.{_≡_};
+ghost use mathlib.Core.List.{_∷_, []};
+ghost use Prim.Native.Nat.{_≤_};
+ghost use Rattle.meaning.specs.Bytes.{among};
+ghost use Rattle.meaning.specs.State.{State, plateOk, ownByte};
+ghost use Rattle.line.specs.Line.{plateOf};
+
+// Total blocks, position bits, address, ticks per bit, pause in bit times: wide enough that a host loses no bits on the way.
+pub struct Plate {
+    pub total: u32,
+    pub bits: u32,
+    pub address: u32,
+    pub ticks: u32,
+    pub pause: u32,
+}
+
+impl Plate {
+    // R1 where it does not hold.
+    pub fn is_ok(self) -> bool
+        ensures { λ r. ⌜ r ≡ plateOk (plateOf self) ⌝ }
+    {
+        if self.total < 1 {
+            return false;
+        }
+        if 112 < self.total {
+            return false;
+        }
+        if self.bits < 1 {
+            return false;
+        }
+        if 32 < self.bits {
+            return false;
+        }
+        if 31 < self.address {
+            return false;
+        }
+        if !ticks_ok(self.ticks) {
+            return false;
+        }
+        pause_ok(self.pause)
+    }
+}
+
+fn ticks_ok(ticks: u32) -> bool
+    ensures { λ r. ⌜ r ≡ among ticks (1 ∷ 2 ∷ 4 ∷ 8 ∷ 16 ∷ 32 ∷ 64 ∷ []) ⌝ }
+{
+    if ticks == 1 {
+        return true;
+    }
+    if ticks == 2 {
+        return true;
+    }
+    if ticks == 4 {
+        return true;
+    }
+    if ticks == 8 {
+        return true;
+    }
+    if ticks == 16 {
+        return true;
+    }
+    if ticks == 32 {
+        return true;
+    }
+    if ticks == 64 {
+        return true;
+    }
+    false
+}
+
+fn pause_ok(pause: u32) -> bool
+    ensures { λ r. ⌜ r ≡ among pause (22 ∷ 55 ∷ []) ⌝ }
+{
+    if pause == 22 {
+        return true;
+    }
+    if pause == 55 {
+        return true;
+    }
+    false
+}
+
+// 01, "Board address byte: 40h + a": for the frame judge and for the reply.
+pub fn own_byte(plate: Plate) -> u8
+    requires { ⌜ plate .address ≤ 31 ⌝ }
+    ensures { λ r. ⌜ ((s : State) → r ≡ ownByte (plateOf plate) s) ⌝ }
+{
+    (0x40 + plate.address) as u8
+}
