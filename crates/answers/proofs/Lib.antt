@@ -1,0 +1,5 @@
+-- What the proofs of several functions use.
+mod Hearing
+mod Turning
+mod Closings
+mod Beginning

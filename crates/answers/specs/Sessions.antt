@@ -53,12 +53,12 @@ pub record Plays (p : Plate) (q : Pass) (from : ℕ) (window out : List ℕ) (us
   pub stop : r .stop ≡ stopTold (q .stop)
   pub printed : Printed (q .printed) out used (r .used) out′
   pub stage : stageFrom (phaseAfter (r .stop)) p (r .board) kept′ m′ ≡ q .stage
-  pub sound : Sound p (r .board .state) (r .board .frame) kept′ m′ w′
+  pub sound : Sound p (r .board) kept′ m′ w′
 
 -- what each phase asks of the lent bytes: blank memory before the plate, then a board within its limits; after the end nothing is read
 abbrev pub Steady : Phase → Plate → Board → List ℕ → List ℕ → List ℕ → Type 0
 Steady Opening p b kept m w = m ≡ zeros largestImage
-Steady Running p b kept m w = Sound p (b .state) (b .frame) kept (take (imageLength (p .total)) m) w
+Steady Running p b kept m w = Sound p b kept (take (imageLength (p .total)) m) w
 Steady Ended p b kept m w = ⊥
 
 pub record Ready (s : Session) (window kept m w out : List ℕ) (used : ℕ) : Type 0 where
@@ -85,7 +85,7 @@ pub record Eats (s : Session) (window kept m out : List ℕ) (used : ℕ) (r : E
 
 -- a board at work, with the lent memory of which it uses the front
 pub record Playable (p : Plate) (b : Board) (place : ℕ) (window : List ℕ) (from : ℕ) (kept m w out : List ℕ) (used : ℕ) : Type 0 where
-  pub sound : Sound p (b .state) (b .frame) kept (take (imageLength (p .total)) m) w
+  pub sound : Sound p b kept (take (imageLength (p .total)) m) w
   pub size : length m ≡ largestImage
   pub starts : from ≤ length window
   pub space : used ≤ length out

@@ -3,12 +3,7 @@ use Prim.Native.Nat.{ℕ, _+_, _≤_, _<_}
 use mathlib.Core.Path.{_≡_}
 use mathlib.Core.Bool.{Bool, true, false}
 use mathlib.Core.List.{List, []}
-use lib.Dec.{T}
 use lib.ListN.{length, take, drop}
-use Rattle.meaning.specs.Bytes.{pick}
-use Rattle.meaning.specs.State as meaning
-use Rattle.meaning.specs.State.{plateOk, stateOk}
-use Rattle.meaning.specs.Fields.{imageLength}
 use Rattle.meaning.specs.Run.{poll}
 use Rattle.line.specs.declared.plate.Plate.{Plate}
 use Rattle.line.specs.declared.characters.Frame.{Frame}
@@ -20,6 +15,7 @@ use Rattle.board.specs.declared.limits.Outcome.{Outcome}
 use Rattle.board.specs.declared.limits.Outcome.the-variants.{Refused, Still, Over}
 use Rattle.board.specs.declared.limits.Stepped.{Stepped}
 use Rattle.board.specs.Board.{stateOf}
+use Rattle.board.specs.Promises.{Within}
 use Rattle.tape.specs.declared.kinds.Event.{Event}
 use Rattle.tape.specs.Records.{wholeLength}
 use Rattle.tape.specs.Kinds.{Said, unfit}
@@ -55,11 +51,8 @@ pub record Hears (at : ℕ) (window : List ℕ) (r : Heard) : Type 0 where
   pub next : Onward at window r
 
 -- R1 to R3 do not apply
-pub record Sound (p : Plate) (s : State) (f : Frame) (kept m w : List ℕ) : Type 0 where
-  pub plate : plateOk (plateOf p) ≡ true
-  pub state : T (stateOk (plateOf p) (stateWith s (lineOf f kept)))
-  pub fits : Fits f kept
-  pub size : length m ≡ imageLength (p .total)
+pub record Sound (p : Plate) (b : Board) (kept m w : List ℕ) : Type 0 where
+  pub within : Within (plateOf p) b kept m
   pub room : 134 ≤ length w
 
 -- a stage of a running board
@@ -83,7 +76,7 @@ stageAfter false w = w
 pub record Turns (p : Plate) (b : Board) (place : ℕ) (x : Said) (kept m out : List ℕ) (used : ℕ) (r : Turned) (kept′ m′ w′ out′ : List ℕ) : Type 0 where
   pub printed : Printed ((turn (running (plateOf p) (stateOf b kept) m) place x) .printed) out used (r .used) out′
   pub stage : stageAfter (r .over) (running (plateOf p) (stateOf (r .board) kept′) m′) ≡ (turn (running (plateOf p) (stateOf b kept) m) place x) .stage
-  pub sound : Sound p (r .board .state) (r .board .frame) kept′ m′ w′
+  pub sound : Sound p (r .board) kept′ m′ w′
 
 abbrev pub sentOf : Outcome → ℕ
 sentOf (Refused n) = 0

@@ -15,12 +15,6 @@ pub enum Opened {
     Bad,
 }
 
-fn wide(b: u8) -> u32
-    ensures { λ r. ⌜ r ≡ b ⌝ }
-{
-    b as u32
-}
-
 fn begin(event: Event, next: usize) -> Opened
     ensures { λ r. ⌜ r ≡ begunOf event next ⌝ }
 {
@@ -35,11 +29,11 @@ fn begin(event: Event, next: usize) -> Opened
         return Opened::Bad;
     };
     let plate = Plate {
-        total: wide(total),
-        bits: wide(bits),
-        address: wide(address),
-        ticks: wide(ticks),
-        pause: wide(pause),
+        total: total as u32,
+        bits: bits as u32,
+        address: address as u32,
+        ticks: ticks as u32,
+        pause: pause as u32,
     };
     if !plate.is_ok() {
         return Opened::Bad;

@@ -66,7 +66,7 @@ fn play(
     out: &mut [u8],
     start: usize,
 ) -> Played
-    requires { ⌜ Sound plate (first .state) (first .frame) (now kept) (now memory) (now reply) ⌝ }
+    requires { ⌜ Sound plate first (now kept) (now memory) (now reply) ⌝ }
     requires { ⌜ (from ≤ length (now window)) × (start ≤ length (now out)) × (place + length (now window) < 2 ^ 64) ⌝ }
     ensures { λ r. ⌜ Plays plate (pass (suc (length (now (window .entry)))) (length (now (out .entry)) - start) (running (plateOf plate) (stateOf first (now (kept .entry))) (now (memory .entry))) (place + from) (drop from (now (window .entry)))) from (now (window .entry)) (now (out .entry)) start r (now (kept .exit)) (now (memory .exit)) (now (reply .exit)) (now (out .exit)) ⌝ }
 {
@@ -94,8 +94,17 @@ fn play(
                     Pace::Slow => {
                         let board = Board { state, frame };
                         let here = place + at as u64;
-                        let turned =
-                            turn(plate, board, here, event, kept, memory, reply, out, used);
+                        let turned = turn(
+                            plate,
+                            board,
+                            here,
+                            event,
+                            kept,
+                            memory,
+                            reply,
+                            out,
+                            used,
+                        );
                         used = turned.used;
                         if turned.over {
                             return halt(state, frame, at, used, Stop::Over);

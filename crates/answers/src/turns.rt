@@ -136,7 +136,7 @@ pub fn turn(
     out: &mut [u8],
     used: usize,
 ) -> Turned
-    requires { ⌜ Sound plate (board .state) (board .frame) (now kept) (now memory) (now reply) ⌝ }
+    requires { ⌜ Sound plate board (now kept) (now memory) (now reply) ⌝ }
     requires { ⌜ used + longestLine ≤ length (now out) ⌝ }
     ensures { λ r. ⌜ Turns plate board place (saidOf event) (now (kept .entry)) (now (memory .entry)) (now (out .entry)) used r (now (kept .exit)) (now (memory .exit)) (now (reply .exit)) (now (out .exit)) ⌝ }
 {

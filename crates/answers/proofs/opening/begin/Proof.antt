@@ -1,50 +1,52 @@
+use borrow.Author.Tests.{not-true, not-false}
+use mathlib.Core.Path.{sym, _∙_}
+use Rattle.answers.proofs.Beginning.{not-plate, unchecked, in-order}
 use borrow.Author.Needs.{needs}
 use Rattle.answers.proofs.opening.begin.Statement.{statement}
 use Rattle.answers.proofs.opening.begin.Tie as tie
 use Rattle.answers.proofs.opening.begin.Reads as reads
 use Rattle.answers.proofs.opening.begin.Lts as lts
-use Rattle.answers.proofs.opening.wide.Reads as wide-reads
 use Rattle.line.proofs.plate.Plate.is_ok.Reads as is-ok-reads
 
--- src/opening.rt:28:9
+-- src/opening.rt:22:9
 enum-known-event : tie.Need-enum-known-event
 enum-known-event c = search needs
 
--- src/opening.rt:35:9
+-- src/opening.rt:29:9
 returns : tie.Need-returns
-returns c = ?
+returns c = not-plate (c .before .args .event) _ (c .match .keys2)
 
--- src/opening.rt:38:16
-wide-requires : tie.Need-wide-requires
-wide-requires c κs = search needs
+-- src/opening.rt:32:16
+cast-t9 : tie.Need-cast-t9
+cast-t9 c = search needs
 
--- src/opening.rt:39:15
-wide-requires-2 : tie.Need-wide-requires-2
-wide-requires-2 c κs = search needs
+-- src/opening.rt:33:15
+cast-t10 : tie.Need-cast-t10
+cast-t10 c = search needs
 
--- src/opening.rt:40:18
-wide-requires-3 : tie.Need-wide-requires-3
-wide-requires-3 c κs = search needs
+-- src/opening.rt:34:18
+cast-t11 : tie.Need-cast-t11
+cast-t11 c = search needs
 
--- src/opening.rt:41:16
-wide-requires-4 : tie.Need-wide-requires-4
-wide-requires-4 c κs = search needs
+-- src/opening.rt:35:16
+cast-t12 : tie.Need-cast-t12
+cast-t12 c = search needs
 
--- src/opening.rt:42:16
-wide-requires-5 : tie.Need-wide-requires-5
-wide-requires-5 c κs = search needs
+-- src/opening.rt:36:16
+cast-t13 : tie.Need-cast-t13
+cast-t13 c = search needs
 
--- src/opening.rt:44:9
+-- src/opening.rt:38:9
 is-ok-requires : tie.Need-is-ok-requires
 is-ok-requires c κs = search needs
 
--- src/opening.rt:45:9
+-- src/opening.rt:39:9
 returns-2 : tie.Need-returns-2
-returns-2 c = ?
+returns-2 c = rw (c .before .before .before .event .given .1) (unchecked _ _ (sym (c .before .is-ok .ensures) ∙ not-true _ (c .if1 .taken)))
 
--- src/opening.rt:24:1
+-- src/opening.rt:18:1
 returns-3 : tie.Need-returns-3
-returns-3 c = ?
+returns-3 c = rw (c .before .before .before .event .given .1) (in-order _ _ (sym (c .before .is-ok .ensures) ∙ not-false _ (c .if1 .left)))
 
 pub begin-spec : {M : Type 1} → statement M
 begin-spec =
@@ -52,11 +54,11 @@ begin-spec =
     (tie.spec
     enum-known-event
     returns
-    wide-requires
-    wide-requires-2
-    wide-requires-3
-    wide-requires-4
-    wide-requires-5
+    cast-t9
+    cast-t10
+    cast-t11
+    cast-t12
+    cast-t13
     is-ok-requires
     returns-2
     returns-3)

@@ -1,3 +1,7 @@
+use mathlib.Core.Path.{sym}
+use native.Mathlib.Omega.{arith}
+use Rattle.tape.proofs.Texts.{printed-as}
+use Rattle.answers.proofs.Closings.{no-text, none-left, was-ended, cut-off}
 use borrow.Author.Needs.{needs}
 use Rattle.answers.proofs.passes.finish.Statement.{statement}
 use Rattle.answers.proofs.passes.finish.Tie as tie
@@ -7,7 +11,7 @@ use Rattle.tape.proofs.bad_line.Reads as bad-line-reads
 
 -- src/passes.rt:258:9
 returns : tie.Need-returns
-returns c = ?
+returns c = λ kept m. no-text _ _ (none-left _ _ _ _ _ _ _ (c .if1 .taken)) (omega (arith, c .before .before .before .pre))
 
 -- src/passes.rt:262:9
 enum-told : tie.Need-enum-told
@@ -15,7 +19,7 @@ enum-told c = search needs
 
 -- src/passes.rt:262:9
 returns-2 : tie.Need-returns-2
-returns-2 c = ?
+returns-2 c = λ kept m. no-text _ _ (was-ended _ _ _ _ _ _ _ (c .enum-told .given .1)) (omega (arith, c .before .before .before .before .before .pre))
 
 -- src/passes.rt:264:5
 bad-line-requires : tie.Need-bad-line-requires
@@ -27,7 +31,7 @@ same-length c = search needs
 
 -- src/passes.rt:253:1
 returns-3 : tie.Need-returns-3
-returns-3 c = ?
+returns-3 c = λ kept m. printed-as (sym (cut-off _ _ _ _ _ _ _ (c .before .before .before .before .match .keys2) (c .before .before .before .before .before .if1 .left))) (c .before .before .bad-line .ensures)
 
 pub finish-spec : {M : Type 1} → statement M
 finish-spec =

@@ -1,5 +1,26 @@
 use borrow.Author.Needs.{needs}
 use Rattle.answers.proofs.passes.refuse.Statement.{statement}
+use Rattle.answers.proofs.passes.refuse.Tie as tie
+use Rattle.answers.proofs.passes.refuse.Reads as reads
+use Rattle.answers.proofs.passes.refuse.Lts as lts
+use Rattle.answers.proofs.passes.stopped.Reads as stopped-reads
+use Rattle.tape.proofs.bad_line.Reads as bad-line-reads
+
+-- src/passes.rt:195:9
+bad-line-requires : tie.Need-bad-line-requires
+bad-line-requires c κs = search needs
+
+-- src/passes.rt:204:5
+stopped-requires : tie.Need-stopped-requires
+stopped-requires c κs = search needs
+
+-- src/passes.rt:191:1
+same-length : tie.Need-same-length
+same-length c = search needs
+
+-- src/passes.rt:191:1
+returns : tie.Need-returns
+returns c = ?
 
 pub refuse-spec : {M : Type 1} → statement M
-refuse-spec 𝓤 H 𝓜 𝓖 𝓡 = ?
+refuse-spec = tie.close (tie.spec bad-line-requires stopped-requires same-length returns)

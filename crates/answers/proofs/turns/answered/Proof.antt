@@ -1,3 +1,9 @@
+use lib.ListN.{length}
+use Prim.Native.Nat.{_≤_}
+use mathlib.Core.Path.{sym, _∙_}
+use lib.Seq.{length-take-le}
+use native.Mathlib.Omega.{arith}
+use Rattle.answers.proofs.Turning.{no-line, a-line}
 use borrow.Author.Needs.{needs}
 use Rattle.answers.proofs.turns.answered.Statement.{statement}
 use Rattle.answers.proofs.turns.answered.Tie as tie
@@ -6,6 +12,10 @@ use Rattle.answers.proofs.turns.answered.Lts as lts
 use Rattle.answers.proofs.turns.after.Reads as after-reads
 use Rattle.answers.proofs.turns.sent.Reads as sent-reads
 use Rattle.tape.proofs.reply_line.Reads as reply-line-reads
+
+-- the reply lies in its room
+few : (c : tie.After-sent) → c .sent .result ≤ length (c .before .before .before .before .args .reply .now)
+few c = rw (c .sent .ensures) (c .before .before .before .before .pre .room)
 
 -- src/turns.rt:112:9
 sent-requires : tie.Need-sent-requires
@@ -17,15 +27,18 @@ after-requires c κs = search needs
 
 -- src/turns.rt:114:9
 returns : tie.Need-returns
-returns c = ?
+returns c = no-line _ _ _ _ _ _ _ (c .before .before .sent .ensures) (c .after .ensures) (c .before .if1 .taken) (omega (arith, c .before .before .before .before .before .before .pre .space))
 
 -- src/turns.rt:116:38
 slice-aggregate-reply-line : tie.Need-slice-aggregate-reply-line
-slice-aggregate-reply-line c = ?
+slice-aggregate-reply-line c = sym (length-take-le _ _ (few (c .before .before)))
 
 -- src/turns.rt:116:9
 reply-line-requires : tie.Need-reply-line-requires
-reply-line-requires c κs = ?
+reply-line-requires c κs =
+    let u = c .before .before .before in
+    let p = u .before .before .before .before .pre in
+    omega (arith, length-take-le (u .sent .result) (u .before .before .before .before .args .reply .now) (few u), u .sent .ensures, p .few, p .space)
 
 -- src/turns.rt:117:5
 after-requires-2 : tie.Need-after-requires-2
@@ -37,7 +50,7 @@ same-length c = search needs
 
 -- src/turns.rt:106:1
 returns-2 : tie.Need-returns-2
-returns-2 c = ?
+returns-2 c = a-line _ _ _ _ _ _ _ (c .before .before .before .before .before .before .before .sent .ensures) _ _ (c .after2 .ensures) (c .before .before .before .before .before .before .if1 .left) (few (c .before .before .before .before .before .before .before)) (c .before .before .before .reply-line .ensures)
 
 pub answered-spec : {M : Type 1} → statement M
 answered-spec =

@@ -1,3 +1,5 @@
+use mathlib.Core.Path.{sym, _∙_}
+use Rattle.answers.proofs.Hearing.{not-yet, none-there, body-inside, past-it, said-there}
 use borrow.Author.Needs.{needs}
 use Rattle.answers.proofs.turns.hear.Statement.{statement}
 use Rattle.answers.proofs.turns.hear.Tie as tie
@@ -24,19 +26,21 @@ enum-known-kind c = search needs
 
 -- src/turns.rt:53:17
 event-of-requires : tie.Need-event-of-requires
-event-of-requires c κs = ?
+event-of-requires c κs = body-inside _ _ _ _ _ _ (sym (c .before .before .before .read .ensures) ∙ c .before .kind .given .1)
 
 -- src/turns.rt:40:1
 returns : tie.Need-returns
-returns c = ?
+returns c = not-yet _ _ (sym (c .before .before .read .ensures) ∙ c .enum-told .given .1)
 
 -- src/turns.rt:40:1
 returns-2 : tie.Need-returns-2
-returns-2 c = ?
+returns-2 c = none-there _ _ (sym (c .before .before .read .ensures) ∙ c .enum-told2 .given .1)
 
 -- src/turns.rt:40:1
 returns-3 : tie.Need-returns-3
-returns-3 c = ?
+returns-3 c =
+    let e = sym (c .before .before .before .before .read .ensures) ∙ c .before .before .kind .given .1 in
+    record { heard = said-there _ _ _ _ _ _ e (c .event-of .ensures); next = past-it _ _ _ _ _ _ e }
 
 pub hear-spec : {M : Type 1} → statement M
 hear-spec =

@@ -1,3 +1,5 @@
+use mathlib.Core.Path.{refl, sym, _∙_}
+use Rattle.answers.proofs.Turning.{quiet-character, quiet-poll}
 use borrow.Author.Needs.{needs}
 use Rattle.answers.proofs.turns.quick.Statement.{statement}
 use Rattle.answers.proofs.turns.quick.Tie as tie
@@ -40,11 +42,13 @@ same-length c = search needs
 
 -- src/turns.rt:63:1
 returns-3 : tie.Need-returns-3
-returns-3 c = ?
+returns-3 c =
+    let w = c .before .before .with-character in
+    rw (c .before .before .before .before .before .before .before .event .given .1) (quiet-character _ _ _ _ _ _ _ _ (λ s. sym (c .before .before .before .before .before .is-over .ensures _ _ refl) ∙ c .before .before .before .before .if1 .left) (w .ensures) (w .kept .1 .1 .1 .1 .0 ∙ c .before .before .before .before .before .before .before .before .before .before .pre .all))
 
 -- src/turns.rt:63:1
 returns-4 : tie.Need-returns-4
-returns-4 c = ?
+returns-4 c = rw (c .before .before .before .event2 .given .1) (quiet-poll _ _ _ _ (λ s. sym (c .before .is-over2 .ensures _ _ refl) ∙ c .if2 .left) (c .before .before .before .before .before .before .pre))
 
 -- src/turns.rt:63:1
 returns-5 : tie.Need-returns-5

@@ -1,0 +1,58 @@
+use borrow.Author.Needs.{needs}
+use Rattle.answers.proofs.opening.open.Statement.{statement}
+use Rattle.answers.proofs.opening.open.Tie as tie
+use Rattle.answers.proofs.opening.open.Reads as reads
+use Rattle.answers.proofs.opening.open.Lts as lts
+use Rattle.answers.proofs.opening.begin.Reads as begin-reads
+use Rattle.tape.proofs.event_of.Reads as event-of-reads
+use Rattle.tape.proofs.record.Cursor.read.Reads as read-reads
+
+-- src/opening.rt:48:11
+read-requires : tie.Need-read-requires
+read-requires c κs = search needs
+
+-- src/opening.rt:49:23
+enum-told : tie.Need-enum-told
+enum-told c = search needs
+
+-- src/opening.rt:50:22
+enum-told-2 : tie.Need-enum-told-2
+enum-told-2 c = search needs
+
+-- src/opening.rt:52:13
+enum-known-kind : tie.Need-enum-known-kind
+enum-known-kind c = search needs
+
+-- src/opening.rt:57:17
+event-of-requires : tie.Need-event-of-requires
+event-of-requires c κs = ?
+
+-- src/opening.rt:58:13
+begin-requires : tie.Need-begin-requires
+begin-requires c κs = search needs
+
+-- src/opening.rt:44:1
+returns : tie.Need-returns
+returns c = ?
+
+-- src/opening.rt:44:1
+returns-2 : tie.Need-returns-2
+returns-2 c = ?
+
+-- src/opening.rt:44:1
+returns-3 : tie.Need-returns-3
+returns-3 c = ?
+
+pub open-spec : {M : Type 1} → statement M
+open-spec =
+    tie.close
+    (tie.spec
+    read-requires
+    enum-told
+    enum-told-2
+    enum-known-kind
+    event-of-requires
+    begin-requires
+    returns
+    returns-2
+    returns-3)

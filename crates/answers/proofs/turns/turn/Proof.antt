@@ -1,0 +1,179 @@
+use borrow.Author.Needs.{needs}
+use Rattle.answers.proofs.turns.turn.Statement.{statement}
+use Rattle.answers.proofs.turns.turn.Tie as tie
+use Rattle.answers.proofs.turns.turn.Reads as reads
+use Rattle.answers.proofs.turns.turn.Lts as lts
+use Rattle.answers.proofs.turns.after.Reads as after-reads
+use Rattle.answers.proofs.turns.answered.Reads as answered-reads
+use Rattle.answers.proofs.turns.silent.Reads as silent-reads
+use Rattle.board.proofs.character.Reads as character-reads
+use Rattle.board.proofs.fault.Reads as fault-reads
+use Rattle.board.proofs.measured.Reads as measured-reads
+use Rattle.board.proofs.poll.Reads as poll-reads
+use Rattle.board.proofs.power_on.Reads as power-on-reads
+use Rattle.tape.proofs.bad_line.Reads as bad-line-reads
+
+-- src/turns.rt:145:13
+enum-known-event : tie.Need-enum-known-event
+enum-known-event c = search needs
+
+-- src/turns.rt:149:17
+character-requires : tie.Need-character-requires
+character-requires c κs = ?
+
+-- src/turns.rt:150:13
+answered-requires : tie.Need-answered-requires
+answered-requires c κs = ?
+
+-- src/turns.rt:152:23
+enum-known-event-2 : tie.Need-enum-known-event-2
+enum-known-event-2 c = search needs
+
+-- src/turns.rt:153:17
+poll-requires : tie.Need-poll-requires
+poll-requires c κs = ?
+
+-- src/turns.rt:154:13
+answered-requires-2 : tie.Need-answered-requires-2
+answered-requires-2 c κs = ?
+
+-- src/turns.rt:156:27
+enum-known-event-3 : tie.Need-enum-known-event-3
+enum-known-event-3 c = search needs
+
+-- src/turns.rt:156:48
+measured-requires : tie.Need-measured-requires
+measured-requires c κs = ?
+
+-- src/turns.rt:156:41
+silent-requires : tie.Need-silent-requires
+silent-requires c κs = search needs
+
+-- src/turns.rt:157:24
+enum-known-event-4 : tie.Need-enum-known-event-4
+enum-known-event-4 c = search needs
+
+-- src/turns.rt:157:41
+fault-requires : tie.Need-fault-requires
+fault-requires c κs = ?
+
+-- src/turns.rt:157:34
+silent-requires-2 : tie.Need-silent-requires-2
+silent-requires-2 c κs = search needs
+
+-- src/turns.rt:158:34
+enum-told : tie.Need-enum-told
+enum-told c = search needs
+
+-- src/turns.rt:158:34
+power-on-requires : tie.Need-power-on-requires
+power-on-requires c κs = ?
+
+-- src/turns.rt:158:27
+silent-requires-3 : tie.Need-silent-requires-3
+silent-requires-3 c κs = search needs
+
+-- src/turns.rt:160:17
+bad-line-requires : tie.Need-bad-line-requires
+bad-line-requires c κs = search needs
+
+-- src/turns.rt:161:13
+after-requires : tie.Need-after-requires
+after-requires c κs = search needs
+
+-- src/turns.rt:128:1
+same-length : tie.Need-same-length
+same-length c = search needs
+
+-- src/turns.rt:128:1
+same-length-2 : tie.Need-same-length-2
+same-length-2 c = search needs
+
+-- src/turns.rt:128:1
+same-length-3 : tie.Need-same-length-3
+same-length-3 c = search needs
+
+-- src/turns.rt:128:1
+same-length-4 : tie.Need-same-length-4
+same-length-4 c = search needs
+
+-- src/turns.rt:128:1
+returns : tie.Need-returns
+returns c = ?
+
+-- src/turns.rt:128:1
+same-length-5 : tie.Need-same-length-5
+same-length-5 c = search needs
+
+-- src/turns.rt:128:1
+same-length-6 : tie.Need-same-length-6
+same-length-6 c = search needs
+
+-- src/turns.rt:128:1
+same-length-7 : tie.Need-same-length-7
+same-length-7 c = search needs
+
+-- src/turns.rt:128:1
+same-length-8 : tie.Need-same-length-8
+same-length-8 c = search needs
+
+-- src/turns.rt:128:1
+returns-2 : tie.Need-returns-2
+returns-2 c = ?
+
+-- src/turns.rt:128:1
+returns-3 : tie.Need-returns-3
+returns-3 c = ?
+
+-- src/turns.rt:128:1
+returns-4 : tie.Need-returns-4
+returns-4 c = ?
+
+-- src/turns.rt:128:1
+returns-5 : tie.Need-returns-5
+returns-5 c = ?
+
+-- src/turns.rt:128:1
+same-length-9 : tie.Need-same-length-9
+same-length-9 c = search needs
+
+-- src/turns.rt:128:1
+returns-6 : tie.Need-returns-6
+returns-6 c = ?
+
+pub turn-spec : {M : Type 1} → statement M
+turn-spec =
+    tie.close
+    (tie.spec
+    enum-known-event
+    character-requires
+    answered-requires
+    enum-known-event-2
+    poll-requires
+    answered-requires-2
+    enum-known-event-3
+    measured-requires
+    silent-requires
+    enum-known-event-4
+    fault-requires
+    silent-requires-2
+    enum-told
+    power-on-requires
+    silent-requires-3
+    bad-line-requires
+    after-requires
+    same-length
+    same-length-2
+    same-length-3
+    same-length-4
+    returns
+    same-length-5
+    same-length-6
+    same-length-7
+    same-length-8
+    returns-2
+    returns-3
+    returns-4
+    returns-5
+    same-length-9
+    returns-6)
