@@ -1,10 +1,10 @@
 -- R1 to R3: the tests one by one, and what a call that is not refused may rely on. Assumes nothing.
 use Prim.Native.Nat.{ℕ, _≤_, _<_}
 use native.Mathlib.Omega.{arith}
-use mathlib.Core.Path.{_≡_, refl, sym, ap, _∙_}
+use mathlib.Core.Path.{_≡_, refl, sym}
 use mathlib.Core.Bool.{Bool, true, false, not, false≢true}
 use mathlib.Core.List.{List}
-use borrow.Author.Tests.{le-leb, lt-leb, eq-eqb, ne-eqb, le-ltb, lt-ltb, leb-true, eqb-true, ltb-false}
+use borrow.Author.Tests.{le-leb, lt-leb, eq-eqb, ne-eqb, leb-true, eqb-true, ltb-false}
 use lib.Dec.{eqb, leb, ltb}
 use lib.ListN.{length, take, length-take}
 use Rattle.meaning.specs.Bytes.{pick, both, either}
@@ -12,11 +12,11 @@ use Rattle.meaning.specs.State.{Plate, plateOk, stateOk}
 use Rattle.meaning.specs.Fields.{imageLength}
 use Rattle.meaning.specs.Run.{Call, character, poll, refusedBy, lends}
 use Rattle.line.specs.declared.plate.Plate as line
-use Rattle.line.specs.Line.{plateOf, Fits}
+use Rattle.line.specs.Line.{plateOf}
 use Rattle.line.proofs.Limits.{both-left, both-right}
 use Rattle.board.specs.declared.limits.Board.{Board}
 use Rattle.board.specs.Work.{Ready}
-use Rattle.board.specs.Board.{stateOf, fitsIn, Bounds, refusalOn}
+use Rattle.board.specs.Board.{stateOf, fitsIn, Bounds, limitNumber, sizeNumber, roomNumber, firstOf, refusalOn}
 
 pub lends-poll : (t : ℕ) → lends (poll t) ≡ true
 unfolding lends
@@ -47,7 +47,7 @@ module _ (p : Plate) (b : Board) where
 pub held : {p : Plate} {b : Board} {t u : Bool} → Bounds p b t → t ≡ u → Bounds p b u
 held h e = rw e at h
 
--- the number of a call that lends, by its tests: enough places, plate, state, size of memory, narrow room
+-- R1 by its tests: enough places, plate, state
 one-of : (x w y z : Bool) (n : ℕ) → (w ≡ true → false ≡ both x (both y z)) → 1 ≡ pick (both x w) (pick (either (not y) (not z)) 1 n) 1
 one-of false w y z n h = refl
 one-of true false y z n h = refl
@@ -55,46 +55,44 @@ one-of true true false z n h = refl
 one-of true true true false n h = refl
 one-of true true true true n h = absurd (false≢true (h refl))
 
-module _ (p : Plate) (b : Board) (k m : List ℕ) (r : ℕ) (g : Call) where
-  pub r1-limits : Bounds p b false → 1 ≡ refusalOn p b k m r g
-  unfolding refusalOn refusedBy fitsIn
+module _ (p : Plate) (b : Board) (k : List ℕ) where
+  pub r1-limits : Bounds p b false → 1 ≡ limitNumber p b k
+  unfolding limitNumber fitsIn
   r1-limits h =
-      one-of (leb (b .frame .len) 135) (eqb (length k) 135) (plateOk p) (stateOk p (stateOf b k)) _ (λ e. h .bound k (eqb-true (length k) 135 e))
+      one-of (leb (b .frame .len) 135) (eqb (length k) 135) (plateOk p) (stateOk p (stateOf b k)) 0 (λ e. h .bound k (eqb-true (length k) 135 e))
 
-  pub r1-places : (length k ≡ 135 → ⊥) → 1 ≡ refusalOn p b k m r g
-  unfolding refusalOn fitsIn
+  pub r1-places : (length k ≡ 135 → ⊥) → 1 ≡ limitNumber p b k
+  unfolding limitNumber fitsIn
   r1-places h = rw (ne-eqb (length k) 135 h, both-false (leb (b .frame .len) 135))
 
-  module _ (ok : Bounds p b true) (all : length k ≡ 135) where
-    places : leb (b .frame .len) 135 ≡ true
-    places = both-left (leb (b .frame .len) 135) (both (plateOk p) (stateOk p (stateOf b k))) (sym (ok .bound k all))
+  pub r1-none : Bounds p b true → length k ≡ 135 → 0 ≡ limitNumber p b k
+  unfolding limitNumber fitsIn
+  r1-none ok all =
+      let rest : both (plateOk p) (stateOk p (stateOf b k)) ≡ true = both-right (leb (b .frame .len) 135) (both (plateOk p) (stateOk p (stateOf b k))) (sym (ok .bound k all)) in
+      rw (
+        both-left (leb (b .frame .len) 135) (both (plateOk p) (stateOk p (stateOf b k))) (sym (ok .bound k all)),
+        eq-eqb (length k) 135 all,
+        both-left (plateOk p) (stateOk p (stateOf b k)) rest,
+        both-right (plateOk p) (stateOk p (stateOf b k)) rest,
+      )
 
-    rest : both (plateOk p) (stateOk p (stateOf b k)) ≡ true
-    rest = both-right (leb (b .frame .len) 135) (both (plateOk p) (stateOk p (stateOf b k))) (sym (ok .bound k all))
+-- R1 to R3 in that order, of a call that lends; of one that does not, R1
+module _ (p : Plate) (b : Board) (k m : List ℕ) (r : ℕ) (g : Call) where
+  pub in-order : {x y z : ℕ} → x ≡ limitNumber p b k → y ≡ sizeNumber (p .total) (length m) → z ≡ roomNumber r → lends g ≡ true
+      → firstOf x y z ≡ refusalOn p b k m r g
+  unfolding refusalOn refusedBy limitNumber
+  in-order i j o l =
+      rw (i, j, o, l) (go (fitsIn b k) (either (not (plateOk p)) (not (stateOk p (stateOf b k)))) (eqb (length m) (imageLength (p .total))))
+    where
+      go : (x y z : Bool) → _≡_ {A = ℕ} (firstOf (pick x (pick y 1 0) 1) (pick z 0 2) (roomNumber r)) (pick x (pick y 1 (pick (not z) 2 (roomNumber r))) 1)
+      go false y z = refl
+      go true true z = refl
+      go true false true = refl
+      go true false false = refl
 
-    plate : plateOk p ≡ true
-    plate = both-left (plateOk p) (stateOk p (stateOf b k)) rest
-
-    state : stateOk p (stateOf b k) ≡ true
-    state = both-right (plateOk p) (stateOk p (stateOf b k)) rest
-
-    -- a call that lends nothing
-    pub r0-alone : lends g ≡ false → 0 ≡ refusalOn p b k m r g
-    unfolding refusalOn refusedBy fitsIn
-    r0-alone l = rw (places, eq-eqb (length k) 135 all, plate, state, l)
-
-    module _ (l : lends g ≡ true) where
-      pub r2-size : eqb (length m) (imageLength (p .total)) ≡ false → 2 ≡ refusalOn p b k m r g
-      unfolding refusalOn refusedBy fitsIn
-      r2-size e = rw (places, eq-eqb (length k) 135 all, plate, state, l, e)
-
-      pub r3-room : eqb (length m) (imageLength (p .total)) ≡ true → r < 134 → 3 ≡ refusalOn p b k m r g
-      unfolding refusalOn refusedBy fitsIn
-      r3-room e h = rw (places, eq-eqb (length k) 135 all, plate, state, l, e, lt-ltb r 134 h)
-
-      pub r0-none : eqb (length m) (imageLength (p .total)) ≡ true → 134 ≤ r → 0 ≡ refusalOn p b k m r g
-      unfolding refusalOn refusedBy fitsIn
-      r0-none e h = rw (places, eq-eqb (length k) 135 all, plate, state, l, e, le-ltb r 134 h)
+  pub alone-by : lends g ≡ false → limitNumber p b k ≡ refusalOn p b k m r g
+  unfolding refusalOn refusedBy limitNumber
+  alone-by l = rw l
 
 pub few-kept : (p : Plate) (b : Board) (k : List ℕ) → Bounds p b true → length k ≡ 135 → b .frame .len ≤ 135
 few-kept p b k ok all = leb-true (b .frame .len) 135 (both-left (leb (b .frame .len) 135) (both (plateOk p) (stateOk p (stateOf b k))) (sym (ok .bound k all)))

@@ -6,14 +6,14 @@ use mathlib.Core.Bool.{Bool, true, false, false≢true}
 use mathlib.Core.List.{List, [], _∷_}
 use borrow.Author.Tests.{ne-eqb, ltb-true, ltb-false}
 use lib.Dec.{eqb, ltb}
-use lib.ListN.{length, take, drop, length-take, length-drop}
+use lib.ListN.{length, take, drop, length-take}
 use lib.Seq.{length-take-le, take-take, take-nil}
 use Rattle.meaning.specs.Bytes.{put, part}
 use Rattle.meaning.specs.State as meaning
-use Rattle.meaning.specs.State.{none, plateOk, ownByte}
+use Rattle.meaning.specs.State.{none, ownByte}
 use Rattle.meaning.specs.Commands as commands
 use Rattle.meaning.specs.Commands.{commandOf, asked, row, lengthFits, unknown, worked}
-use Rattle.meaning.specs.Frames.{Outcome, commandByte, dataOf, closed, sealed, message, warned, still, outcome, leaves, ending, work}
+use Rattle.meaning.specs.Frames.{commandByte, dataOf, closed, message, warned, still, outcome, leaves, work}
 use Rattle.meaning.proofs.Puts.{length-put}
 use Rattle.meaning.proofs.Limits as limits
 use Rattle.frame.specs.declared.answer.Answer.{Answer}
@@ -24,16 +24,14 @@ use Rattle.line.specs.declared.plate.Plate.{Plate}
 use Rattle.line.specs.declared.characters.Frame.{Frame}
 use Rattle.line.specs.declared.judge.Judgement.{Judgement}
 use Rattle.line.specs.declared.judge.Judgement.the-variants.{Short, Elsewhere, Fault, Request}
-use Rattle.line.specs.Line.{plateOf, lineOf, Fits}
+use Rattle.line.specs.Line.{plateOf, lineOf}
 use Rattle.line.specs.Judge.{judgementOf, endingBy}
 use Rattle.line.proofs.Judging.{ends-as-judged, request-fits}
 use Rattle.line.proofs.Limits.{low-address}
 use Rattle.commands.specs.declared.state.State.{State}
 use Rattle.commands.specs.declared.rows.Worked.{Worked}
 use Rattle.commands.specs.State.{stateWith}
-use Rattle.commands.specs.Rows.{Answers}
 use Rattle.commands.proofs.Answering.{put-nothing}
-use Rattle.board.specs.declared.closing.Closed.{Closed}
 use Rattle.board.specs.Work.{Ready, Workable, WorksOn, replyOf, Brief, Sendable, Sends, Closes}
 use Rattle.board.proofs.Sending.{part-length, sealed-length}
 
@@ -71,7 +69,7 @@ high-unknown c h =
       n 0x53 (omega arith),
     )
 
-unknown-never : (d : List ℕ) → asked unknown d ≡ false
+pub unknown-never : (d : List ℕ) → asked unknown d ≡ false
 unfolding asked row lengthFits
 unknown-never d = refl
 

@@ -3,4 +3,5 @@ pub mod Bounding
 pub mod Stepping
 mod Sending
 mod Endings
+mod Dispatch
 pub mod Promises

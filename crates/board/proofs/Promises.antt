@@ -1,33 +1,35 @@
 -- The board does the meaning's step, stays within the limits, and its contracts leave no choice. Assumes nothing.
-use Prim.Native.Nat.{ℕ, zero, suc, _+_, _≤_, min}
+use Prim.Native.Nat.{ℕ, _≤_}
 use native.Mathlib.Omega.{arith}
 use native.Mathlib.Decide.{ℕ-discrete}
 use mathlib.Core.Path.{_≡_, refl, sym, ap, _∙_}
 use mathlib.Core.Bool.{Bool, true, false}
-use mathlib.Core.List.{List}
+use mathlib.Core.List.{List, []}
 use borrow.Author.Tests.{le-leb, eq-eqb, le-ltb, eqb-true}
 use lib.Dec.{T, eqb, leb}
-use lib.ListN.{length, take, drop, length-take, length-drop, length-append}
-use lib.Seq.{length-take-le}
-use Rattle.meaning.specs.Bytes.{pick, put, both}
+use lib.ListN.{length, take, length-take, length-replicate}
+use Rattle.meaning.specs.Bytes.{pick, put, both, zeros}
 use Rattle.meaning.specs.State as meaning
-use Rattle.meaning.specs.State.{Plate, Line, plateOk, stateOk, fresh}
+use Rattle.meaning.specs.State.{Plate, Line, stateOk, fresh}
 use Rattle.meaning.specs.Fields.{imageLength}
 use Rattle.meaning.specs.Run as run
-use Rattle.meaning.specs.Run.{Call, Held, step, called, closes, refusedBy, lends}
+use Rattle.meaning.specs.Run.{Call, Held, step, called, refusedBy, lends}
 use Rattle.meaning.proofs.Puts.{length-put}
 use Rattle.meaning.proofs.Limits.{keeps-limits, fresh-within}
 use Rattle.meaning.proofs.Sizes.{keeps-size}
 use Rattle.line.specs.declared.characters.Frame.{Frame}
 use Rattle.line.specs.Line.{lineOf}
+use Rattle.line.proofs.Tight.{same-line-same-frame, put-long}
 use Rattle.commands.specs.declared.state.State.{State}
 use Rattle.commands.proofs.Same.{same-state}
 use Rattle.board.specs.declared.limits.Board.{Board}
 use Rattle.board.specs.declared.limits.Outcome as code
-use Rattle.board.specs.declared.limits.Outcome.the-variants.{Still, Over}
 use Rattle.board.specs.declared.limits.Stepped.{Stepped}
 use Rattle.board.specs.Board.{stateOf, fitsIn, refusalOn, calledOn, outcomeOf, Steps}
+use Rattle.board.specs.declared.closing.Closed.{Closed}
+use Rattle.board.specs.Work.{Closes}
 use Rattle.board.specs.Promises.{DoesStep, Within, Reached, start, next}
+use Rattle.board.proofs.Bounding.{lends-poll}
 use Rattle.board.proofs.Stepping.{held-on}
 
 holds : (b : Bool) → T b → b ≡ true
@@ -101,13 +103,6 @@ reached-within p (next b k m w g r k′ m′ w′ h wide s) = stays-within p b k
 pub never-refused : (p : Plate) (b : Board) (k m : List ℕ) (n : ℕ) (g : Call) → Reached p b k m → 134 ≤ n → refusalOn p b k m n g ≡ 0
 never-refused p b k m n g h wide = unrefused p b k m n g (reached-within p h) wide
 
-frames : {a a′ : Bool} {b c d b′ c′ d′ : ℕ} {x y x′ y′ : Bool} → a ≡ a′ → b ≡ b′ → c ≡ c′ → d ≡ d′ → x ≡ x′ → y ≡ y′
-    → _≡_ {A = Frame} (record { begun = a; last = b; len = c; sum = d; longer = x; parity = y }) (record { begun = a′; last = b′; len = c′; sum = d′; longer = x′; parity = y′ })
-frames i j k n o q = rw (i, j, k, n, o, q)
-
-same-len : (a c : ℕ) (k : List ℕ) → a ≤ 135 → c ≤ 135 → 135 ≤ length k → take a k ≡ take c k → a ≡ c
-same-len a c k h i j e = sym (length-take-le a k (omega arith)) ∙ ap length e ∙ length-take-le c k (omega arith)
-
 boards : {s t : State} {f g : Frame} → s ≡ t → f ≡ g → _≡_ {A = Board} (record { state = s; frame = f }) (record { state = t; frame = g })
 boards i j = rw (i, j)
 
@@ -115,9 +110,7 @@ boards i j = rw (i, j)
 pub same-state-same-board : (a b : Board) (k : List ℕ) → a .frame .len ≤ 135 → b .frame .len ≤ 135 → 135 ≤ length k → stateOf a k ≡ stateOf b k → a ≡ b
 same-state-same-board a b k h i j e =
     let l : lineOf (a .frame) k ≡ lineOf (b .frame) k = ap (λ (x : meaning.State). x .line) e in
-    boards (same-state (a .state) (b .state) (lineOf (a .frame) k) (lineOf (b .frame) k) e)
-    (frames (ap (λ (x : Line). x .begun) l) (ap (λ (x : Line). x .last) l) (same-len (a .frame .len) (b .frame .len) k h i j (ap (λ (x : Line). x .kept) l))
-    (ap (λ (x : Line). x .sum) l) (ap (λ (x : Line). x .longer) l) (ap (λ (x : Line). x .parity) l))
+    boards (same-state (a .state) (b .state) (lineOf (a .frame) k) (lineOf (b .frame) k) e) (same-line-same-frame (a .frame) (b .frame) k h i j l)
 
 -- what a contract's outcome is made of
 pub record Alike (r t : Stepped) (k′ k″ m′ m″ w′ w″ : List ℕ) : Type 0 where
@@ -125,10 +118,6 @@ pub record Alike (r t : Stepped) (k′ k″ m′ m″ w′ w″ : List ℕ) : Ty
   pub kept : k′ ≡ k″
   pub memory : m′ ≡ m″
   pub room : w′ ≡ w″
-
-put-long : (k x : List ℕ) → length k ≤ length (put k 0 x)
-unfolding put
-put-long k x = simp (length-append, length-drop) (omega arith)
 
 -- a call that is not refused has its 135 places
 has-places : (p : Plate) (b : Board) (k m w : List ℕ) (g : Call) → (calledOn p b k m w g) .refusal ≡ 0 → length k ≡ 135
@@ -161,3 +150,24 @@ one-outcome p b k m w g {r} {t} {k′} {k″} x y =
         let long : 135 ≤ length k′ = rw (x .bytes) (omega (arith, put-long k ((calledOn p b k m w g) .state .line .kept), has-places p b k m w g e)) in
         same-state-same-board (r .board) (t .board) k′ (x .few e) (y .few e) long (x .state ∙ sym (ap (stateOf (t .board)) kk ∙ y .state))
     go (no h) = x .refused h ∙ sym (y .refused h)
+
+pub refusal-tight : (p : Plate) (b : Board) (k m n : ℕ) (x y : ℕ)
+    → ((kept mem : List ℕ) (g : Call) → length kept ≡ k → length mem ≡ m → lends g ≡ true → x ≡ refusalOn p b kept mem n g)
+    → ((kept mem : List ℕ) (g : Call) → length kept ≡ k → length mem ≡ m → lends g ≡ true → y ≡ refusalOn p b kept mem n g) → x ≡ y
+refusal-tight p b k m n x y h i =
+    h (zeros k) (zeros m) (run.poll 0) (length-replicate {A = ℕ} k 0) (length-replicate {A = ℕ} m 0) (lends-poll 0)
+    ∙ sym (i (zeros k) (zeros m) (run.poll 0) (length-replicate {A = ℕ} k 0) (length-replicate {A = ℕ} m 0) (lends-poll 0))
+
+-- the calls that lend nothing, whatever the host holds
+pub alone-tight : (p : Plate) (b : Board) (g : Call) (r t : Stepped) → ((kept m w : List ℕ) → length kept ≡ 135 → Steps p b kept m w g r kept m w)
+    → ((kept m w : List ℕ) → length kept ≡ 135 → Steps p b kept m w g t kept m w) → r ≡ t
+alone-tight p b g r t h i =
+    (one-outcome p b (zeros 135) [] [] g (h (zeros 135) [] [] (length-replicate {A = ℕ} 135 0)) (i (zeros 135) [] [] (length-replicate {A = ℕ} 135 0))) .stepped
+
+closings : {s t : State} {m n : ℕ} → s ≡ t → m ≡ n → _≡_ {A = Closed} (record { state = s; sent = m }) (record { state = t; sent = n })
+closings i j = rw (i, j)
+
+pub close-tight : (p : Plate) (s : State) (f : Frame) (k m w : List ℕ) (r t : Closed) (m′ m″ w′ w″ : List ℕ) → Closes p s f k m w r m′ w′ → Closes p s f k m w t m″ w″
+    → (r ≡ t) × (m′ ≡ m″) × (w′ ≡ w″)
+close-tight p s f k m w r t m′ m″ w′ w″ h i =
+    (closings (same-state (r .state) (t .state) meaning.none meaning.none (h .state ∙ sym (i .state))) (h .sent ∙ sym (i .sent)), h .memory ∙ sym (i .memory), h .room ∙ sym (i .room))

@@ -1,11 +1,10 @@
 -- The reply by the answer: an error code, data, or none. Assumes nothing.
-use Prim.Native.Nat.{ℕ, suc, _+_, _≤_}
+use Prim.Native.Nat.{ℕ, _+_, _≤_}
 use native.Mathlib.Omega.{arith}
-use native.Mathlib.Numerals.{add-one}
-use mathlib.Core.Path.{_≡_, refl, sym, ap, _∙_}
-use mathlib.Core.List.{List, [], _∷_, _++_}
-use lib.ListN.{length, take, drop, length-append, length-take, length-drop}
-use Rattle.meaning.specs.Bytes.{put, part, xorAll}
+use mathlib.Core.Path.{_≡_, sym, _∙_}
+use mathlib.Core.List.{List, [], _∷_}
+use lib.ListN.{length, length-append, length-take, length-drop}
+use Rattle.meaning.specs.Bytes.{put, part}
 use Rattle.meaning.specs.State as meaning
 use Rattle.meaning.specs.State.{none, ownByte}
 use Rattle.meaning.specs.Frames.{sealed, message, warned}

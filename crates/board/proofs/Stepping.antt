@@ -9,14 +9,14 @@ use mathlib.Core.List.{List, [], _++_, append-nil}
 use borrow.Author.Tests.{eq-eqb, ne-eqb}
 use lib.Dec.{eqb}
 use lib.ListN.{length, take, drop, take-append-drop, length-take, drop-of-length-le}
-use lib.Seq.{length-take-le, take-all}
+use lib.Seq.{take-all}
 use Rattle.meaning.specs.Bytes.{pick, put}
 use Rattle.meaning.specs.State as meaning
-use Rattle.meaning.specs.State.{Plate, Line, none, withLine, withMeasured, fresh, noted, poweredOn}
+use Rattle.meaning.specs.State.{Plate, none, withLine, withMeasured, fresh, noted, poweredOn}
 use Rattle.meaning.specs.Frames.{Outcome, over, more, taken, closed, work, resting, still, upTo}
 use Rattle.meaning.specs.Frames as frames
 use Rattle.meaning.specs.Run as run
-use Rattle.meaning.specs.Run.{Call, Held, step, called, closes, refusedBy, lends}
+use Rattle.meaning.specs.Run.{Call, Held, step, called, closes, refusedBy}
 use Rattle.line.specs.declared.characters.Frame.{Frame}
 use Rattle.line.specs.Line.{lineOf, noFrame, Fits, Extends}
 use Rattle.commands.specs.declared.state.State.{State}

@@ -1,12 +1,13 @@
 -- The code's board as the meaning's state, and what a call leaves (01, "Named refusals"). Assumes nothing.
 use Prim.Native.Nat.{ℕ, _≤_}
 use mathlib.Core.Path.{_≡_}
-use mathlib.Core.Bool.{Bool, true, false}
+use mathlib.Core.Bool.{Bool, not}
 use mathlib.Core.List.{List}
-use lib.Dec.{eqb, leb}
+use lib.Dec.{eqb, leb, ltb}
 use lib.ListN.{length}
-use Rattle.meaning.specs.Bytes.{pick, both, put}
+use Rattle.meaning.specs.Bytes.{pick, both, either, put}
 use Rattle.meaning.specs.State.{Plate, State, plateOk, stateOk}
+use Rattle.meaning.specs.Fields.{imageLength}
 use Rattle.meaning.specs.Run.{Call, Held, refusedBy, called, closes}
 use Rattle.line.specs.Line.{lineOf}
 use Rattle.commands.specs.State.{stateWith}
@@ -29,6 +30,20 @@ pub record Bounds (p : Plate) (b : Board) (r : Bool) : Type 0 where
 -- 01, R1 to R3, 0 where none applies: the meaning's, and R1 also for what the meaning's state cannot hold
 unfoldable pub refusalOn : Plate → Board → List ℕ → List ℕ → ℕ → Call → ℕ
 refusalOn p b kept m room g = pick (fitsIn b kept) (refusedBy p (stateOf b kept) m room g) 1
+
+-- .. R1 alone
+unfoldable pub limitNumber : Plate → Board → List ℕ → ℕ
+limitNumber p b kept = pick (fitsIn b kept) (pick (either (not (plateOk p)) (not (stateOk p (stateOf b kept)))) 1 0) 1
+
+-- .. R2, R3, and the first of three
+abbrev pub sizeNumber : ℕ → ℕ → ℕ
+sizeNumber total n = pick (eqb n (imageLength total)) 0 2
+
+abbrev pub roomNumber : ℕ → ℕ
+roomNumber n = pick (ltb n 134) 3 0
+
+abbrev pub firstOf : ℕ → ℕ → ℕ → ℕ
+firstOf a b c = pick (eqb a 0) (pick (eqb b 0) c b) a
 
 unfoldable pub calledOn : Plate → Board → List ℕ → List ℕ → List ℕ → Call → Held
 calledOn p b kept m room g =

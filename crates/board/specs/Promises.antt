@@ -11,7 +11,7 @@ use Rattle.meaning.specs.Run.{Call, step, closes}
 use Rattle.board.specs.declared.limits.Board.{Board}
 use Rattle.board.specs.declared.limits.Outcome.the-variants.{Still, Over}
 use Rattle.board.specs.declared.limits.Stepped.{Stepped}
-use Rattle.board.specs.Board.{stateOf, refusalOn, Steps}
+use Rattle.board.specs.Board.{stateOf, Steps}
 
 -- the call does the meaning's step: state, memory, reply
 pub record DoesStep (p : Plate) (b : Board) (kept m w : List ℕ) (g : Call) (r : Stepped) (kept′ m′ w′ : List ℕ) : Type 0 where

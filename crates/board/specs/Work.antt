@@ -1,19 +1,19 @@
 -- A frame is closed: what its work, its reply and its close ask and leave (01, "Characters become frames"). Assumes nothing.
 use Prim.Native.Nat.{ℕ, _≤_, _<_}
 use mathlib.Core.Path.{_≡_}
-use mathlib.Core.Bool.{true}
+use mathlib.Core.Bool.{Bool, true}
 use mathlib.Core.List.{List, [], _∷_}
 use lib.ListN.{length}
-use Rattle.meaning.specs.Bytes.{part, put}
+use Rattle.meaning.specs.Bytes.{among, part, put}
 use Rattle.meaning.specs.State as meaning
 use Rattle.meaning.specs.State.{none, plateOk}
 use Rattle.meaning.specs.Fields.{imageLength}
-use Rattle.meaning.specs.Commands.{commandOf, asked, worked}
+use Rattle.meaning.specs.Commands.{commandOf, asked}
 use Rattle.meaning.specs.Commands as commands
 use Rattle.meaning.specs.Frames.{closed, message, work}
 use Rattle.frame.specs.declared.answer.Answer.{Answer}
 use Rattle.frame.specs.declared.answer.Answer.the-variants.{Refuse, Accept, Quiet}
-use Rattle.frame.specs.Answers.{memoryAfter}
+use Rattle.frame.specs.Answers.{memoryAfter, stateAfter, Works}
 use Rattle.line.specs.declared.plate.Plate.{Plate}
 use Rattle.line.specs.declared.characters.Frame.{Frame}
 use Rattle.line.specs.Line.{plateOf, lineOf, Fits}
@@ -43,6 +43,15 @@ pub record Workable (p : Plate) (s : State) (c : ℕ) (d m w : List ℕ) : Type 
 pub record WorksOn (a : commands.Answer) (s : State) (m w : List ℕ) (r : Worked) (m′ w′ : List ℕ) : Type 0 where
   pub row : Answers a s none w r w′
   pub memory : m′ ≡ memoryAfter a m
+
+-- 01, rows 4Ah to 4Eh
+unfoldable pub ofFields : ℕ → Bool
+ofFields c = among c (0x4A ∷ 0x4B ∷ 0x4C ∷ 0x4D ∷ 0x4E ∷ [])
+
+-- .. which leave the state as it is
+pub record OnFields (a : commands.Answer) (s : meaning.State) (m w : List ℕ) (r : Answer) (m′ w′ : List ℕ) : Type 0 where
+  pub works : Works a m w r m′ w′
+  pub state : stateAfter a s ≡ s
 
 -- 01, "An error reply is address, 50h, code, checksum"; other data stands from place 2 of the room on; the state is the one after the work
 unfoldable pub replyOf : meaning.Plate → meaning.State → ℕ → Answer → List ℕ → List ℕ

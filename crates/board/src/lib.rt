@@ -13,6 +13,8 @@ pub use calls::poll;
 pub use calls::power_on;
 pub use closing::Closed;
 pub use closing::close;
+pub use commands::Faults;
+pub use commands::State;
 pub use limits::Board;
 pub use limits::Outcome;
 pub use limits::Stepped;

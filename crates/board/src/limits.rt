@@ -4,10 +4,9 @@ ghost use mathlib.Core.Bool.{true};
 ghost use mathlib.Core.List.{List};
 ghost use Prim.Native.Nat.{ℕ};
 ghost use lib.ListN.{length};
-ghost use Rattle.meaning.specs.Fields.{imageLength};
 ghost use Rattle.meaning.specs.Run.{Call, lends};
 ghost use Rattle.line.specs.Line.{plateOf};
-ghost use Rattle.board.specs.Board.{refusalOn, Bounds};
+ghost use Rattle.board.specs.Board.{refusalOn, limitNumber, sizeNumber, roomNumber, firstOf, Bounds};
 use commands::State;
 use line::Frame;
 use line::Plate;
@@ -49,24 +48,53 @@ pub fn within_limits(plate: Plate, board: Board) -> bool
 pub fn refusal(plate: Plate, board: Board, kept: usize, memory: usize, room: usize) -> u8
     ensures { λ r. ⌜ ((k m : List ℕ) (g : Call) → length k ≡ kept → length m ≡ memory → lends g ≡ true → r ≡ refusalOn (plateOf plate) board k m room g) ⌝ }
 {
+    let limits = r1(plate, board, kept);
+    let size = r2(plate.total, memory);
+    let width = r3(room);
+    first_of(limits, size, width)
+}
+
+fn first_of(a: u8, b: u8, c: u8) -> u8
+    ensures { λ r. ⌜ r ≡ firstOf a b c ⌝ }
+{
+    if a != 0 {
+        return a;
+    }
+    if b != 0 {
+        return b;
+    }
+    c
+}
+
+// A plate or state number beyond its limit.
+fn r1(plate: Plate, board: Board, kept: usize) -> u8
+    ensures { λ r. ⌜ ((k : List ℕ) → length k ≡ kept → r ≡ limitNumber (plateOf plate) board k) ⌝ }
+{
     if !within_limits(plate, board) {
         return 1;
     }
     if kept != 135 {
         return 1;
     }
-    if memory as u64 != image_length(plate.total) {
-        return 2;
+    0
+}
+
+// Memory not 17T bytes: 16T of data, then T status bytes.
+fn r2(total: u32, memory: usize) -> u8
+    ensures { λ r. ⌜ r ≡ sizeNumber total memory ⌝ }
+{
+    if memory as u64 == 16 * (total as u64) + total as u64 {
+        return 0;
     }
+    2
+}
+
+// Reply room under 134 bytes.
+fn r3(room: usize) -> u8
+    ensures { λ r. ⌜ r ≡ roomNumber room ⌝ }
+{
     if room < 134 {
         return 3;
     }
     0
-}
-
-// 01, "Memory": 16T data bytes, then T status bytes.
-fn image_length(total: u32) -> u64
-    ensures { λ r. ⌜ r ≡ imageLength total ⌝ }
-{
-    16 * (total as u64) + total as u64
 }

@@ -1,15 +1,20 @@
 -- Two code states that say the same are the same. Assumes nothing.
 use Prim.Native.Nat.{ℕ}
-use mathlib.Core.Path.{_≡_, refl, sym, ap, _∙_}
+use mathlib.Core.Path.{_≡_, sym, ap, _∙_}
 use mathlib.Core.Bool.{Bool}
 use mathlib.Core.List.{List, []}
 use lib.ListN.{drop}
 use Rattle.meaning.specs.Bytes.{arg}
 use Rattle.meaning.specs.State as meaning
+use Rattle.meaning.specs.State.{withLock, withQueue}
+use Rattle.meaning.specs.Commands as commands
+use Rattle.frame.specs.declared.answer.Answer.{Answer}
 use Rattle.commands.specs.declared.faults.Faults.{Faults}
 use Rattle.commands.specs.declared.state.State.{State}
-use Rattle.commands.specs.Queue.{waiting, queueOf}
+use Rattle.commands.specs.declared.rows.Worked.{Worked}
+use Rattle.commands.specs.Queue.{waiting, queueOf, holding, Queues}
 use Rattle.commands.specs.State.{stateWith}
+use Rattle.commands.specs.Rows.{Answers}
 use Rattle.commands.proofs.Places.{front, behind}
 
 same-front : (c e : ℕ) (q u : List ℕ) → waiting c q ≡ waiting e u → c ≡ e
@@ -40,3 +45,18 @@ pub same-state : (s t : State) (l n : meaning.Line) → stateWith s l ≡ stateW
 same-state s t l n h =
     fields (ap (λ (x : meaning.State). x .codes) h) (ap (λ (x : meaning.State). x .counter) h) (ap (λ (x : meaning.State). x .offset) h)
     (ap (λ (x : meaning.State). x .measured) h) (same-faults (s .faults) (t .faults) (ap (λ (x : meaning.State). x .queue) h) (ap (λ (x : meaning.State). x .locked) h))
+
+-- so no two differing outcomes satisfy a contract of this crate (01, "How tightly the contracts bind")
+pub held-tight : (s : meaning.State) (f g : Faults) → holding s f ≡ holding s g → f ≡ g
+unfolding holding withLock withQueue
+held-tight s f g h = same-faults f g (ap (λ (x : meaning.State). x .queue) h) (ap (λ (x : meaning.State). x .locked) h)
+
+pub queues-tight : (f : Faults) (q : List ℕ) (r t : Faults) → Queues f q r → Queues f q t → r ≡ t
+queues-tight f q r t h i = same-faults r t (h .queue ∙ sym (i .queue)) (h .lock ∙ sym (i .lock))
+
+outcomes : {s t : State} {x y : Answer} → s ≡ t → x ≡ y → _≡_ {A = Worked} (record { state = s; answer = x }) (record { state = t; answer = y })
+outcomes i j = rw (i, j)
+
+pub row-tight : (a : commands.Answer) (s : State) (l : meaning.Line) (w : List ℕ) (r t : Worked) (u v : List ℕ) → Answers a s l w r u → Answers a s l w t v → (r ≡ t) × (u ≡ v)
+row-tight a s l w r t u v h i =
+    (outcomes (same-state (r .state) (t .state) l l (h .state ∙ sym (i .state))) (h .answer ∙ sym (i .answer)), h .room ∙ sym (i .room))

@@ -1,9 +1,9 @@
 -- Numbers modulo 2 to the position bits. Assumes nothing.
-use Prim.Native.Nat.{ℕ, _+_, _-_, _*_, _%_, _^_, _≤_, _<_}
+use Prim.Native.Nat.{ℕ, _-_, _%_, _^_, _≤_, _<_}
 use native.Mathlib.Omega.{arith}
 use native.Mathlib.Nat.{mod-lt, le-of-lt}
 use native.Mathlib.Decide.{ℕ-discrete}
-use mathlib.Core.Path.{_≡_, refl, sym, ap, _∙_}
+use mathlib.Core.Path.{_≡_}
 use lib.Pow.{pow-lt, pow-pos}
 
 module _ (bits : ℕ) {n : ℕ} (few : bits ≤ 32) (e : n ≡ 2 ^ bits) where

@@ -5,7 +5,7 @@ use mathlib.Core.Bool.{Bool, true, false, not}
 use mathlib.Core.List.{List, [], _∷_}
 use lib.Dec.{eqb, leb, ltb}
 use lib.ListN.{length, getD, take, drop, set}
-use Rattle.meaning.specs.Bytes.{arg, differ, put, number, bytes3, bytes4}
+use Rattle.meaning.specs.Bytes.{differ, put, number, bytes3, bytes4}
 use Rattle.meaning.specs.State as meaning
 use Rattle.meaning.specs.State.{Plate, Line, code, queued, position, offsetFor, withCodes, withCounter, withOffset, withQueue, withLock}
 use Rattle.meaning.specs.Commands.{accept, error, choose, quiet, readPosition, setPosition, readCounter, stepCounter, clearCounter, setCode, readFault, reset}

@@ -1,17 +1,17 @@
 -- The judge's ways out, one by one, and how the meaning's ending follows from the judgement. Assumes nothing.
-use Prim.Native.Nat.{ℕ, _+_, _-_, _<_, _≤_, min}
+use Prim.Native.Nat.{ℕ, _-_, _<_, _≤_}
 use native.Mathlib.Omega.{arith}
 use mathlib.Core.Path.{_≡_, refl, sym, ap, _∙_}
 use mathlib.Core.Bool.{Bool, true, false, not, false≢true}
 use mathlib.Core.List.{List}
-use borrow.Author.Tests.{lt-ltb, le-ltb, eq-eqb, ne-eqb, not-true, not-false}
-use lib.Dec.{eqb, ltb, T}
+use borrow.Author.Tests.{lt-ltb, le-ltb}
+use lib.Dec.{eqb, ltb}
 use lib.ListN.{length, take, drop, getD, length-take, length-drop, List·getD-eq-default}
 use lib.Seq.{length-take-le, getD-take, getD-drop}
 use Rattle.meaning.specs.Bytes.{pick, either, arg, differ}
 use Rattle.meaning.specs.State.{Plate, State, ownByte}
 use Rattle.meaning.specs.Commands as meaning
-use Rattle.meaning.specs.Commands.{Command, commandOf, row, asked, lengthFits, error, refuse, worked}
+use Rattle.meaning.specs.Commands.{commandOf, row, asked, lengthFits, error, worked}
 use Rattle.meaning.specs.Frames.{commandByte, dataOf, closed, ours, ending, short, elsewhere, answered}
 use Rattle.meaning.specs.Frames as frames
 use Rattle.frame.specs.declared.table.Row.{Row}

@@ -3,16 +3,16 @@ use Prim.Native.Nat.{ℕ, suc, _+_, _<_, _≤_}
 use native.Mathlib.Omega.{arith}
 use native.Mathlib.Numerals.{add-one}
 use native.Mathlib.Nat.{zero-add}
-use mathlib.Core.Path.{_≡_, refl, sym, ap, _∙_}
+use mathlib.Core.Path.{_≡_, refl}
 use mathlib.Core.Bool.{Bool, true, false, _||_}
 use mathlib.Core.List.{List, [], _∷_, _++_, append-assoc, append-nil}
 use borrow.Author.Tests.{lt-ltb, le-ltb, lt-leb, le-leb}
 use lib.Bits.{bitXor}
 use lib.Dec.{ltb, leb}
-use lib.ListN.{length, take, drop, set, length-append, drop-of-length-le}
+use lib.ListN.{length, take, set, length-append, drop-of-length-le}
 use lib.Seq.{take-suc-set, set-split, length-take-le, take-all}
 use Rattle.meaning.specs.Bytes.{pick, put, either}
-use Rattle.meaning.specs.State.{Line, none}
+use Rattle.meaning.specs.State.{none}
 use Rattle.meaning.specs.Frames.{more}
 use Rattle.line.specs.declared.characters.Frame.{Frame}
 use Rattle.line.specs.Line.{lineOf, noFrame, Fits, Starts, Extends}

@@ -3,3 +3,4 @@ mod Product
 mod Kept
 pub mod Judging
 pub mod Limits
+pub mod Tight

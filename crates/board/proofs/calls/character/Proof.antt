@@ -1,3 +1,4 @@
+-- `board::calls::character` meets its contract. Assumes nothing.
 use mathlib.Core.Path.{refl, sym, _∙_}
 use Rattle.meaning.specs.Run.{character}
 use Rattle.board.proofs.Stepping.{refused, character-over, character-still, none-fits}
@@ -5,76 +6,52 @@ use Rattle.board.proofs.Bounding.{ready, lends-character}
 use borrow.Author.Needs.{needs}
 use Rattle.board.proofs.calls.character.Statement.{statement}
 use Rattle.board.proofs.calls.character.Tie as tie
-use Rattle.board.proofs.calls.character.Reads as reads
-use Rattle.board.proofs.calls.character.Lts as lts
-use Rattle.board.proofs.calls.stepped.Reads as stepped-reads
-use Rattle.board.proofs.closing.close.Reads as close-reads
-use Rattle.board.proofs.limits.refusal.Reads as refusal-reads
-use Rattle.line.proofs.characters.Frame.is_over.Reads as is-over-reads
-use Rattle.line.proofs.characters.Frame.none.Reads as none-reads
-use Rattle.line.proofs.characters.Frame.with_character.Reads as with-character-reads
 
--- src/calls.rt:50:9
 refusal-requires : tie.Need-refusal-requires
 refusal-requires c κs = search needs
 
--- src/calls.rt:54:9
 stepped-requires : tie.Need-stepped-requires
 stepped-requires c κs = search needs
 
--- src/calls.rt:54:9
 returns : tie.Need-returns
 returns c = refused _ _ _ _ _ _ (c .stepped .ensures) (c .before .before .before .before .refusal .ensures _ _ (character (c .before .before .before .before .before .before .before .before .args .tick) (c .before .before .before .before .before .before .before .before .args .value) (c .before .before .before .before .before .before .before .before .args .parity)) refl refl (lends-character (c .before .before .before .before .before .before .before .before .args .tick) (c .before .before .before .before .before .before .before .before .args .value) (c .before .before .before .before .before .before .before .before .args .parity))) (c .before .if1 .taken)
 
--- src/calls.rt:56:8
 is-over-requires : tie.Need-is-over-requires
 is-over-requires c κs = search needs
 
--- src/calls.rt:57:13
 close-requires : tie.Need-close-requires
 close-requires c κs = ready _ _ _ _ _ (character (c .before .before .before .before .before .before .before .before .before .before .before .before .args .tick) (c .before .before .before .before .before .before .before .before .before .before .before .before .args .value) (c .before .before .before .before .before .before .before .before .before .before .before .before .args .parity)) (lends-character (c .before .before .before .before .before .before .before .before .before .before .before .before .args .tick) (c .before .before .before .before .before .before .before .before .before .before .before .before .args .value) (c .before .before .before .before .before .before .before .before .before .before .before .before .args .parity)) (sym (c .before .before .before .before .before .before .before .before .refusal .ensures _ _ (character (c .before .before .before .before .before .before .before .before .before .before .before .before .args .tick) (c .before .before .before .before .before .before .before .before .before .before .before .before .args .value) (c .before .before .before .before .before .before .before .before .before .before .before .before .args .parity)) refl refl (lends-character (c .before .before .before .before .before .before .before .before .before .before .before .before .args .tick) (c .before .before .before .before .before .before .before .before .before .before .before .before .args .value) (c .before .before .before .before .before .before .before .before .before .before .before .before .args .parity))) ∙ c .before .before .before .before .before .if1 .left)
 
--- src/calls.rt:59:21
 none-requires : tie.Need-none-requires
 none-requires c κs = search needs
 
--- src/calls.rt:59:13
 with-character-requires : tie.Need-with-character-requires
 with-character-requires c κs = none-fits _ (c .before .none .ensures) ((ready _ _ (c .before .before .before .before .before .before .before .before .before .before .before .before .before .before .before .before .before .before .before .before .args .kept .now) (c .before .before .before .before .before .before .before .before .before .before .before .before .before .before .before .before .before .before .before .before .args .memory .now) (c .before .before .before .before .before .before .before .before .before .before .before .before .before .before .before .before .before .before .before .before .args .room .now) (character (c .before .before .before .before .before .before .before .before .before .before .before .before .before .before .before .before .before .before .before .before .args .tick) (c .before .before .before .before .before .before .before .before .before .before .before .before .before .before .before .before .before .before .before .before .args .value) (c .before .before .before .before .before .before .before .before .before .before .before .before .before .before .before .before .before .before .before .before .args .parity)) (lends-character (c .before .before .before .before .before .before .before .before .before .before .before .before .before .before .before .before .before .before .before .before .args .tick) (c .before .before .before .before .before .before .before .before .before .before .before .before .before .before .before .before .before .before .before .before .args .value) (c .before .before .before .before .before .before .before .before .before .before .before .before .before .before .before .before .before .before .before .before .args .parity)) (sym (c .before .before .before .before .before .before .before .before .before .before .before .before .before .before .before .before .refusal .ensures _ _ (character (c .before .before .before .before .before .before .before .before .before .before .before .before .before .before .before .before .before .before .before .before .args .tick) (c .before .before .before .before .before .before .before .before .before .before .before .before .before .before .before .before .before .before .before .before .args .value) (c .before .before .before .before .before .before .before .before .before .before .before .before .before .before .before .before .before .before .before .before .args .parity)) refl refl (lends-character (c .before .before .before .before .before .before .before .before .before .before .before .before .before .before .before .before .before .before .before .before .args .tick) (c .before .before .before .before .before .before .before .before .before .before .before .before .before .before .before .before .before .before .before .before .args .value) (c .before .before .before .before .before .before .before .before .before .before .before .before .before .before .before .before .before .before .before .before .args .parity))) ∙ c .before .before .before .before .before .before .before .before .before .before .before .before .before .if1 .left)) .fits .all)
 
--- src/calls.rt:60:9
 stepped-requires-2 : tie.Need-stepped-requires-2
 stepped-requires-2 c κs = search needs
 
--- src/calls.rt:60:9
 same-length : tie.Need-same-length
 same-length c = search needs
 
--- src/calls.rt:60:9
 same-length-2 : tie.Need-same-length-2
 same-length-2 c = search needs
 
--- src/calls.rt:60:9
 same-length-3 : tie.Need-same-length-3
 same-length-3 c = search needs
 
--- src/calls.rt:60:9
 returns-2 : tie.Need-returns-2
 returns-2 c = character-over _ _ _ _ _ _ (sym (c .before .before .before .before .before .before .before .before .before .before .before .before .before .before .before .before .before .before .before .before .refusal .ensures _ _ (character (c .before .before .before .before .before .before .before .before .before .before .before .before .before .before .before .before .before .before .before .before .before .before .before .before .args .tick) (c .before .before .before .before .before .before .before .before .before .before .before .before .before .before .before .before .before .before .before .before .before .before .before .before .args .value) (c .before .before .before .before .before .before .before .before .before .before .before .before .before .before .before .before .before .before .before .before .before .before .before .before .args .parity)) refl refl (lends-character (c .before .before .before .before .before .before .before .before .before .before .before .before .before .before .before .before .before .before .before .before .before .before .before .before .args .tick) (c .before .before .before .before .before .before .before .before .before .before .before .before .before .before .before .before .before .before .before .before .before .before .before .before .args .value) (c .before .before .before .before .before .before .before .before .before .before .before .before .before .before .before .before .before .before .before .before .before .before .before .before .args .parity))) ∙ c .before .before .before .before .before .before .before .before .before .before .before .before .before .before .before .before .before .if1 .left) (c .stepped2 .ensures) (c .before .before .before .before .before .none .ensures) (sym (c .before .before .before .before .before .before .before .before .before .before .before .before .before .before .before .before .is-over .ensures _ _ refl) ∙ c .before .before .before .before .before .before .before .before .before .before .before .before .before .before .before .if2 .taken) (c .before .before .before .before .before .before .before .before .before .before .before .close .ensures) (c .before .before .before .with-character .ensures)
 
--- src/calls.rt:62:9
 with-character-requires-2 : tie.Need-with-character-requires-2
 with-character-requires-2 c κs = (ready _ _ (c .before .before .before .before .before .before .before .before .before .before .args .kept .now) (c .before .before .before .before .before .before .before .before .before .before .args .memory .now) (c .before .before .before .before .before .before .before .before .before .before .args .room .now) (character (c .before .before .before .before .before .before .before .before .before .before .args .tick) (c .before .before .before .before .before .before .before .before .before .before .args .value) (c .before .before .before .before .before .before .before .before .before .before .args .parity)) (lends-character (c .before .before .before .before .before .before .before .before .before .before .args .tick) (c .before .before .before .before .before .before .before .before .before .before .args .value) (c .before .before .before .before .before .before .before .before .before .before .args .parity)) (sym (c .before .before .before .before .before .before .refusal .ensures _ _ (character (c .before .before .before .before .before .before .before .before .before .before .args .tick) (c .before .before .before .before .before .before .before .before .before .before .args .value) (c .before .before .before .before .before .before .before .before .before .before .args .parity)) refl refl (lends-character (c .before .before .before .before .before .before .before .before .before .before .args .tick) (c .before .before .before .before .before .before .before .before .before .before .args .value) (c .before .before .before .before .before .before .before .before .before .before .args .parity))) ∙ c .before .before .before .if1 .left)) .fits
 
--- src/calls.rt:63:5
 stepped-requires-3 : tie.Need-stepped-requires-3
 stepped-requires-3 c κs = search needs
 
--- src/calls.rt:38:1
 same-length-4 : tie.Need-same-length-4
 same-length-4 c = search needs
 
--- src/calls.rt:38:1
 returns-3 : tie.Need-returns-3
 returns-3 c = character-still _ _ _ _ _ _ (sym (c .before .before .before .before .before .before .before .before .before .before .refusal .ensures _ _ (character (c .before .before .before .before .before .before .before .before .before .before .before .before .before .before .args .tick) (c .before .before .before .before .before .before .before .before .before .before .before .before .before .before .args .value) (c .before .before .before .before .before .before .before .before .before .before .before .before .before .before .args .parity)) refl refl (lends-character (c .before .before .before .before .before .before .before .before .before .before .before .before .before .before .args .tick) (c .before .before .before .before .before .before .before .before .before .before .before .before .before .before .args .value) (c .before .before .before .before .before .before .before .before .before .before .before .before .before .before .args .parity))) ∙ c .before .before .before .before .before .before .before .if1 .left) (c .stepped3 .ensures) refl (sym (c .before .before .before .before .before .before .is-over .ensures _ _ refl) ∙ c .before .before .before .before .before .if2 .left) (c .before .before .before .with-character2 .ensures)
 

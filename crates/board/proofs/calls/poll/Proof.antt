@@ -1,3 +1,4 @@
+-- `board::calls::poll` meets its contract. Assumes nothing.
 use Rattle.meaning.specs.Run.{poll}
 use Rattle.board.proofs.Bounding.{ready, lends-poll}
 use mathlib.Core.Path.{refl, sym, _∙_}
@@ -5,63 +6,43 @@ use Rattle.board.proofs.Stepping.{refused, poll-over, poll-still}
 use borrow.Author.Needs.{needs}
 use Rattle.board.proofs.calls.poll.Statement.{statement}
 use Rattle.board.proofs.calls.poll.Tie as tie
-use Rattle.board.proofs.calls.poll.Reads as reads
-use Rattle.board.proofs.calls.poll.Lts as lts
-use Rattle.board.proofs.calls.stepped.Reads as stepped-reads
-use Rattle.board.proofs.closing.close.Reads as close-reads
-use Rattle.board.proofs.limits.refusal.Reads as refusal-reads
-use Rattle.line.proofs.characters.Frame.is_over.Reads as is-over-reads
-use Rattle.line.proofs.characters.Frame.none.Reads as none-reads
 
--- src/calls.rt:77:9
 refusal-requires : tie.Need-refusal-requires
 refusal-requires c κs = search needs
 
--- src/calls.rt:81:9
 stepped-requires : tie.Need-stepped-requires
 stepped-requires c κs = search needs
 
--- src/calls.rt:81:9
 returns : tie.Need-returns
 returns c = refused _ _ _ _ _ _ (c .stepped .ensures) (c .before .before .before .before .refusal .ensures _ _ (poll (c .before .before .before .before .before .before .before .before .args .tick)) refl refl (lends-poll (c .before .before .before .before .before .before .before .before .args .tick))) (c .before .if1 .taken)
 
--- src/calls.rt:83:8
 is-over-requires : tie.Need-is-over-requires
 is-over-requires c κs = search needs
 
--- src/calls.rt:84:13
 close-requires : tie.Need-close-requires
 close-requires c κs = ready _ _ _ _ _ (poll (c .before .before .before .before .before .before .before .before .before .before .before .before .args .tick)) (lends-poll (c .before .before .before .before .before .before .before .before .before .before .before .before .args .tick)) (sym (c .before .before .before .before .before .before .before .before .refusal .ensures _ _ (poll (c .before .before .before .before .before .before .before .before .before .before .before .before .args .tick)) refl refl (lends-poll (c .before .before .before .before .before .before .before .before .before .before .before .before .args .tick))) ∙ c .before .before .before .before .before .if1 .left)
 
--- src/calls.rt:86:30
 none-requires : tie.Need-none-requires
 none-requires c κs = search needs
 
--- src/calls.rt:86:9
 stepped-requires-2 : tie.Need-stepped-requires-2
 stepped-requires-2 c κs = search needs
 
--- src/calls.rt:86:9
 same-length : tie.Need-same-length
 same-length c = search needs
 
--- src/calls.rt:86:9
 same-length-2 : tie.Need-same-length-2
 same-length-2 c = search needs
 
--- src/calls.rt:86:9
 same-length-3 : tie.Need-same-length-3
 same-length-3 c = search needs
 
--- src/calls.rt:86:9
 returns-2 : tie.Need-returns-2
 returns-2 c = poll-over _ _ _ _ _ _ (sym (c .before .before .before .before .before .before .before .before .before .before .before .before .before .before .before .before .refusal .ensures _ _ (poll (c .before .before .before .before .before .before .before .before .before .before .before .before .before .before .before .before .before .before .before .before .args .tick)) refl refl (lends-poll (c .before .before .before .before .before .before .before .before .before .before .before .before .before .before .before .before .before .before .before .before .args .tick))) ∙ c .before .before .before .before .before .before .before .before .before .before .before .before .before .if1 .left) (c .stepped2 .ensures) (c .before .none .ensures) (sym (c .before .before .before .before .before .before .before .before .before .before .before .before .is-over .ensures _ _ refl) ∙ c .before .before .before .before .before .before .before .before .before .before .before .if2 .taken) (c .before .before .before .before .before .before .before .close .ensures)
 
--- src/calls.rt:88:5
 stepped-requires-3 : tie.Need-stepped-requires-3
 stepped-requires-3 c κs = search needs
 
--- src/calls.rt:67:1
 returns-3 : tie.Need-returns-3
 returns-3 c = poll-still _ _ _ _ _ _ (sym (c .before .before .before .before .before .before .refusal .ensures _ _ (poll (c .before .before .before .before .before .before .before .before .before .before .args .tick)) refl refl (lends-poll (c .before .before .before .before .before .before .before .before .before .before .args .tick))) ∙ c .before .before .before .if1 .left) (c .stepped3 .ensures) refl (sym (c .before .before .is-over .ensures _ _ refl) ∙ c .before .if2 .left) ((ready _ _ (c .before .before .before .before .before .before .before .before .before .before .args .kept .now) (c .before .before .before .before .before .before .before .before .before .before .args .memory .now) (c .before .before .before .before .before .before .before .before .before .before .args .room .now) (poll (c .before .before .before .before .before .before .before .before .before .before .args .tick)) (lends-poll (c .before .before .before .before .before .before .before .before .before .before .args .tick)) (sym (c .before .before .before .before .before .before .refusal .ensures _ _ (poll (c .before .before .before .before .before .before .before .before .before .before .args .tick)) refl refl (lends-poll (c .before .before .before .before .before .before .before .before .before .before .args .tick))) ∙ c .before .before .before .if1 .left)) .fits .few)
 

@@ -1,97 +1,71 @@
+-- `board::closing::close` meets its contract. Assumes nothing.
 use mathlib.Core.Path.{sym, _∙_}
 use native.Mathlib.Omega.{arith}
 use Rattle.board.proofs.Endings.{own-known, error-sendable, long, workable, sendable, too-short, for-another, faulty, requested, worked-on}
 use borrow.Author.Needs.{needs}
 use Rattle.board.proofs.closing.close.Statement.{statement}
 use Rattle.board.proofs.closing.close.Tie as tie
-use Rattle.board.proofs.closing.close.Reads as reads
-use Rattle.board.proofs.closing.close.Lts as lts
-use Rattle.board.proofs.reply.reply.Reads as reply-reads
-use Rattle.board.proofs.rows.work.Reads as work-reads
-use Rattle.line.proofs.characters.Frame.judged.Reads as judged-reads
-use Rattle.line.proofs.own_byte.Reads as own-byte-reads
 
--- src/closing.rt:29:24
 own-byte-requires : tie.Need-own-byte-requires
 own-byte-requires c κs = own-known _ _ _ _ _ _ (c .before .before .before .pre)
 
--- src/closing.rt:29:11
 judged-requires : tie.Need-judged-requires
 judged-requires c κs = search needs
 
--- src/closing.rt:30:29
 enum-told : tie.Need-enum-told
 enum-told c = search needs
 
--- src/closing.rt:31:33
 enum-told-2 : tie.Need-enum-told-2
 enum-told-2 c = search needs
 
--- src/closing.rt:32:26
 enum-known-code : tie.Need-enum-known-code
 enum-known-code c = search needs
 
--- src/closing.rt:33:17
 reply-requires : tie.Need-reply-requires
 reply-requires c κs = error-sendable _ _ _ _ _ _ (c .before .before .before .before .before .before .before .before .before .pre) _ (c .before .before .before .before .before .before .before .before .before .pre .room)
 
--- src/closing.rt:36:28
 enum-known-command : tie.Need-enum-known-command
 enum-known-command c = search needs
 
--- src/closing.rt:37:23
 cast-end : tie.Need-cast-end
 cast-end c = search needs
 
--- src/closing.rt:37:23
 sub-end : tie.Need-sub-end
 sub-end c = omega (arith, long _ _ _ _ _ _ (c .before .before .before .before .before .before .before .before .before .pre) _ (sym (c .before .before .before .before .judged .ensures) ∙ c .before .before .command .given .1))
 
--- src/closing.rt:38:54
 sub-work : tie.Need-sub-work
 sub-work c = omega (arith, long _ _ _ _ _ _ (c .before .before .before .before .before .before .before .before .before .pre) _ (sym (c .before .before .before .before .judged .ensures) ∙ c .before .before .command .given .1))
 
--- src/closing.rt:38:54
 part-work-start : tie.Need-part-work-start
 part-work-start c = omega (arith, c .before .before .before .before .before .before .before .before .before .pre .fits .few, c .before .before .before .before .before .before .before .before .before .pre .fits .all, long _ _ _ _ _ _ (c .before .before .before .before .before .before .before .before .before .pre) _ (sym (c .before .before .before .before .judged .ensures) ∙ c .before .before .command .given .1))
 
--- src/closing.rt:38:54
 part-work-end : tie.Need-part-work-end
 part-work-end c = search needs
 
--- src/closing.rt:38:17
 work-requires : tie.Need-work-requires
 work-requires c κs = workable _ _ _ _ _ _ (c .before .before .before .before .before .before .before .before .before .before .before .before .pre) _ (sym (c .before .before .before .before .before .before .before .judged .ensures) ∙ c .before .before .before .before .before .command .given .1)
 
--- src/closing.rt:41:17
 reply-requires-2 : tie.Need-reply-requires-2
 reply-requires-2 c κs = sendable _ _ _ _ _ _ (c .before .before .before .before .before .before .before .before .before .before .before .before .before .before .before .before .before .before .before .pre) _ (sym (c .before .before .before .before .before .before .before .before .before .before .before .before .before .before .judged .ensures) ∙ c .before .before .before .before .before .before .before .before .before .before .before .before .command .given .1) (c .before .before .before .before .before .before .work .ensures) (search needs)
 
--- src/closing.rt:18:1
 returns : tie.Need-returns
 returns c = too-short _ _ _ _ _ _ (c .before .before .before .own-byte .ensures _) (sym (c .before .before .judged .ensures) ∙ c .enum-told .given .1)
 
--- src/closing.rt:18:1
 returns-2 : tie.Need-returns-2
 returns-2 c = for-another _ _ _ _ _ _ (c .before .before .before .own-byte .ensures _) (sym (c .before .before .judged .ensures) ∙ c .enum-told2 .given .1)
 
--- src/closing.rt:18:1
 same-length : tie.Need-same-length
 same-length c = search needs
 
--- src/closing.rt:18:1
 returns-3 : tie.Need-returns-3
 returns-3 c = faulty _ _ _ _ _ _ (c .before .before .before .before .before .before .before .before .own-byte .ensures _) (sym (c .before .before .before .before .before .before .before .judged .ensures) ∙ c .before .before .before .before .before .code .given .1) (c .before .before .reply .ensures)
 
--- src/closing.rt:18:1
 same-length-2 : tie.Need-same-length-2
 same-length-2 c = search needs
 
--- src/closing.rt:18:1
 same-length-3 : tie.Need-same-length-3
 same-length-3 c = search needs
 
--- src/closing.rt:18:1
 returns-4 : tie.Need-returns-4
 returns-4 c = requested _ _ _ _ _ _ (c .before .before .before .before .before .before .before .before .before .before .before .before .before .before .before .before .before .before .own-byte .ensures _) (sym (c .before .before .before .before .before .before .before .before .before .before .before .before .before .before .before .before .before .judged .ensures) ∙ c .before .before .before .before .before .before .before .before .before .before .before .before .before .before .before .command .given .1) (c .before .before .before .before .before .before .before .before .before .before .before .before .before .before .before .before .before .before .before .before .before .before .pre .room) (worked-on _ _ _ _ _ _ (c .before .before .before .before .before .before .before .before .before .before .before .before .before .before .before .before .before .before .before .before .before .before .pre) _ (sym (c .before .before .before .before .before .before .before .before .before .before .before .before .before .before .before .before .before .judged .ensures) ∙ c .before .before .before .before .before .before .before .before .before .before .before .before .before .before .before .command .given .1) (c .before .before .before .before .before .before .before .before .before .work .ensures)) (c .before .before .reply2 .ensures)
 

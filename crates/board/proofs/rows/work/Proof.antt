@@ -1,100 +1,82 @@
+-- `board::rows::work` meets its contract. Assumes nothing.
+use mathlib.Core.Path.{refl}
+use borrow.Author.Tests.{ne-eqb}
+use Rattle.board.proofs.Dispatch.{bits-fit, five, one, three, row-42, row-43, row-46, row-47, row-49, row-4F, row-50, row-53, on-fields, fields-worked}
 use borrow.Author.Needs.{needs}
 use Rattle.board.proofs.rows.work.Statement.{statement}
 use Rattle.board.proofs.rows.work.Tie as tie
-use Rattle.board.proofs.rows.work.Reads as reads
-use Rattle.board.proofs.rows.work.Lts as lts
-use Rattle.commands.proofs.clear_counter.Reads as clear-counter-reads
-use Rattle.commands.proofs.read_counter.Reads as read-counter-reads
-use Rattle.commands.proofs.read_fault.Reads as read-fault-reads
-use Rattle.commands.proofs.read_position.Reads as read-position-reads
-use Rattle.commands.proofs.reset.Reads as reset-reads
-use Rattle.commands.proofs.set_code.Reads as set-code-reads
-use Rattle.commands.proofs.set_position.Reads as set-position-reads
-use Rattle.commands.proofs.step_counter.Reads as step-counter-reads
 
--- src/rows.rt:25:9
 read-position-requires : tie.Need-read-position-requires
-read-position-requires c κs = ?
+read-position-requires c κs = (bits-fit _ _ _ _ _ (c .before .before .before .before .before .pre), c .before .before .before .before .before .pre .room)
 
--- src/rows.rt:25:9
 same-length : tie.Need-same-length
 same-length c = search needs
 
--- src/rows.rt:25:9
 returns : tie.Need-returns
-returns c = ?
+returns c = row-42 _ _ _ _ _ (c .before .before .before .before .if1 .taken) (c .before .before .read-position .ensures _ _ _ _ refl)
 
--- src/rows.rt:28:9
 set-position-requires : tie.Need-set-position-requires
-set-position-requires c κs = ?
+set-position-requires c κs = (bits-fit _ _ _ _ _ (c .before .before .before .before .before .pre), five _ _ _ _ _ (c .before .before .before .before .before .pre) (c .if2 .taken))
 
--- src/rows.rt:28:9
 returns-2 : tie.Need-returns-2
-returns-2 c = ?
+returns-2 c = row-43 _ _ _ _ _ (c .before .if2 .taken) (c .set-position .ensures _ _ _ _ refl)
 
--- src/rows.rt:31:9
 read-counter-requires : tie.Need-read-counter-requires
 read-counter-requires c κs = search needs
 
--- src/rows.rt:31:9
 same-length-2 : tie.Need-same-length-2
 same-length-2 c = search needs
 
--- src/rows.rt:31:9
 returns-3 : tie.Need-returns-3
-returns-3 c = ?
+returns-3 c = row-46 _ _ _ _ _ (c .before .before .before .before .if3 .taken) (c .before .before .read-counter .ensures _ _ _ _)
 
--- src/rows.rt:34:9
 step-counter-requires : tie.Need-step-counter-requires
 step-counter-requires c κs = search needs
 
--- src/rows.rt:34:9
 returns-4 : tie.Need-returns-4
-returns-4 c = ?
+returns-4 c = row-47 _ _ _ _ _ (c .before .if4 .taken) (c .step-counter .ensures _ _ _ _ _)
 
--- src/rows.rt:37:9
 clear-counter-requires : tie.Need-clear-counter-requires
-clear-counter-requires c κs = ?
+clear-counter-requires c κs = one _ _ _ _ _ (c .before .before .before .before .before .before .before .before .pre) (c .if5 .taken)
 
--- src/rows.rt:37:9
 returns-5 : tie.Need-returns-5
-returns-5 c = ?
+returns-5 c = row-49 _ _ _ _ _ (c .before .if5 .taken) (c .clear-counter .ensures _ _ _ _)
 
--- src/rows.rt:40:9
 set-code-requires : tie.Need-set-code-requires
-set-code-requires c κs = ?
+set-code-requires c κs = (three _ _ _ _ _ (c .before .before .before .before .before .before .before .before .before .before .pre) (c .before .if6 .taken), c .before .before .before .before .before .before .before .before .before .before .pre .room)
 
--- src/rows.rt:40:9
 same-length-3 : tie.Need-same-length-3
 same-length-3 c = search needs
 
--- src/rows.rt:40:9
 returns-6 : tie.Need-returns-6
-returns-6 c = ?
+returns-6 c = row-4F _ _ _ _ _ (c .before .before .before .before .if6 .taken) (c .before .before .set-code .ensures _ _ _)
 
--- src/rows.rt:43:9
 read-fault-requires : tie.Need-read-fault-requires
 read-fault-requires c κs = search needs
 
--- src/rows.rt:43:9
 same-length-4 : tie.Need-same-length-4
 same-length-4 c = search needs
 
--- src/rows.rt:43:9
 returns-7 : tie.Need-returns-7
-returns-7 c = ?
+returns-7 c = row-50 _ _ _ _ _ (c .before .before .before .before .if7 .taken) (c .before .before .read-fault .ensures _ _ _ _)
 
--- src/rows.rt:46:9
 reset-requires : tie.Need-reset-requires
 reset-requires c κs = search needs
 
--- src/rows.rt:46:9
 returns-8 : tie.Need-returns-8
-returns-8 c = ?
+returns-8 c = row-53 _ _ _ _ _ (c .before .if8 .taken) (c .reset .ensures _ _ _ _ _)
 
--- src/rows.rt:12:1
+on-fields-requires : tie.Need-on-fields-requires
+on-fields-requires c κs = (c .before .before .before .before .before .before .before .before .before .before .before .before .before .pre, on-fields _ _ (c .before .before .before .before .before .before .before .before .before .before .before .before .before .pre .fits) (ne-eqb _ _ (c .before .before .before .before .before .before .before .before .before .if1 .left)) (ne-eqb _ _ (c .before .before .before .before .before .before .before .before .if2 .left)) (ne-eqb _ _ (c .before .before .before .before .before .before .before .if3 .left)) (ne-eqb _ _ (c .before .before .before .before .before .before .if4 .left)) (ne-eqb _ _ (c .before .before .before .before .before .if5 .left)) (ne-eqb _ _ (c .before .before .before .before .if6 .left)) (ne-eqb _ _ (c .before .before .before .if7 .left)) (ne-eqb _ _ (c .before .before .if8 .left)))
+
+same-length-5 : tie.Need-same-length-5
+same-length-5 c = search needs
+
+same-length-6 : tie.Need-same-length-6
+same-length-6 c = search needs
+
 returns-9 : tie.Need-returns-9
-returns-9 c = ?
+returns-9 c = fields-worked _ _ _ _ (c .before .before .before .before .on-fields .ensures)
 
 pub work-spec : {M : Type 1} → statement M
 work-spec =
@@ -120,4 +102,7 @@ work-spec =
     returns-7
     reset-requires
     returns-8
+    on-fields-requires
+    same-length-5
+    same-length-6
     returns-9)

@@ -1,23 +1,18 @@
+-- `commands::faults::no_more` meets its contract. Assumes nothing.
 use borrow.Author.Tests.{eq-eqb, ne-eqb}
 use Rattle.commands.proofs.Places.{no-more}
 use Rattle.commands.proofs.faults.no_more.Statement.{statement}
 use Rattle.commands.proofs.faults.no_more.Tie as tie
-use Rattle.commands.proofs.faults.no_more.Reads as reads
-use Rattle.commands.proofs.faults.no_more.Lts as lts
 
--- src/faults.rt:181:9
 returns : tie.Need-returns
 returns c = no-more _ _ _ (simp (ne-eqb _ _ (c .if1 .taken)))
 
--- src/faults.rt:184:9
 returns-2 : tie.Need-returns-2
 returns-2 c = no-more _ _ _ (simp (eq-eqb _ _ (c .before .if1 .left), ne-eqb _ _ (c .if2 .taken)))
 
--- src/faults.rt:187:9
 returns-3 : tie.Need-returns-3
 returns-3 c = no-more _ _ _ (simp (eq-eqb _ _ (c .before .before .if1 .left), eq-eqb _ _ (c .before .if2 .left), ne-eqb _ _ (c .if3 .taken)))
 
--- src/faults.rt:177:1
 returns-4 : tie.Need-returns-4
 returns-4 c = no-more _ _ _ (simp (eq-eqb _ _ (c .before .before .if1 .left), eq-eqb _ _ (c .before .if2 .left), eq-eqb _ _ (c .if3 .left)))
 

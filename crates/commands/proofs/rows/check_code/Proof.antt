@@ -1,19 +1,15 @@
+-- `commands::rows::check_code` meets its contract. Assumes nothing.
 use borrow.Author.Tests.{eq-eqb, ne-eqb}
 use borrow.Author.Needs.{needs}
 use Rattle.commands.proofs.rows.check_code.Statement.{statement}
 use Rattle.commands.proofs.rows.check_code.Tie as tie
-use Rattle.commands.proofs.rows.check_code.Reads as reads
-use Rattle.commands.proofs.rows.check_code.Lts as lts
 
--- src/rows.rt:48:17
 element-copy-out-if1 : tie.Need-element-copy-out-if1
 element-copy-out-if1 c = search needs
 
--- src/rows.rt:49:9
 returns : tie.Need-returns
 returns c = simp (eq-eqb _ _ (c .if1 .taken))
 
--- src/rows.rt:44:1
 returns-2 : tie.Need-returns-2
 returns-2 c = simp (ne-eqb _ _ (c .if1 .left))
 

@@ -1,47 +1,34 @@
+-- `commands::rows::clear_counter` meets its contract. Assumes nothing.
 use mathlib.Core.Path.{sym, _∙_}
 use Rattle.commands.proofs.Ways.{barred-49, cleared-49}
 use borrow.Author.Needs.{needs}
 use Rattle.commands.proofs.rows.clear_counter.Statement.{statement}
 use Rattle.commands.proofs.rows.clear_counter.Tie as tie
-use Rattle.commands.proofs.rows.clear_counter.Reads as reads
-use Rattle.commands.proofs.rows.clear_counter.Lts as lts
-use Rattle.commands.proofs.rows.accepted.Reads as accepted-reads
-use Rattle.commands.proofs.rows.check_code.Reads as check-code-reads
-use Rattle.commands.proofs.rows.refused.Reads as refused-reads
-use Rattle.commands.proofs.state.State.with_counter.Reads as with-counter-reads
 
--- src/rows.rt:161:48
 shared-slice-read-check-code : tie.Need-shared-slice-read-check-code
 shared-slice-read-check-code c = search needs
 
--- src/rows.rt:161:27
 check-code-requires : tie.Need-check-code-requires
 check-code-requires c κs = search needs
 
 enum-told : tie.Need-enum-told
 enum-told c = search needs
 
--- src/rows.rt:162:9
 enum-told-2 : tie.Need-enum-told-2
 enum-told-2 c = search needs
 
--- src/rows.rt:162:9
 refused-requires : tie.Need-refused-requires
 refused-requires c κs = search needs
 
--- src/rows.rt:162:9
 returns : tie.Need-returns
 returns c = λ p l m w. barred-49 p _ l m _ w (c .refused .ensures) (sym (c .before .before .before .check-code .ensures) ∙ c .before .enum-told2 .given .1)
 
--- src/rows.rt:164:14
 with-counter-requires : tie.Need-with-counter-requires
 with-counter-requires c κs = search needs
 
--- src/rows.rt:164:5
 accepted-requires : tie.Need-accepted-requires
 accepted-requires c κs = search needs
 
--- src/rows.rt:157:1
 returns-2 : tie.Need-returns-2
 returns-2 c = λ p l m w. cleared-49 p _ l m _ w (c .accepted .ensures) (sym (c .before .before .before .before .check-code .ensures) ∙ c .before .before .enum-told .given .1) (c .before .with-counter .ensures l)
 

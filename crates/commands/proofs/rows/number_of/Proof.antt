@@ -1,36 +1,28 @@
+-- `commands::rows::number_of` meets its contract. Assumes nothing.
 use native.Mathlib.Omega.{arith}
 use Rattle.meaning.specs.Bytes.{number}
 use borrow.Author.Needs.{needs}
 use Rattle.commands.proofs.rows.number_of.Statement.{statement}
 use Rattle.commands.proofs.rows.number_of.Tie as tie
-use Rattle.commands.proofs.rows.number_of.Reads as reads
-use Rattle.commands.proofs.rows.number_of.Lts as lts
 
--- src/rows.rt:76:7
 mul-result : tie.Need-mul-result
 mul-result c = search needs
 
--- src/rows.rt:76:7
 add-result : tie.Need-add-result
 add-result c = search needs
 
--- src/rows.rt:76:6
 mul-result-2 : tie.Need-mul-result-2
 mul-result-2 c = search needs
 
--- src/rows.rt:76:6
 add-result-2 : tie.Need-add-result-2
 add-result-2 c = search needs
 
--- src/rows.rt:76:5
 mul-result-3 : tie.Need-mul-result-3
 mul-result-3 c = search needs
 
--- src/rows.rt:76:5
 add-result-3 : tie.Need-add-result-3
 add-result-3 c = search needs
 
--- src/rows.rt:73:1
 returns : tie.Need-returns
 unfolding number
 returns c = (omega arith, search needs)

@@ -1,38 +1,29 @@
+-- `commands::rows::position` meets its contract. Assumes nothing.
 use native.Mathlib.Omega.{arith}
 use Rattle.commands.proofs.Turns.{some, low, rest}
 use Rattle.meaning.specs.State.{position}
 use borrow.Author.Needs.{needs}
 use Rattle.commands.proofs.rows.position.Statement.{statement}
 use Rattle.commands.proofs.rows.position.Tie as tie
-use Rattle.commands.proofs.rows.position.Reads as reads
-use Rattle.commands.proofs.rows.position.Lts as lts
-use Rattle.commands.proofs.state.size.Reads as size-reads
 
--- src/rows.rt:59:9
 size-requires : tie.Need-size-requires
 size-requires c κs = search needs
 
--- src/rows.rt:60:6
 cast-result : tie.Need-cast-result
 cast-result c = search needs
 
--- src/rows.rt:60:6
 rem-result : tie.Need-rem-result
 rem-result c = some _ (c .before .before .pre) (c .before .size .ensures)
 
--- src/rows.rt:60:37
 cast-result-2 : tie.Need-cast-result-2
 cast-result-2 c = search needs
 
--- src/rows.rt:60:6
 add-result : tie.Need-add-result
 add-result c = omega (arith, low _ (c .before .before .before .pre) (c .before .before .size .ensures), rest _ (c .before .before .before .pre) (c .before .before .size .ensures) (c .before .before .before .args .state .measured))
 
--- src/rows.rt:60:5
 rem-result-2 : tie.Need-rem-result-2
 rem-result-2 c = some _ (c .before .before .before .pre) (c .before .before .size .ensures)
 
--- src/rows.rt:55:1
 returns : tie.Need-returns
 unfolding position
 returns c = λ p l e. rw (c .before .before .size .ensures, e)

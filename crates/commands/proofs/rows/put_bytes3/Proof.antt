@@ -1,42 +1,32 @@
+-- `commands::rows::put_bytes3` meets its contract. Assumes nothing.
 use native.Mathlib.Omega.{arith}
 use lib.ListN.{length-set}
 use Rattle.commands.proofs.Answering.{put-three}
 use borrow.Author.Needs.{needs}
 use Rattle.commands.proofs.rows.put_bytes3.Statement.{statement}
 use Rattle.commands.proofs.rows.put_bytes3.Tie as tie
-use Rattle.commands.proofs.rows.put_bytes3.Reads as reads
-use Rattle.commands.proofs.rows.put_bytes3.Lts as lts
-use Rattle.commands.proofs.rows.low_byte.Reads as low-byte-reads
 
--- src/rows.rt:99:15
 low-byte-requires : tie.Need-low-byte-requires
 low-byte-requires c κs = search needs
 
--- src/rows.rt:99:5
 slice-write-room : tie.Need-slice-write-room
 slice-write-room c = search needs
 
--- src/rows.rt:100:15
 low-byte-requires-2 : tie.Need-low-byte-requires-2
 low-byte-requires-2 c κs = search needs
 
--- src/rows.rt:100:5
 slice-write-room-2 : tie.Need-slice-write-room-2
 slice-write-room-2 c = simp length-set (omega arith)
 
--- src/rows.rt:101:15
 low-byte-requires-3 : tie.Need-low-byte-requires-3
 low-byte-requires-3 c κs = search needs
 
--- src/rows.rt:101:5
 slice-write-room-3 : tie.Need-slice-write-room-3
 slice-write-room-3 c = simp length-set (omega arith)
 
--- src/rows.rt:95:1
 same-length : tie.Need-same-length
 same-length c = search needs
 
--- src/rows.rt:95:1
 returns : tie.Need-returns
 returns c = put-three _ _ (c .before .before .before .before .pre) (c .before .before .low-byte .ensures) (c .before .low-byte2 .ensures) (c .low-byte3 .ensures)
 

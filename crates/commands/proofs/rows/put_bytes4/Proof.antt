@@ -1,50 +1,38 @@
+-- `commands::rows::put_bytes4` meets its contract. Assumes nothing.
 use native.Mathlib.Omega.{arith}
 use lib.ListN.{length-set}
 use Rattle.commands.proofs.Answering.{put-four}
 use borrow.Author.Needs.{needs}
 use Rattle.commands.proofs.rows.put_bytes4.Statement.{statement}
 use Rattle.commands.proofs.rows.put_bytes4.Tie as tie
-use Rattle.commands.proofs.rows.put_bytes4.Reads as reads
-use Rattle.commands.proofs.rows.put_bytes4.Lts as lts
-use Rattle.commands.proofs.rows.low_byte.Reads as low-byte-reads
 
--- src/rows.rt:89:15
 low-byte-requires : tie.Need-low-byte-requires
 low-byte-requires c κs = search needs
 
--- src/rows.rt:89:5
 slice-write-room : tie.Need-slice-write-room
 slice-write-room c = search needs
 
--- src/rows.rt:90:15
 low-byte-requires-2 : tie.Need-low-byte-requires-2
 low-byte-requires-2 c κs = search needs
 
--- src/rows.rt:90:5
 slice-write-room-2 : tie.Need-slice-write-room-2
 slice-write-room-2 c = simp length-set (omega arith)
 
--- src/rows.rt:91:15
 low-byte-requires-3 : tie.Need-low-byte-requires-3
 low-byte-requires-3 c κs = search needs
 
--- src/rows.rt:91:5
 slice-write-room-3 : tie.Need-slice-write-room-3
 slice-write-room-3 c = simp length-set (omega arith)
 
--- src/rows.rt:92:15
 low-byte-requires-4 : tie.Need-low-byte-requires-4
 low-byte-requires-4 c κs = search needs
 
--- src/rows.rt:92:5
 slice-write-room-4 : tie.Need-slice-write-room-4
 slice-write-room-4 c = simp length-set (omega arith)
 
--- src/rows.rt:85:1
 same-length : tie.Need-same-length
 same-length c = search needs
 
--- src/rows.rt:85:1
 returns : tie.Need-returns
 returns c = put-four _ _ (c .before .before .before .before .before .pre) (c .before .before .before .low-byte .ensures) (c .before .before .low-byte2 .ensures) (c .before .low-byte3 .ensures) (c .low-byte4 .ensures)
 

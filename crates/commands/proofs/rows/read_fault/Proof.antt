@@ -1,34 +1,24 @@
+-- `commands::rows::read_fault` meets its contract. Assumes nothing.
 use Rattle.commands.proofs.Ways.{told-50}
 use borrow.Author.Needs.{needs}
 use Rattle.commands.proofs.rows.read_fault.Statement.{statement}
 use Rattle.commands.proofs.rows.read_fault.Tie as tie
-use Rattle.commands.proofs.rows.read_fault.Reads as reads
-use Rattle.commands.proofs.rows.read_fault.Lts as lts
-use Rattle.commands.proofs.faults.Faults.read.Reads as read-reads
-use Rattle.commands.proofs.rows.accepted.Reads as accepted-reads
-use Rattle.commands.proofs.state.State.with_faults.Reads as with-faults-reads
 
--- src/rows.rt:188:9
 read-requires : tie.Need-read-requires
 read-requires c κs = search needs
 
--- src/rows.rt:190:5
 slice-write-room : tie.Need-slice-write-room
 slice-write-room c = search needs
 
--- src/rows.rt:191:14
 with-faults-requires : tie.Need-with-faults-requires
 with-faults-requires c κs = search needs
 
--- src/rows.rt:191:5
 accepted-requires : tie.Need-accepted-requires
 accepted-requires c κs = search needs
 
--- src/rows.rt:184:1
 same-length : tie.Need-same-length
 same-length c = search needs
 
--- src/rows.rt:184:1
 returns : tie.Need-returns
 returns c = λ p l m d. told-50 p _ l m d _ (c .before .before .before .before .before .pre) (c .accepted .ensures) (c .before .before .before .read .ensures) (c .before .with-faults .ensures l)
 

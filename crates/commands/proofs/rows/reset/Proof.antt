@@ -1,21 +1,15 @@
+-- `commands::rows::reset` meets its contract. Assumes nothing.
 use Rattle.commands.proofs.Ways.{quiet-53}
 use borrow.Author.Needs.{needs}
 use Rattle.commands.proofs.rows.reset.Statement.{statement}
 use Rattle.commands.proofs.rows.reset.Tie as tie
-use Rattle.commands.proofs.rows.reset.Reads as reads
-use Rattle.commands.proofs.rows.reset.Lts as lts
-use Rattle.commands.proofs.faults.Faults.emptied.Reads as emptied-reads
-use Rattle.commands.proofs.state.State.with_faults.Reads as with-faults-reads
 
--- src/rows.rt:198:9
 emptied-requires : tie.Need-emptied-requires
 emptied-requires c κs = search needs
 
--- src/rows.rt:200:16
 with-faults-requires : tie.Need-with-faults-requires
 with-faults-requires c κs = search needs
 
--- src/rows.rt:195:1
 returns : tie.Need-returns
 returns c = λ p l m d w. quiet-53 p _ l m d w (c .before .emptied .result) (c .before .emptied .ensures) (c .with-faults .ensures l)
 

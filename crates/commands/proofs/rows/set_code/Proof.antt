@@ -1,80 +1,59 @@
+-- `commands::rows::set_code` meets its contract. Assumes nothing.
 use mathlib.Core.Path.{sym, _∙_}
 use borrow.Author.Tests.{lt-ltb, le-ltb}
 use Rattle.commands.proofs.Ways.{high-4F, barred-4F, set-4F}
 use borrow.Author.Needs.{needs}
 use Rattle.commands.proofs.rows.set_code.Statement.{statement}
 use Rattle.commands.proofs.rows.set_code.Tie as tie
-use Rattle.commands.proofs.rows.set_code.Reads as reads
-use Rattle.commands.proofs.rows.set_code.Lts as lts
-use Rattle.commands.proofs.rows.accepted.Reads as accepted-reads
-use Rattle.commands.proofs.rows.check_code.Reads as check-code-reads
-use Rattle.commands.proofs.rows.refused.Reads as refused-reads
-use Rattle.commands.proofs.state.State.with_code.Reads as with-code-reads
 
--- src/rows.rt:172:18
 shared-slice-read-number : tie.Need-shared-slice-read-number
 shared-slice-read-number c = search needs
 
--- src/rows.rt:174:9
 refused-requires : tie.Need-refused-requires
 refused-requires c κs = search needs
 
--- src/rows.rt:174:9
 returns : tie.Need-returns
 returns c = λ p l m. high-4F p _ l m _ _ (c .refused .ensures) (lt-ltb _ _ (c .before .if1 .taken))
 
--- src/rows.rt:176:45
 cast-check-code : tie.Need-cast-check-code
 cast-check-code c = search needs
 
--- src/rows.rt:176:62
 shared-slice-read-check-code : tie.Need-shared-slice-read-check-code
 shared-slice-read-check-code c = search needs
 
--- src/rows.rt:176:27
 check-code-requires : tie.Need-check-code-requires
 check-code-requires c κs = search needs
 
 enum-told : tie.Need-enum-told
 enum-told c = search needs
 
--- src/rows.rt:177:9
 enum-told-2 : tie.Need-enum-told-2
 enum-told-2 c = search needs
 
--- src/rows.rt:177:9
 refused-requires-2 : tie.Need-refused-requires-2
 refused-requires-2 c κs = search needs
 
--- src/rows.rt:177:9
 returns-2 : tie.Need-returns-2
 returns-2 c = λ p l m. barred-4F p _ l m _ _ (le-ltb _ _ (c .before .before .before .before .before .if1 .left)) (c .refused2 .ensures) (sym (c .before .before .before .check-code .ensures) ∙ c .before .enum-told2 .given .1)
 
--- src/rows.rt:179:5
 slice-write-room : tie.Need-slice-write-room
 slice-write-room c = search needs
 
--- src/rows.rt:180:30
 cast-with-code : tie.Need-cast-with-code
 cast-with-code c = search needs
 
--- src/rows.rt:180:47
 shared-slice-read-with-code : tie.Need-shared-slice-read-with-code
 shared-slice-read-with-code c = search needs
 
--- src/rows.rt:180:14
 with-code-requires : tie.Need-with-code-requires
 with-code-requires c κs = search needs
 
--- src/rows.rt:180:5
 accepted-requires : tie.Need-accepted-requires
 accepted-requires c κs = search needs
 
--- src/rows.rt:168:1
 same-length : tie.Need-same-length
 same-length c = search needs
 
--- src/rows.rt:168:1
 returns-3 : tie.Need-returns-3
 returns-3 c = λ p l m. set-4F p _ l m _ _ (le-ltb _ _ (c .before .before .before .before .before .before .before .if1 .left)) (c .before .before .before .before .before .before .before .before .before .before .before .pre .1) (c .accepted .ensures) (sym (c .before .before .before .before .before .check-code .ensures) ∙ c .before .before .before .enum-told .given .1) (c .before .with-code .ensures l)
 

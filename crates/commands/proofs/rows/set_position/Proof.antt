@@ -1,95 +1,68 @@
+-- `commands::rows::set_position` meets its contract. Assumes nothing.
 use mathlib.Core.Path.{sym, _∙_}
 use borrow.Author.Tests.{le-leb, lt-leb}
 use Rattle.commands.proofs.Ways.{locked-43, barred-43, high-43, set-43, wanted-of, reaches, turned}
 use borrow.Author.Needs.{needs}
 use Rattle.commands.proofs.rows.set_position.Statement.{statement}
 use Rattle.commands.proofs.rows.set_position.Tie as tie
-use Rattle.commands.proofs.rows.set_position.Reads as reads
-use Rattle.commands.proofs.rows.set_position.Lts as lts
-use Rattle.commands.proofs.rows.accepted.Reads as accepted-reads
-use Rattle.commands.proofs.rows.check_code.Reads as check-code-reads
-use Rattle.commands.proofs.rows.number_of.Reads as number-of-reads
-use Rattle.commands.proofs.rows.offset_for.Reads as offset-for-reads
-use Rattle.commands.proofs.rows.refused.Reads as refused-reads
-use Rattle.commands.proofs.state.State.with_offset.Reads as with-offset-reads
-use Rattle.commands.proofs.state.size.Reads as size-reads
 
--- src/rows.rt:122:9
 refused-requires : tie.Need-refused-requires
 refused-requires c κs = search needs
 
--- src/rows.rt:122:9
 returns : tie.Need-returns
 returns c = λ p l m w e. locked-43 p _ l m _ w (c .refused .ensures) (c .before .if1 .taken)
 
--- src/rows.rt:124:48
 shared-slice-read-check-code : tie.Need-shared-slice-read-check-code
 shared-slice-read-check-code c = search needs
 
--- src/rows.rt:124:27
 check-code-requires : tie.Need-check-code-requires
 check-code-requires c κs = search needs
 
 enum-told : tie.Need-enum-told
 enum-told c = search needs
 
--- src/rows.rt:125:9
 enum-told-2 : tie.Need-enum-told-2
 enum-told-2 c = search needs
 
--- src/rows.rt:125:9
 refused-requires-2 : tie.Need-refused-requires-2
 refused-requires-2 c κs = search needs
 
--- src/rows.rt:125:9
 returns-2 : tie.Need-returns-2
 returns-2 c = λ p l m w e. barred-43 p _ l m _ w (c .before .before .before .before .before .if1 .left) (c .refused2 .ensures) (sym (c .before .before .before .check-code .ensures) ∙ c .before .enum-told2 .given .1)
 
--- src/rows.rt:127:28
 shared-slice-read-number-of : tie.Need-shared-slice-read-number-of
 shared-slice-read-number-of c = search needs
 
--- src/rows.rt:127:40
 shared-slice-read-number-of-2 : tie.Need-shared-slice-read-number-of-2
 shared-slice-read-number-of-2 c = search needs
 
--- src/rows.rt:127:52
 shared-slice-read-number-of-3 : tie.Need-shared-slice-read-number-of-3
 shared-slice-read-number-of-3 c = search needs
 
--- src/rows.rt:127:64
 shared-slice-read-number-of-4 : tie.Need-shared-slice-read-number-of-4
 shared-slice-read-number-of-4 c = search needs
 
--- src/rows.rt:127:9
 number-of-requires : tie.Need-number-of-requires
 number-of-requires c κs = search needs
 
--- src/rows.rt:128:8
 size-requires : tie.Need-size-requires
 size-requires c κs = search needs
 
--- src/rows.rt:129:9
 refused-requires-3 : tie.Need-refused-requires-3
 refused-requires-3 c κs = search needs
 
--- src/rows.rt:129:9
 returns-3 : tie.Need-returns-3
 returns-3 c = λ p l m w e. high-43 p _ l m _ w (c .before .before .before .before .before .before .before .before .before .before .before .before .if1 .left) (sym (c .before .before .before .before .before .before .before .before .before .before .check-code .ensures) ∙ c .before .before .before .before .before .before .before .before .enum-told .given .1) (c .refused3 .ensures) (reaches e (c .before .before .size .ensures) (wanted-of (c .before .before .before .before .before .before .before .before .before .before .before .before .before .before .args .request .now) (c .before .before .before .before .before .before .before .before .before .before .before .before .before .before .pre .1) (c .before .before .before .number-of .ensures .0)) (le-leb _ _ (c .before .if2 .taken)))
 
--- src/rows.rt:131:9
 offset-for-requires : tie.Need-offset-for-requires
 offset-for-requires c κs = search needs
 
--- src/rows.rt:132:14
 with-offset-requires : tie.Need-with-offset-requires
 with-offset-requires c κs = search needs
 
--- src/rows.rt:132:5
 accepted-requires : tie.Need-accepted-requires
 accepted-requires c κs = search needs
 
--- src/rows.rt:117:1
 returns-4 : tie.Need-returns-4
 returns-4 c = λ p l m w e. set-43 p _ l m _ w (c .before .before .before .before .before .before .before .before .before .before .before .before .before .before .if1 .left) (sym (c .before .before .before .before .before .before .before .before .before .before .before .before .check-code .ensures) ∙ c .before .before .before .before .before .before .before .before .before .before .enum-told .given .1) (c .accepted .ensures) (reaches e (c .before .before .before .before .size .ensures) (wanted-of (c .before .before .before .before .before .before .before .before .before .before .before .before .before .before .before .before .args .request .now) (c .before .before .before .before .before .before .before .before .before .before .before .before .before .before .before .before .pre .1) (c .before .before .before .before .before .number-of .ensures .0)) (lt-leb _ _ (c .before .before .before .if2 .left))) (turned p _ l (wanted-of (c .before .before .before .before .before .before .before .before .before .before .before .before .before .before .before .before .args .request .now) (c .before .before .before .before .before .before .before .before .before .before .before .before .before .before .before .before .pre .1) (c .before .before .before .before .before .number-of .ensures .0)) (c .before .before .offset-for .ensures p l e) (c .before .with-offset .ensures l))
 

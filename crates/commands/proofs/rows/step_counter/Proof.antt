@@ -1,48 +1,34 @@
+-- `commands::rows::step_counter` meets its contract. Assumes nothing.
 use borrow.Author.Tests.{eq-eqb, ne-eqb}
 use Rattle.commands.proofs.Ways.{wraps-47, steps-47}
 use borrow.Author.Needs.{needs}
 use Rattle.commands.proofs.rows.step_counter.Statement.{statement}
 use Rattle.commands.proofs.rows.step_counter.Tie as tie
-use Rattle.commands.proofs.rows.step_counter.Reads as reads
-use Rattle.commands.proofs.rows.step_counter.Lts as lts
-use Rattle.commands.proofs.faults.Faults.queued.Reads as queued-reads
-use Rattle.commands.proofs.rows.accepted.Reads as accepted-reads
-use Rattle.commands.proofs.state.State.with_counter.Reads as with-counter-reads
-use Rattle.commands.proofs.state.State.with_faults.Reads as with-faults-reads
 
--- src/rows.rt:150:13
 queued-requires : tie.Need-queued-requires
 queued-requires c κs = search needs
 
--- src/rows.rt:151:25
 with-counter-requires : tie.Need-with-counter-requires
 with-counter-requires c κs = search needs
 
--- src/rows.rt:151:25
 with-faults-requires : tie.Need-with-faults-requires
 with-faults-requires c κs = search needs
 
--- src/rows.rt:151:9
 accepted-requires : tie.Need-accepted-requires
 accepted-requires c κs = search needs
 
--- src/rows.rt:151:9
 returns : tie.Need-returns
 returns c = λ p l m d w. wraps-47 p _ l m d w (c .before .before .with-counter .result) (c .before .before .before .queued .result) (c .accepted .ensures) (eq-eqb _ _ (c .before .before .before .before .if1 .taken)) (c .before .before .before .queued .ensures) (c .before .before .with-counter .ensures l) (c .before .with-faults .ensures l)
 
--- src/rows.rt:153:33
 add-with-counter : tie.Need-add-with-counter
 add-with-counter c = search needs
 
--- src/rows.rt:153:14
 with-counter-requires-2 : tie.Need-with-counter-requires-2
 with-counter-requires-2 c κs = search needs
 
--- src/rows.rt:153:5
 accepted-requires-2 : tie.Need-accepted-requires-2
 accepted-requires-2 c κs = search needs
 
--- src/rows.rt:145:1
 returns-2 : tie.Need-returns-2
 returns-2 c = λ p l m d w. steps-47 p _ l m d w (c .accepted2 .ensures) (ne-eqb _ _ (c .before .before .before .if1 .left)) (c .before .with-counter2 .ensures l)
 

@@ -1,21 +1,17 @@
+-- `line::judge::is_addressed` meets its contract. Assumes nothing.
 use borrow.Author.Tests.{eq-eqb, ne-eqb}
 use Rattle.line.specs.Judge.{addressed}
 use Rattle.line.proofs.judge.is_addressed.Statement.{statement}
 use Rattle.line.proofs.judge.is_addressed.Tie as tie
-use Rattle.line.proofs.judge.is_addressed.Reads as reads
-use Rattle.line.proofs.judge.is_addressed.Lts as lts
 
--- src/judge.rt:23:9
 returns : tie.Need-returns
 unfolding addressed
 returns c = simp (eq-eqb _ _ (c .if1 .taken))
 
--- src/judge.rt:26:9
 returns-2 : tie.Need-returns-2
 unfolding addressed
 returns-2 c = simp (ne-eqb _ _ (c .before .if1 .left), eq-eqb _ _ (c .if2 .taken))
 
--- src/judge.rt:19:1
 returns-3 : tie.Need-returns-3
 unfolding addressed
 returns-3 c = simp (ne-eqb _ _ (c .before .if1 .left), ne-eqb _ _ (c .if2 .left))

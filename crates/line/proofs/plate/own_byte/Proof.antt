@@ -1,20 +1,16 @@
+-- `line::plate::own_byte` meets its contract. Assumes nothing.
 use mathlib.Core.Path.{refl}
 use Rattle.meaning.specs.State.{ownByte}
 use borrow.Author.Needs.{needs}
 use Rattle.line.proofs.plate.own_byte.Statement.{statement}
 use Rattle.line.proofs.plate.own_byte.Tie as tie
-use Rattle.line.proofs.plate.own_byte.Reads as reads
-use Rattle.line.proofs.plate.own_byte.Lts as lts
 
--- src/plate.rt:89:6
 add-result : tie.Need-add-result
 add-result c = search needs
 
--- src/plate.rt:89:5
 cast-result : tie.Need-cast-result
 cast-result c = search needs
 
--- src/plate.rt:85:1
 returns : tie.Need-returns
 unfolding ownByte
 returns c = λ s. refl

@@ -1,21 +1,17 @@
+-- `line::plate::pause_ok` meets its contract. Assumes nothing.
 use borrow.Author.Tests.{eq-eqb, ne-eqb}
 use Rattle.meaning.specs.Bytes.{among}
 use Rattle.line.proofs.plate.pause_ok.Statement.{statement}
 use Rattle.line.proofs.plate.pause_ok.Tie as tie
-use Rattle.line.proofs.plate.pause_ok.Reads as reads
-use Rattle.line.proofs.plate.pause_ok.Lts as lts
 
--- src/plate.rt:76:9
 returns : tie.Need-returns
 unfolding among
 returns c = simp (eq-eqb _ _ (c .if1 .taken))
 
--- src/plate.rt:79:9
 returns-2 : tie.Need-returns-2
 unfolding among
 returns-2 c = simp (ne-eqb _ _ (c .before .if1 .left), eq-eqb _ _ (c .if2 .taken))
 
--- src/plate.rt:72:1
 returns-3 : tie.Need-returns-3
 unfolding among
 returns-3 c = simp (ne-eqb _ _ (c .before .if1 .left), ne-eqb _ _ (c .if2 .left))

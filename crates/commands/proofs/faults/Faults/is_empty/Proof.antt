@@ -1,22 +1,17 @@
+-- `commands::faults::Faults::is_empty` meets its contract. Assumes nothing.
 use borrow.Author.Tests.{eq-eqb, ne-eqb}
 use mathlib.Core.Path.{sym}
 use Rattle.commands.proofs.Places.{none-waits}
 use borrow.Author.Needs.{needs}
 use Rattle.commands.proofs.faults.Faults.is_empty.Statement.{statement}
 use Rattle.commands.proofs.faults.Faults.is_empty.Tie as tie
-use Rattle.commands.proofs.faults.Faults.is_empty.Reads as reads
-use Rattle.commands.proofs.faults.Faults.is_empty.Lts as lts
-use Rattle.commands.proofs.faults.no_more.Reads as no-more-reads
 
--- src/faults.rt:152:13
 returns : tie.Need-returns
 returns c = none-waits _ (simp (ne-eqb _ _ (c .if1 .taken)))
 
--- src/faults.rt:154:9
 no-more-requires : tie.Need-no-more-requires
 no-more-requires c κs = search needs
 
--- src/faults.rt:148:5
 returns-2 : tie.Need-returns-2
 returns-2 c = none-waits _ (simp (eq-eqb _ _ (c .before .if1 .left), sym (c .no-more .ensures)))
 

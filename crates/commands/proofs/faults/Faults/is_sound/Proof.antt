@@ -1,51 +1,38 @@
+-- `commands::faults::Faults::is_sound` meets its contract. Assumes nothing.
 use borrow.Author.Tests.{eq-eqb, not-false, not-true}
 use mathlib.Core.Path.{sym, _∙_}
 use Rattle.commands.proofs.Places.{sound-four, sound-empty}
 use borrow.Author.Needs.{needs}
 use Rattle.commands.proofs.faults.Faults.is_sound.Statement.{statement}
 use Rattle.commands.proofs.faults.Faults.is_sound.Tie as tie
-use Rattle.commands.proofs.faults.Faults.is_sound.Reads as reads
-use Rattle.commands.proofs.faults.Faults.is_sound.Lts as lts
-use Rattle.commands.proofs.faults.may_precede.Reads as may-precede-reads
-use Rattle.commands.proofs.faults.no_more.Reads as no-more-reads
 
--- src/faults.rt:162:13
 no-more-requires : tie.Need-no-more-requires
 no-more-requires c κs = search needs
 
--- src/faults.rt:162:13
 returns : tie.Need-returns
 returns c = sound-empty _ (eq-eqb _ _ (c .before .if1 .taken)) (c .no-more .ensures)
 
--- src/faults.rt:164:13
 may-precede-requires : tie.Need-may-precede-requires
 may-precede-requires c κs = search needs
 
--- src/faults.rt:165:13
 returns-2 : tie.Need-returns-2
 returns-2 c = sound-four _ (simp (sym (c .before .may-precede .ensures) ∙ not-true _ (c .if2 .taken)))
 
--- src/faults.rt:167:13
 may-precede-requires-2 : tie.Need-may-precede-requires-2
 may-precede-requires-2 c κs = search needs
 
--- src/faults.rt:168:13
 returns-3 : tie.Need-returns-3
 returns-3 c = sound-four _ (simp (sym (c .before .before .before .may-precede .ensures) ∙ not-false _ (c .before .before .if2 .left), sym (c .before .may-precede2 .ensures) ∙ not-true _ (c .if3 .taken)))
 
--- src/faults.rt:170:13
 may-precede-requires-3 : tie.Need-may-precede-requires-3
 may-precede-requires-3 c κs = search needs
 
--- src/faults.rt:171:13
 returns-4 : tie.Need-returns-4
 returns-4 c = sound-four _ (simp (sym (c .before .before .before .before .before .may-precede .ensures) ∙ not-false _ (c .before .before .before .before .if2 .left), sym (c .before .before .before .may-precede2 .ensures) ∙ not-false _ (c .before .before .if3 .left), sym (c .before .may-precede3 .ensures) ∙ not-true _ (c .if4 .taken)))
 
--- src/faults.rt:173:9
 may-precede-requires-4 : tie.Need-may-precede-requires-4
 may-precede-requires-4 c κs = search needs
 
--- src/faults.rt:158:5
 returns-5 : tie.Need-returns-5
 returns-5 c = sound-four _ (simp (sym (c .before .before .before .before .before .before .may-precede .ensures) ∙ not-false _ (c .before .before .before .before .before .if2 .left), sym (c .before .before .before .before .may-precede2 .ensures) ∙ not-false _ (c .before .before .before .if3 .left), sym (c .before .before .may-precede3 .ensures) ∙ not-false _ (c .before .if4 .left), sym (c .may-precede4 .ensures)))
 

@@ -1,29 +1,22 @@
+-- `commands::faults::Faults::note` meets its contract. Assumes nothing.
 use borrow.Author.Tests.{eq-eqb, ne-eqb}
 use Rattle.commands.proofs.Places.{ignored, locking, queueing}
 use borrow.Author.Needs.{needs}
 use Rattle.commands.proofs.faults.Faults.note.Statement.{statement}
 use Rattle.commands.proofs.faults.Faults.note.Tie as tie
-use Rattle.commands.proofs.faults.Faults.note.Reads as reads
-use Rattle.commands.proofs.faults.Faults.note.Lts as lts
-use Rattle.commands.proofs.faults.Faults.queued.Reads as queued-reads
 
--- src/faults.rt:92:13
 returns : tie.Need-returns
 returns c = λ s. ignored s _ _ (eq-eqb _ _ (c .if1 .taken))
 
--- src/faults.rt:97:13
 returns-2 : tie.Need-returns-2
 returns-2 c = λ s. locking s _ _ (ne-eqb _ _ (c .before .if1 .left)) (simp (eq-eqb _ _ (c .if2 .taken)))
 
--- src/faults.rt:100:13
 returns-3 : tie.Need-returns-3
 returns-3 c = λ s. locking s _ _ (ne-eqb _ _ (c .before .before .if1 .left)) (simp (ne-eqb _ _ (c .before .if2 .left), eq-eqb _ _ (c .if3 .taken)))
 
--- src/faults.rt:102:9
 queued-requires : tie.Need-queued-requires
 queued-requires c κs = search needs
 
--- src/faults.rt:88:5
 returns-4 : tie.Need-returns-4
 returns-4 c = λ s. queueing s _ _ (ne-eqb _ _ (c .before .before .before .if1 .left)) (simp (ne-eqb _ _ (c .before .before .if2 .left), ne-eqb _ _ (c .before .if3 .left))) (c .queued .ensures)
 

@@ -1,11 +1,9 @@
+-- `commands::faults::Faults::read` meets its contract. Assumes nothing.
 use mathlib.Core.Path.{refl}
 use Rattle.commands.proofs.Places.{oldest-first}
 use Rattle.commands.proofs.faults.Faults.read.Statement.{statement}
 use Rattle.commands.proofs.faults.Faults.read.Tie as tie
-use Rattle.commands.proofs.faults.Faults.read.Reads as reads
-use Rattle.commands.proofs.faults.Faults.read.Lts as lts
 
--- src/faults.rt:106:5
 returns : tie.Need-returns
 returns c = oldest-first _ _ refl refl
 

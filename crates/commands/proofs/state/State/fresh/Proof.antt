@@ -1,17 +1,13 @@
+-- `commands::state::State::fresh` meets its contract. Assumes nothing.
 use Rattle.meaning.specs.State.{fresh}
 use Rattle.commands.specs.Queue.{queueOf, waiting}
 use borrow.Author.Needs.{needs}
 use Rattle.commands.proofs.state.State.fresh.Statement.{statement}
 use Rattle.commands.proofs.state.State.fresh.Tie as tie
-use Rattle.commands.proofs.state.State.fresh.Reads as reads
-use Rattle.commands.proofs.state.State.fresh.Lts as lts
-use Rattle.commands.proofs.faults.Faults.none.Reads as none-reads
 
--- src/state.rt:27:21
 none-requires : tie.Need-none-requires
 none-requires c κs = search needs
 
--- src/state.rt:19:5
 returns : tie.Need-returns
 unfolding fresh queueOf waiting
 returns c = λ p. rw (c .none .ensures)

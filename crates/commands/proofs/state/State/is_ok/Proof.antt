@@ -1,3 +1,4 @@
+-- `commands::state::State::is_ok` meets its contract. Assumes nothing.
 use mathlib.Core.Path.{_≡_, sym}
 use lib.ListN.{length}
 use borrow.Author.Tests.{le-leb, lt-leb, le-ltb, lt-ltb}
@@ -5,35 +6,25 @@ use Rattle.commands.proofs.States.{within}
 use borrow.Author.Needs.{needs}
 use Rattle.commands.proofs.state.State.is_ok.Statement.{statement}
 use Rattle.commands.proofs.state.State.is_ok.Tie as tie
-use Rattle.commands.proofs.state.State.is_ok.Reads as reads
-use Rattle.commands.proofs.state.State.is_ok.Lts as lts
-use Rattle.commands.proofs.faults.Faults.is_sound.Reads as is-sound-reads
-use Rattle.commands.proofs.state.size.Reads as size-reads
 
 four-codes : (c : tie.Start) → length (c .args .self .codes) ≡ 4
 four-codes c = search needs
 
--- src/state.rt:92:13
 returns : tie.Need-returns
 returns c = λ p l e few. within _ p l (four-codes (c .before .before)) few (simp (lt-leb _ _ (c .if1 .taken)))
 
--- src/state.rt:94:12
 size-requires : tie.Need-size-requires
 size-requires c κs = search needs
 
--- src/state.rt:94:26
 cast-if2 : tie.Need-cast-if2
 cast-if2 c = search needs
 
--- src/state.rt:95:13
 returns-2 : tie.Need-returns-2
 returns-2 c = λ p l e few. within _ p l (four-codes (c .before .before .before .before .before)) few (simp (e, le-leb _ _ (c .before .before .before .if1 .left), sym (c .before .before .size .ensures), le-ltb _ _ (c .if2 .taken)))
 
--- src/state.rt:97:9
 is-sound-requires : tie.Need-is-sound-requires
 is-sound-requires c κs = search needs
 
--- src/state.rt:87:5
 returns-3 : tie.Need-returns-3
 returns-3 c = λ p l e few. within _ p l (four-codes (c .before .before .before .before .before .before)) few (simp (e, le-leb _ _ (c .before .before .before .before .if1 .left), sym (c .before .before .before .size .ensures), lt-ltb _ _ (c .before .if2 .left), sym (c .is-sound .ensures)))
 

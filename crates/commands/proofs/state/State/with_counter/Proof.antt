@@ -1,11 +1,9 @@
+-- `commands::state::State::with_counter` meets its contract. Assumes nothing.
 use mathlib.Core.Path.{refl}
 use Rattle.meaning.specs.State.{withCounter}
 use Rattle.commands.proofs.state.State.with_counter.Statement.{statement}
 use Rattle.commands.proofs.state.State.with_counter.Tie as tie
-use Rattle.commands.proofs.state.State.with_counter.Reads as reads
-use Rattle.commands.proofs.state.State.with_counter.Lts as lts
 
--- src/state.rt:40:5
 returns : tie.Need-returns
 unfolding withCounter
 returns c = λ l. refl

@@ -1,12 +1,10 @@
+-- `commands::state::State::with_faults` meets its contract. Assumes nothing.
 use mathlib.Core.Path.{refl}
 use Rattle.meaning.specs.State.{withLock, withQueue}
 use Rattle.commands.specs.Queue.{holding}
 use Rattle.commands.proofs.state.State.with_faults.Statement.{statement}
 use Rattle.commands.proofs.state.State.with_faults.Tie as tie
-use Rattle.commands.proofs.state.State.with_faults.Reads as reads
-use Rattle.commands.proofs.state.State.with_faults.Lts as lts
 
--- src/state.rt:64:5
 returns : tie.Need-returns
 unfolding holding withLock withQueue
 returns c = λ l. refl

@@ -1,11 +1,9 @@
+-- `commands::state::State::with_measured` meets its contract. Assumes nothing.
 use mathlib.Core.Path.{refl}
 use Rattle.meaning.specs.State.{withMeasured}
 use Rattle.commands.proofs.state.State.with_measured.Statement.{statement}
 use Rattle.commands.proofs.state.State.with_measured.Tie as tie
-use Rattle.commands.proofs.state.State.with_measured.Reads as reads
-use Rattle.commands.proofs.state.State.with_measured.Lts as lts
 
--- src/state.rt:56:5
 returns : tie.Need-returns
 unfolding withMeasured
 returns c = λ l. refl

@@ -1,20 +1,15 @@
+-- `line::characters::Frame::current` meets its contract. Assumes nothing.
 use Rattle.line.proofs.Kept.{starts-anew}
 use borrow.Author.Needs.{needs}
 use Rattle.line.proofs.characters.Frame.current.Statement.{statement}
 use Rattle.line.proofs.characters.Frame.current.Tie as tie
-use Rattle.line.proofs.characters.Frame.current.Reads as reads
-use Rattle.line.proofs.characters.Frame.current.Lts as lts
-use Rattle.line.proofs.characters.Frame.none.Reads as none-reads
 
--- src/characters.rt:58:13
 returns : tie.Need-returns
 returns c = record { line = λ kept. simp (c .if1 .taken); few = λ h. h }
 
--- src/characters.rt:60:9
 none-requires : tie.Need-none-requires
 none-requires c κs = search needs
 
--- src/characters.rt:54:5
 returns-2 : tie.Need-returns-2
 returns-2 c = starts-anew _ (c .before .if1 .left) (c .none .ensures)
 

@@ -1,31 +1,24 @@
+-- `line::characters::Frame::push` meets its contract. Assumes nothing.
 use Rattle.line.proofs.Kept.{has-room, has-none}
 use borrow.Author.Needs.{needs}
 use Rattle.line.proofs.characters.Frame.push.Statement.{statement}
 use Rattle.line.proofs.characters.Frame.push.Tie as tie
-use Rattle.line.proofs.characters.Frame.push.Reads as reads
-use Rattle.line.proofs.characters.Frame.push.Lts as lts
 
--- src/characters.rt:75:22
 cast-at : tie.Need-cast-at
 cast-at c = search needs
 
--- src/characters.rt:76:13
 slice-write-kept : tie.Need-slice-write-kept
 slice-write-kept c = search needs
 
--- src/characters.rt:77:24
 add-next : tie.Need-add-next
 add-next c = search needs
 
--- src/characters.rt:78:13
 same-length : tie.Need-same-length
 same-length c = search needs
 
--- src/characters.rt:78:13
 returns : tie.Need-returns
 returns c = has-room _ _ _ _ _ (c .before .before .before .pre) (c .if1 .taken)
 
--- src/characters.rt:64:5
 returns-2 : tie.Need-returns-2
 returns-2 c = has-none _ _ _ _ _ (c .before .before .before .pre) (c .if1 .left)
 

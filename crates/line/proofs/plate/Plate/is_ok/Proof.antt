@@ -1,53 +1,41 @@
+-- `line::plate::Plate::is_ok` meets its contract. Assumes nothing.
 use mathlib.Core.Path.{sym, _∙_}
 use borrow.Author.Tests.{le-leb, lt-leb, not-false, not-true}
 use Rattle.meaning.specs.State.{plateOk}
 use borrow.Author.Needs.{needs}
 use Rattle.line.proofs.plate.Plate.is_ok.Statement.{statement}
 use Rattle.line.proofs.plate.Plate.is_ok.Tie as tie
-use Rattle.line.proofs.plate.Plate.is_ok.Reads as reads
-use Rattle.line.proofs.plate.Plate.is_ok.Lts as lts
-use Rattle.line.proofs.plate.pause_ok.Reads as pause-ok-reads
-use Rattle.line.proofs.plate.ticks_ok.Reads as ticks-ok-reads
 
--- src/plate.rt:24:13
 returns : tie.Need-returns
 unfolding plateOk
 returns c = simp (lt-leb _ _ (c .if1 .taken))
 
--- src/plate.rt:27:13
 returns-2 : tie.Need-returns-2
 unfolding plateOk
 returns-2 c = simp (le-leb _ _ (c .before .before .if1 .left), lt-leb _ _ (c .if2 .taken))
 
--- src/plate.rt:30:13
 returns-3 : tie.Need-returns-3
 unfolding plateOk
 returns-3 c = simp (le-leb _ _ (c .before .before .before .before .if1 .left), le-leb _ _ (c .before .before .if2 .left), lt-leb _ _ (c .if3 .taken))
 
--- src/plate.rt:33:13
 returns-4 : tie.Need-returns-4
 unfolding plateOk
 returns-4 c = simp (le-leb _ _ (c .before .before .before .before .before .before .if1 .left), le-leb _ _ (c .before .before .before .before .if2 .left), le-leb _ _ (c .before .before .if3 .left), lt-leb _ _ (c .if4 .taken))
 
--- src/plate.rt:36:13
 returns-5 : tie.Need-returns-5
 unfolding plateOk
 returns-5 c = simp (le-leb _ _ (c .before .before .before .before .before .before .before .before .if1 .left), le-leb _ _ (c .before .before .before .before .before .before .if2 .left), le-leb _ _ (c .before .before .before .before .if3 .left), le-leb _ _ (c .before .before .if4 .left), lt-leb _ _ (c .if5 .taken))
 
--- src/plate.rt:38:13
 ticks-ok-requires : tie.Need-ticks-ok-requires
 ticks-ok-requires c κs = search needs
 
--- src/plate.rt:39:13
 returns-6 : tie.Need-returns-6
 unfolding plateOk
 returns-6 c = simp (le-leb _ _ (c .before .before .before .before .before .before .before .before .before .before .if1 .left), le-leb _ _ (c .before .before .before .before .before .before .before .before .if2 .left), le-leb _ _ (c .before .before .before .before .before .before .if3 .left), le-leb _ _ (c .before .before .before .before .if4 .left), le-leb _ _ (c .before .before .if5 .left), sym (c .before .ticks-ok .ensures) ∙ not-true _ (c .if6 .taken))
 
--- src/plate.rt:41:9
 pause-ok-requires : tie.Need-pause-ok-requires
 pause-ok-requires c κs = search needs
 
--- src/plate.rt:20:5
 returns-7 : tie.Need-returns-7
 unfolding plateOk
 returns-7 c = simp (le-leb _ _ (c .before .before .before .before .before .before .before .before .before .before .before .if1 .left), le-leb _ _ (c .before .before .before .before .before .before .before .before .before .if2 .left), le-leb _ _ (c .before .before .before .before .before .before .before .if3 .left), le-leb _ _ (c .before .before .before .before .before .if4 .left), le-leb _ _ (c .before .before .before .if5 .left), sym (c .before .before .ticks-ok .ensures) ∙ not-false _ (c .before .if6 .left), sym (c .pause-ok .ensures))

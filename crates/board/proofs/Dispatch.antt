@@ -1,0 +1,178 @@
+-- Each command by its row: what it asks, and what it leaves as it was. Assumes nothing.
+use Prim.Native.Nat.{ℕ, _≤_}
+use mathlib.Core.Path.{_≡_, refl, sym, _∙_}
+use mathlib.Core.Bool.{Bool, true, false, false≢true}
+use mathlib.Core.List.{List, []}
+use borrow.Author.Tests.{eqb-true}
+use lib.Dec.{eqb}
+use lib.ListN.{length}
+use Rattle.meaning.specs.Bytes.{pick, either, among}
+use Rattle.meaning.specs.State as meaning
+use Rattle.meaning.specs.State.{none}
+use Rattle.meaning.specs.Commands as commands
+use Rattle.meaning.specs.Commands.{Command, c43, c49, c4A, c4B, c4C, c4D, c4E, c4F, unknown, commandOf, asked, row, lengthFits, error, choose, onField, readPosition, setPosition, readCounter, stepCounter, clearCounter, readField, storeField, fieldStatus, create, modify, delete, shapeField, memoryStatus, setCode, readFault, reset, worked}
+use Rattle.frame.specs.declared.answer.Answer.{Answer}
+use Rattle.frame.specs.Answers.{memoryAfter, stateAfter, Works}
+use Rattle.fields.specs.Memory.{Lent}
+use Rattle.fields.specs.Replies.{Asked}
+use Rattle.line.specs.declared.plate.Plate.{Plate}
+use Rattle.line.specs.Line.{plateOf}
+use Rattle.line.proofs.Limits.{total-fits, few-bits}
+use Rattle.commands.specs.declared.state.State.{State}
+use Rattle.commands.specs.declared.rows.Worked.{Worked}
+use Rattle.commands.specs.State.{stateWith}
+use Rattle.commands.specs.Rows.{Answers}
+use Rattle.board.specs.Work.{Workable, WorksOn, ofFields, OnFields}
+use Rattle.board.proofs.Endings.{unknown-never}
+
+-- what the rows ask
+module _ (p : Plate) (s : State) {c : ℕ} (d m w : List ℕ) (h : Workable p s c d m w) where
+  pub bits-fit : p .bits ≤ 32
+  bits-fit = few-bits (plateOf p) (h .plate)
+
+  pub lent : Lent (p .total) m w
+  lent = record { fit = record { few = total-fits (plateOf p) (h .plate); long = h .size }; room = h .room }
+
+  fitting : {k : Command} → commandOf c ≡ k → asked k d ≡ true
+  fitting e = rw e at (h .fits)
+
+  exact : (n : ℕ) {k : Command} → commandOf c ≡ k → ((x : List ℕ) → asked k x ≡ eqb (length x) n) → length d ≡ n
+  exact n e f = eqb-true (length d) n (sym (f d) ∙ fitting e)
+
+  pub five : c ≡ 0x43 → length d ≡ 5
+  unfolding commandOf asked row lengthFits
+  five e = exact 5 {k = c43} (rw e) (λ x. refl)
+
+  pub one : c ≡ 0x49 → length d ≡ 1
+  unfolding commandOf asked row lengthFits
+  one e = exact 1 {k = c49} (rw e) (λ x. refl)
+
+  pub three : c ≡ 0x4F → length d ≡ 3
+  unfolding commandOf asked row lengthFits
+  three e = exact 3 {k = c4F} (rw e) (λ x. refl)
+
+  pub asked-4A : c ≡ 0x4A → Asked c4A (p .total) m d w
+  unfolding commandOf
+  asked-4A e = record { lent = lent; wanted = fitting (rw e) }
+
+  pub asked-4B : c ≡ 0x4B → Asked c4B (p .total) m d w
+  unfolding commandOf
+  asked-4B e = record { lent = lent; wanted = fitting (rw e) }
+
+  pub asked-4C : c ≡ 0x4C → Asked c4C (p .total) m d w
+  unfolding commandOf
+  asked-4C e = record { lent = lent; wanted = fitting (rw e) }
+
+  pub asked-4D : c ≡ 0x4D → Asked c4D (p .total) m d w
+  unfolding commandOf
+  asked-4D e = record { lent = lent; wanted = fitting (rw e) }
+
+-- a command of the table that is none of the other eight works on the fields
+pub on-fields : (c : ℕ) (d : List ℕ) → asked (commandOf c) d ≡ true → eqb c 0x42 ≡ false → eqb c 0x43 ≡ false → eqb c 0x46 ≡ false → eqb c 0x47 ≡ false → eqb c 0x49 ≡ false
+    → eqb c 0x4F ≡ false → eqb c 0x50 ≡ false → eqb c 0x53 ≡ false → ofFields c ≡ true
+unfolding commandOf ofFields among
+on-fields c d h i j k l n o q r =
+    go (eqb c 0x4A) (eqb c 0x4B) (eqb c 0x4C) (eqb c 0x4D) (eqb c 0x4E) (rw (i, j, k, l, n, o, q, r) at h)
+  where
+    go : (t u v x y : Bool) → asked (pick t c4A (pick u c4B (pick v c4C (pick x c4D (pick y c4E unknown))))) d ≡ true
+        → either t (either u (either v (either x (either y false)))) ≡ true
+    go true u v x y e = refl
+    go false true v x y e = refl
+    go false false true x y e = refl
+    go false false false true y e = refl
+    go false false false false true e = refl
+    go false false false false false e = absurd (false≢true (sym (unknown-never d) ∙ e))
+
+pub last-of-fields : (c : ℕ) → ofFields c ≡ true → eqb c 0x4A ≡ false → eqb c 0x4B ≡ false → eqb c 0x4C ≡ false → eqb c 0x4D ≡ false → c ≡ 0x4E
+unfolding ofFields among
+last-of-fields c h i j k l = eqb-true c 0x4E (go (eqb c 0x4E) (rw (i, j, k, l) at h))
+  where
+    go : (t : Bool) → either t false ≡ true → t ≡ true
+    go true e = refl
+    go false e = e
+
+-- what the rows on the state leave of the memory, and those on the fields of the state
+module _ (m : List ℕ) where
+  keeps : (e : ℕ) (t : Bool) (a : commands.Answer) → memoryAfter a m ≡ m → memoryAfter (error e t a) m ≡ m
+  unfolding error
+  keeps e true a h = refl
+  keeps e false a h = h
+
+module _ (s : meaning.State) where
+  stays : (e : ℕ) (t : Bool) (a : commands.Answer) → stateAfter a s ≡ s → stateAfter (error e t a) s ≡ s
+  unfolding error
+  stays e true a h = refl
+  stays e false a h = h
+
+  chosen : (t : Bool) (a b : commands.Answer) → stateAfter a s ≡ s → stateAfter b s ≡ s → stateAfter (choose t a b) s ≡ s
+  unfolding choose
+  chosen true a b h k = h
+  chosen false a b h k = k
+
+module _ (p : meaning.Plate) (s : State) {c : ℕ} (d m w : List ℕ) {r : Worked} {w′ : List ℕ} where
+  pub row-42 : c ≡ 0x42 → Answers (readPosition p (stateWith s none) m d) s none w r w′ → WorksOn (worked (commandOf c) p (stateWith s none) m d) s m w r m w′
+  unfolding commandOf worked readPosition
+  row-42 e h = rw e (record { row = h; memory = sym (keeps m _ _ _ refl) })
+
+  pub row-43 : c ≡ 0x43 → Answers (setPosition p (stateWith s none) m d) s none w r w′ → WorksOn (worked (commandOf c) p (stateWith s none) m d) s m w r m w′
+  unfolding commandOf worked setPosition
+  row-43 e h = rw e (record { row = h; memory = sym (keeps m _ _ _ (keeps m _ _ _ (keeps m _ _ _ refl))) })
+
+  pub row-46 : c ≡ 0x46 → Answers (readCounter p (stateWith s none) m d) s none w r w′ → WorksOn (worked (commandOf c) p (stateWith s none) m d) s m w r m w′
+  unfolding commandOf worked readCounter
+  row-46 e h = rw e (record { row = h; memory = refl })
+
+  pub row-47 : c ≡ 0x47 → Answers (stepCounter p (stateWith s none) m d) s none w r w′ → WorksOn (worked (commandOf c) p (stateWith s none) m d) s m w r m w′
+  unfolding commandOf worked stepCounter choose
+  row-47 e h = rw e (record { row = h; memory = go (eqb (s .counter) 0xFFFFFF) })
+    where
+      go : (t : Bool) → m ≡ memoryAfter (choose t (commands.accept [] (meaning.withQueue (meaning.withCounter (stateWith s none) 0) (meaning.queued ((stateWith s none) .queue) 0x08)) m) (commands.accept [] (meaning.withCounter (stateWith s none) (Prim.Native.Nat._+_ (s .counter) 1)) m)) m
+      go true = refl
+      go false = refl
+
+  pub row-49 : c ≡ 0x49 → Answers (clearCounter p (stateWith s none) m d) s none w r w′ → WorksOn (worked (commandOf c) p (stateWith s none) m d) s m w r m w′
+  unfolding commandOf worked clearCounter
+  row-49 e h = rw e (record { row = h; memory = sym (keeps m _ _ _ refl) })
+
+  pub row-4F : c ≡ 0x4F → Answers (setCode p (stateWith s none) m d) s none w r w′ → WorksOn (worked (commandOf c) p (stateWith s none) m d) s m w r m w′
+  unfolding commandOf worked setCode
+  row-4F e h = rw e (record { row = h; memory = sym (keeps m _ _ _ (keeps m _ _ _ refl)) })
+
+  pub row-50 : c ≡ 0x50 → Answers (readFault p (stateWith s none) m d) s none w r w′ → WorksOn (worked (commandOf c) p (stateWith s none) m d) s m w r m w′
+  unfolding commandOf worked readFault
+  row-50 e h = rw e (record { row = h; memory = refl })
+
+  pub row-53 : c ≡ 0x53 → Answers (reset p (stateWith s none) m d) s none w r w′ → WorksOn (worked (commandOf c) p (stateWith s none) m d) s m w r m w′
+  unfolding commandOf worked reset
+  row-53 e h = rw e (record { row = h; memory = refl })
+
+-- the rows on the fields
+module _ (p : meaning.Plate) (s : meaning.State) {c : ℕ} (d m w : List ℕ) {r : Answer} {m′ w′ : List ℕ} where
+  pub row-4A : c ≡ 0x4A → Works (readField p s m d) m w r m′ w′ → OnFields (worked (commandOf c) p s m d) s m w r m′ w′
+  unfolding commandOf worked readField onField
+  row-4A e h = rw e (record { works = h; state = stays s _ _ _ (stays s _ _ _ (stays s _ _ _ (stays s _ _ _ (stays s _ _ _ refl)))) })
+
+  pub row-4B : c ≡ 0x4B → Works (storeField p s m d) m w r m′ w′ → OnFields (worked (commandOf c) p s m d) s m w r m′ w′
+  unfolding commandOf worked storeField onField
+  row-4B e h = rw e (record { works = h; state = stays s _ _ _ (stays s _ _ _ (stays s _ _ _ (stays s _ _ _ (stays s _ _ _ refl)))) })
+
+  pub row-4C : c ≡ 0x4C → Works (fieldStatus p s m d) m w r m′ w′ → OnFields (worked (commandOf c) p s m d) s m w r m′ w′
+  unfolding commandOf worked fieldStatus onField
+  row-4C e h = rw e (record { works = h; state = stays s _ _ _ (stays s _ _ _ refl) })
+
+  pub row-4D : c ≡ 0x4D → Works (shapeField p s m d) m w r m′ w′ → OnFields (worked (commandOf c) p s m d) s m w r m′ w′
+  unfolding commandOf worked shapeField create modify delete
+  row-4D e h =
+      rw e (record {
+        works = h;
+        state = stays s _ _ _ (chosen s _ _ _ (chosen s _ _ _ (stays s _ _ _ (stays s _ _ _ refl)) (chosen s _ _ _ (stays s _ _ _ (stays s _ _ _ (stays s _ _ _ refl))) refl))
+            (chosen s _ _ _ (stays s _ _ _ (stays s _ _ _ refl)) refl));
+      })
+
+  pub row-4E : c ≡ 0x4E → Works (memoryStatus p s m d) m w r m′ w′ → OnFields (worked (commandOf c) p s m d) s m w r m′ w′
+  unfolding commandOf worked memoryStatus
+  row-4E e h = rw e (record { works = h; state = stays s _ _ _ refl })
+
+pub fields-worked : (a : commands.Answer) (s : State) (m w : List ℕ) {r : Answer} {m′ w′ : List ℕ} → OnFields a (stateWith s none) m w r m′ w′
+    → WorksOn a s m w (record { state = s; answer = r }) m′ w′
+fields-worked a s m w h = record { row = record { answer = h .works .answer; state = sym (h .state); room = h .works .room }; memory = h .works .memory }

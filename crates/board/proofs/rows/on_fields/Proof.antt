@@ -1,0 +1,96 @@
+-- `board::rows::on_fields` meets its contract. Assumes nothing.
+use mathlib.Core.Path.{refl}
+use borrow.Author.Tests.{ne-eqb}
+use Rattle.board.proofs.Dispatch.{asked-4A, asked-4B, asked-4C, asked-4D, lent, row-4A, row-4B, row-4C, row-4D, row-4E, last-of-fields}
+use borrow.Author.Needs.{needs}
+use Rattle.board.proofs.rows.on_fields.Statement.{statement}
+use Rattle.board.proofs.rows.on_fields.Tie as tie
+
+cast-total : tie.Need-cast-total
+cast-total c = search needs
+
+read-field-requires : tie.Need-read-field-requires
+read-field-requires c κs = asked-4A _ _ _ _ _ (c .before .before .before .before .before .before .before .before .pre .0) (c .before .before .if1 .taken)
+
+same-length : tie.Need-same-length
+same-length c = search needs
+
+same-length-2 : tie.Need-same-length-2
+same-length-2 c = search needs
+
+returns : tie.Need-returns
+returns c = row-4A _ _ _ _ _ (c .before .before .before .before .before .if1 .taken) (c .before .before .read-field .ensures _ _ refl refl)
+
+store-field-requires : tie.Need-store-field-requires
+store-field-requires c κs = asked-4B _ _ _ _ _ (c .before .before .before .before .before .before .before .before .before .pre .0) (c .before .before .if2 .taken)
+
+same-length-3 : tie.Need-same-length-3
+same-length-3 c = search needs
+
+same-length-4 : tie.Need-same-length-4
+same-length-4 c = search needs
+
+returns-2 : tie.Need-returns-2
+returns-2 c = row-4B _ _ _ _ _ (c .before .before .before .before .before .before .before .if2 .taken) (c .before .before .before .before .store-field .ensures _ _ refl refl)
+
+field-status-requires : tie.Need-field-status-requires
+field-status-requires c κs = asked-4C _ _ _ _ _ (c .before .before .before .before .before .before .before .before .before .before .pre .0) (c .before .before .if3 .taken)
+
+same-length-5 : tie.Need-same-length-5
+same-length-5 c = search needs
+
+same-length-6 : tie.Need-same-length-6
+same-length-6 c = search needs
+
+returns-3 : tie.Need-returns-3
+returns-3 c = row-4C _ _ _ _ _ (c .before .before .before .before .before .if3 .taken) (c .before .before .field-status .ensures _ _ refl)
+
+shape-field-requires : tie.Need-shape-field-requires
+shape-field-requires c κs = asked-4D _ _ _ _ _ (c .before .before .before .before .before .before .before .before .before .before .before .pre .0) (c .before .before .if4 .taken)
+
+same-length-7 : tie.Need-same-length-7
+same-length-7 c = search needs
+
+same-length-8 : tie.Need-same-length-8
+same-length-8 c = search needs
+
+returns-4 : tie.Need-returns-4
+returns-4 c = row-4D _ _ _ _ _ (c .before .before .before .before .before .before .before .if4 .taken) (c .before .before .before .before .shape-field .ensures _ _ refl refl)
+
+memory-status-requires : tie.Need-memory-status-requires
+memory-status-requires c κs = lent _ _ _ _ _ (c .before .before .before .before .before .before .before .before .before .before .before .pre .0)
+
+same-length-9 : tie.Need-same-length-9
+same-length-9 c = search needs
+
+same-length-10 : tie.Need-same-length-10
+same-length-10 c = search needs
+
+returns-5 : tie.Need-returns-5
+returns-5 c = row-4E _ _ _ _ _ (last-of-fields _ (c .before .before .before .before .before .before .before .before .before .before .before .before .before .before .pre .1) (ne-eqb _ _ (c .before .before .before .before .before .before .before .before .if1 .left)) (ne-eqb _ _ (c .before .before .before .before .before .before .before .if2 .left)) (ne-eqb _ _ (c .before .before .before .before .before .before .if3 .left)) (ne-eqb _ _ (c .before .before .before .before .before .if4 .left))) (c .before .before .memory-status .ensures _ _ _ refl)
+
+pub on-fields-spec : {M : Type 1} → statement M
+on-fields-spec =
+    tie.close
+    (tie.spec
+    cast-total
+    read-field-requires
+    same-length
+    same-length-2
+    returns
+    store-field-requires
+    same-length-3
+    same-length-4
+    returns-2
+    field-status-requires
+    same-length-5
+    same-length-6
+    returns-3
+    shape-field-requires
+    same-length-7
+    same-length-8
+    returns-4
+    memory-status-requires
+    same-length-9
+    same-length-10
+    returns-5)
