@@ -3,3 +3,4 @@ mod Hearing
 mod Turning
 mod Closings
 mod Beginning
+mod Playing

@@ -7,7 +7,7 @@ use lib.ListN.{length, take, drop}
 use Rattle.meaning.specs.Run.{poll}
 use Rattle.line.specs.declared.plate.Plate.{Plate}
 use Rattle.line.specs.declared.characters.Frame.{Frame}
-use Rattle.line.specs.Line.{plateOf, lineOf, Fits}
+use Rattle.line.specs.Line.{plateOf, lineOf}
 use Rattle.commands.specs.declared.state.State.{State}
 use Rattle.commands.specs.State.{stateWith}
 use Rattle.board.specs.declared.limits.Board.{Board}
@@ -62,7 +62,7 @@ runs p s f kept m = running (plateOf p) (stateWith s (lineOf f kept)) m
 -- a record that closes no frame: whatever state, memory and place, the turn prints nothing and leaves the frame f
 pub record Quiet (p : Plate) (f₀ : Frame) (kept : List ℕ) (x : Said) (f : Frame) (kept′ : List ℕ) : Type 0 where
   pub turned : (s : State) (m : List ℕ) (place : ℕ) → turn (runs p s f₀ kept m) place x ≡ record { stage = runs p s f kept′ m; printed = [] }
-  pub fits : Fits f kept′
+  pub within : (s : State) (m : List ℕ) → Within (plateOf p) (record { state = s; frame = f₀ }) kept m → Within (plateOf p) (record { state = s; frame = f }) kept′ m
 
 abbrev pub Quickens : Plate → Frame → List ℕ → Said → Pace → List ℕ → Type 0
 Quickens p f kept x (Went g) kept′ = Quiet p f kept x g kept′

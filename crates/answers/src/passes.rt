@@ -105,13 +105,13 @@ fn play(
                             out,
                             used,
                         );
+                        let after = turned.board;
+                        state = after.state;
+                        frame = after.frame;
                         used = turned.used;
                         if turned.over {
                             return halt(state, frame, at, used, Stop::Over);
                         }
-                        let after = turned.board;
-                        state = after.state;
-                        frame = after.frame;
                     }
                 }
                 at = next;

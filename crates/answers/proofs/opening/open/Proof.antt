@@ -1,3 +1,7 @@
+use mathlib.Core.Path.{sym, _∙_}
+use Rattle.answers.proofs.Beginning.{opens, fails}
+use Rattle.answers.proofs.Hearing.{not-yet, none-there, body-inside, past-it, said-there}
+-- `answers::opening::open` meets its contract. Assumes nothing.
 use borrow.Author.Needs.{needs}
 use Rattle.answers.proofs.opening.open.Statement.{statement}
 use Rattle.answers.proofs.opening.open.Tie as tie
@@ -25,7 +29,7 @@ enum-known-kind c = search needs
 
 -- src/opening.rt:57:17
 event-of-requires : tie.Need-event-of-requires
-event-of-requires c κs = ?
+event-of-requires c κs = body-inside _ _ _ _ _ _ (sym (c .before .before .before .read .ensures) ∙ c .before .kind .given .1)
 
 -- src/opening.rt:58:13
 begin-requires : tie.Need-begin-requires
@@ -33,15 +37,18 @@ begin-requires c κs = search needs
 
 -- src/opening.rt:44:1
 returns : tie.Need-returns
-returns c = ?
+returns c = sym (not-yet _ _ (sym (c .before .before .read .ensures) ∙ c .enum-told .given .1) .heard)
 
 -- src/opening.rt:44:1
 returns-2 : tie.Need-returns-2
-returns-2 c = ?
+returns-2 c = fails _ (sym (none-there _ _ (sym (c .before .before .read .ensures) ∙ c .enum-told2 .given .1) .heard))
 
 -- src/opening.rt:44:1
 returns-3 : tie.Need-returns-3
-returns-3 c = ?
+returns-3 c =
+    let e = sym (c .before .before .before .before .before .read .ensures) ∙ c .before .before .before .kind .given .1 in
+    let q = past-it _ _ _ _ _ _ e in
+    rw (c .begin .ensures) (opens _ _ ? (q .inside) _ (said-there _ _ _ _ _ _ e (c .before .event-of .ensures)))
 
 pub open-spec : {M : Type 1} → statement M
 open-spec =

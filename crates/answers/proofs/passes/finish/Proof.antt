@@ -11,7 +11,9 @@ use Rattle.tape.proofs.bad_line.Reads as bad-line-reads
 
 -- src/passes.rt:258:9
 returns : tie.Need-returns
-returns c = λ kept m. no-text _ _ (none-left _ _ _ _ _ _ _ (c .if1 .taken)) (omega (arith, c .before .before .before .pre))
+returns c =
+    let a = c .before .before .before .args in
+    λ kept m. no-text _ _ (none-left (a .session) kept m (a .rest .now) (c .if1 .taken)) (omega (arith, c .before .before .before .pre))
 
 -- src/passes.rt:262:9
 enum-told : tie.Need-enum-told
@@ -19,7 +21,9 @@ enum-told c = search needs
 
 -- src/passes.rt:262:9
 returns-2 : tie.Need-returns-2
-returns-2 c = λ kept m. no-text _ _ (was-ended _ _ _ _ _ _ _ (c .enum-told .given .1)) (omega (arith, c .before .before .before .before .before .pre))
+returns-2 c =
+    let a = c .before .before .before .before .before .args in
+    λ kept m. no-text _ _ (was-ended (a .session) kept m (a .rest .now) (c .enum-told .given .1)) (omega (arith, c .before .before .before .before .before .pre))
 
 -- src/passes.rt:264:5
 bad-line-requires : tie.Need-bad-line-requires
@@ -31,7 +35,9 @@ same-length c = search needs
 
 -- src/passes.rt:253:1
 returns-3 : tie.Need-returns-3
-returns-3 c = λ kept m. printed-as (sym (cut-off _ _ _ _ _ _ _ (c .before .before .before .before .match .keys2) (c .before .before .before .before .before .if1 .left))) (c .before .before .bad-line .ensures)
+returns-3 c =
+    let a = c .before .before .before .before .before .before .before .before .args in
+    λ kept m. printed-as (sym (cut-off (a .session) kept m (a .rest .now) (c .before .before .before .before .match .keys2) (c .before .before .before .before .before .if1 .left))) (c .before .before .bad-line .ensures)
 
 pub finish-spec : {M : Type 1} → statement M
 finish-spec =

@@ -141,27 +141,27 @@ add-here c = ?
 turn-requires : tie.Need-turn-requires Inv-loop μ-loop
 turn-requires c κs = ?
 
--- src/passes.rt:101:29
+-- src/passes.rt:113:29
 halt-requires-4 : tie.Need-halt-requires-4 Inv-loop μ-loop
 halt-requires-4 c κs = ?
 
--- src/passes.rt:101:29
+-- src/passes.rt:113:29
 same-length-13 : tie.Need-same-length-13 Inv-loop μ-loop
 same-length-13 c = ?
 
--- src/passes.rt:101:29
+-- src/passes.rt:113:29
 same-length-14 : tie.Need-same-length-14 Inv-loop μ-loop
 same-length-14 c = ?
 
--- src/passes.rt:101:29
+-- src/passes.rt:113:29
 same-length-15 : tie.Need-same-length-15 Inv-loop μ-loop
 same-length-15 c = ?
 
--- src/passes.rt:101:29
+-- src/passes.rt:113:29
 same-length-16 : tie.Need-same-length-16 Inv-loop μ-loop
 same-length-16 c = ?
 
--- src/passes.rt:101:29
+-- src/passes.rt:113:29
 returns-4 : tie.Need-returns-4 Inv-loop μ-loop
 returns-4 c = ?
 

@@ -1,3 +1,6 @@
+use mathlib.Core.Path.{sym, _∙_, ap, refl}
+use Rattle.answers.specs.declared.passes.Eaten.{Eaten}
+-- `answers::passes::refuse` meets its contract. Assumes nothing.
 use borrow.Author.Needs.{needs}
 use Rattle.answers.proofs.passes.refuse.Statement.{statement}
 use Rattle.answers.proofs.passes.refuse.Tie as tie
@@ -20,7 +23,9 @@ same-length c = search needs
 
 -- src/passes.rt:191:1
 returns : tie.Need-returns
-returns c = ?
+returns c =
+    let e = c .stopped .ensures in
+    record { eaten = rw e refl; printed = rw e (c .before .before .before .before .before .bad-line .ensures) }
 
 pub refuse-spec : {M : Type 1} → statement M
 refuse-spec = tie.close (tie.spec bad-line-requires stopped-requires same-length returns)

@@ -48,7 +48,7 @@ returns-3 c =
 
 -- src/turns.rt:63:1
 returns-4 : tie.Need-returns-4
-returns-4 c = rw (c .before .before .before .event2 .given .1) (quiet-poll _ _ _ _ (λ s. sym (c .before .is-over2 .ensures _ _ refl) ∙ c .if2 .left) (c .before .before .before .before .before .before .pre))
+returns-4 c = rw (c .before .before .before .event2 .given .1) (quiet-poll _ _ _ _ (λ s. sym (c .before .is-over2 .ensures _ _ refl) ∙ c .if2 .left))
 
 -- src/turns.rt:63:1
 returns-5 : tie.Need-returns-5
