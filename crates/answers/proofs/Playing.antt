@@ -16,16 +16,18 @@ use Rattle.commands.specs.declared.state.State.{State}
 use Rattle.commands.specs.State.{stateWith}
 use Rattle.board.specs.declared.limits.Board.{Board}
 use Rattle.tape.specs.Records.{wholeLength}
-use Rattle.tape.specs.Kinds.{Said}
-use Rattle.tape.specs.Answers.{Stage, opening, running, ended, Turn, turn}
+use Rattle.tape.specs.Kinds.{Said, unfit}
+use Rattle.tape.specs.Text.{badLine}
+use Rattle.tape.specs.Answers.{Stage, running, ended, Turn, bad, turn}
 use Rattle.tape.specs.Passes as passes
 use Rattle.tape.specs.Passes.{Pass, pass, stopped, after, hearing, heard, nothing, said, longestLine}
 use Rattle.tape.specs.Reader.{Printed}
 use Rattle.tape.proofs.Texts.{same-room, joined}
-use Rattle.answers.specs.Turns.{Sound, runs, Past}
+use Rattle.answers.specs.Turns.{Sound, runs, Past, Quiet, Turns, stageAfter}
 use Rattle.answers.specs.Sessions.{Plays, stopTold, stageFrom, phaseAfter}
 use Rattle.answers.proofs.Closings.{no-text}
 use Rattle.answers.specs.declared.passes.Played.{Played}
+use Rattle.answers.specs.declared.turns.Turned.{Turned}
 use Rattle.answers.specs.declared.session.Stop.the-variants.{More, Full, Over}
 use Rattle.answers.specs.declared.session.Phase.the-variants.{Running}
 
@@ -179,3 +181,37 @@ module _ {p : Plate} {place : ℕ} {window : List ℕ} {from : ℕ} {kept₀ m�
       → Printed ((done x) .printed) out used used′ out′ → Sound p (record { state = s′; frame = f′ }) kept′ m′ w′ → Past at window next
       → Going p place window from kept₀ m₀ out₀ start s₀ f₀ kept′ m′ w′ out′ s′ f′ next used′
   goes-on x next used′ = goes (g .fuel) x next used′ refl
+
+  -- no record begins there
+  pub breaks : {out′ : List ℕ} (end : ℕ) (r : Played) → longestLine ≤ length out - used → heard (drop at window) ≡ said unfit
+      → Printed (badLine (place + at)) out used end out′ → r ≡ record { board = record { state = s; frame = f }; at = at; used = end; stop = Over }
+      → Plays p all from window out₀ start r kept m w out′
+  unfolding turn bad
+  breaks end r h e pr d = ends s f unfit end r h e refl pr (g .sound) d
+
+  -- a record that closes no frame
+  pub quiet-goes : {kept′ : List ℕ} {f′ : Frame} (x : Said) (next : ℕ) → longestLine ≤ length out - used → heard (drop at window) ≡ said x
+      → Quiet p f kept x f′ kept′ → Past at window next
+      → Going p place window from kept₀ m₀ out₀ start s₀ f₀ kept′ m w out s f′ next used
+  quiet-goes x next h e q past =
+      let t = q .turned s m (place + at) in
+      goes-on x next used h e (ap (λ (y : Turn). y .stage) t) (no-text out used (ap (λ (y : Turn). y .printed) t) (omega (arith, g .printed .within, same-room (g .printed))))
+      (record { within = q .within s m (g .sound .within); room = g .sound .room }) past
+
+  -- any other record: a bad one, a good one
+  module _ {keptq kept′ m′ w′ out′ : List ℕ} (x : Said) (q : Turned) (same : keptq ≡ kept) (h : longestLine ≤ length out - used) (e : heard (drop at window) ≡ said x)
+      (t : Turns p (record { state = s; frame = f }) (place + at) x keptq m out used q kept′ m′ w′ out′) where
+
+    turns : Turns p (record { state = s; frame = f }) (place + at) x kept m out used q kept′ m′ w′ out′
+    turns = rw same at t
+
+    pub turn-ends : (r : Played) → q .over ≡ true → r ≡ record { board = record { state = q .board .state; frame = q .board .frame }; at = at; used = q .used; stop = Over }
+        → Plays p all from window out₀ start r kept′ m′ w′ out′
+    turn-ends r o d =
+        ends (q .board .state) (q .board .frame) x (q .used) r h e (sym (turns .stage) ∙ ap (λ (b : Bool). stageAfter b (runs p (q .board .state) (q .board .frame) kept′ m′)) o)
+        (turns .printed) (turns .sound) d
+
+    pub turn-goes : (next : ℕ) → q .over ≡ false → Past at window next
+        → Going p place window from kept₀ m₀ out₀ start s₀ f₀ kept′ m′ w′ out′ (q .board .state) (q .board .frame) next (q .used)
+    turn-goes next o past =
+        goes-on x next (q .used) h e (sym (turns .stage) ∙ ap (λ (b : Bool). stageAfter b (runs p (q .board .state) (q .board .frame) kept′ m′)) o) (turns .printed) (turns .sound) past

@@ -1,3 +1,4 @@
+use native.Mathlib.Nat.{zero-add}
 use mathlib.Core.Path.{sym, _∙_}
 use Rattle.answers.proofs.Beginning.{opens, fails}
 use Rattle.answers.proofs.Hearing.{not-yet, none-there, body-inside, past-it, said-there}
@@ -48,7 +49,7 @@ returns-3 : tie.Need-returns-3
 returns-3 c =
     let e = sym (c .before .before .before .before .before .read .ensures) ∙ c .before .before .before .kind .given .1 in
     let q = past-it _ _ _ _ _ _ e in
-    rw (c .begin .ensures) (opens _ _ ? (q .inside) _ (said-there _ _ _ _ _ _ e (c .before .event-of .ensures)))
+    rw (c .begin .ensures) (opens _ _ (q .whole ∙ zero-add _) (q .inside) (c .before .event-of .result) (said-there _ _ _ _ _ _ e (c .before .event-of .ensures)))
 
 pub open-spec : {M : Type 1} → statement M
 open-spec =

@@ -1,0 +1,68 @@
+use borrow.Author.Needs.{needs}
+use Rattle.answers.proofs.passes.go_on.Statement.{statement}
+use Rattle.answers.proofs.passes.go_on.Tie as tie
+use Rattle.answers.proofs.passes.go_on.Reads as reads
+use Rattle.answers.proofs.passes.go_on.Lts as lts
+use Rattle.answers.proofs.passes.image_length.Reads as image-length-reads
+use Rattle.answers.proofs.passes.phase_after.Reads as phase-after-reads
+use Rattle.answers.proofs.passes.play.Reads as play-reads
+
+-- src/passes.rt:169:9
+image-length-requires : tie.Need-image-length-requires
+image-length-requires c κs = ?
+
+-- src/passes.rt:177:9
+slice-relend-prefix-play : tie.Need-slice-relend-prefix-play
+slice-relend-prefix-play c = ?
+
+-- src/passes.rt:177:9
+slice-aggregate-play : tie.Need-slice-aggregate-play
+slice-aggregate-play c = ?
+
+-- src/passes.rt:170:9
+play-requires : tie.Need-play-requires
+play-requires c κs = ?
+
+-- src/passes.rt:183:9
+phase-after-requires : tie.Need-phase-after-requires
+phase-after-requires c κs = search needs
+
+-- src/passes.rt:189:16
+add-t26 : tie.Need-add-t26
+add-t26 c = search needs
+
+-- src/passes.rt:154:1
+same-length : tie.Need-same-length
+same-length c = search needs
+
+-- src/passes.rt:154:1
+same-length-2 : tie.Need-same-length-2
+same-length-2 c = search needs
+
+-- src/passes.rt:154:1
+same-length-3 : tie.Need-same-length-3
+same-length-3 c = search needs
+
+-- src/passes.rt:154:1
+same-length-4 : tie.Need-same-length-4
+same-length-4 c = search needs
+
+-- src/passes.rt:154:1
+returns : tie.Need-returns
+returns c = ?
+
+pub go-on-spec : {M : Type 1} → statement M
+go-on-spec =
+    tie.close
+    (tie.spec
+    image-length-requires
+    slice-relend-prefix-play
+    slice-aggregate-play
+    play-requires
+    phase-after-requires
+    add-t26
+    same-length
+    same-length-2
+    same-length-3
+    same-length-4
+    returns)
