@@ -275,3 +275,28 @@ any-parts fs s =
     let r = fed opening 0 [] fs in
     ap (λ (l : List ℕ). firstLine ++ l)
     (sym (fed-splits opening 0 [] fs ∙ ap (λ (l : List ℕ). r .printed ++ l) (settled-splits (r .stage) (r .place) (r .left) s)))
+
+-- ---- a bound on the records that is large enough does not matter
+
+abbrev goes : ℕ → ℕ → Stage → ℕ → List ℕ → Said → Pass
+goes k space w at t x = pass k (space - length ((turn w at x) .printed)) ((turn w at x) .stage) (at + wholeLength t) (drop (wholeLength t) t)
+
+alike : (n m space : ℕ) (w : Stage) (at : ℕ) (t : List ℕ) (r : Heard) → Front t r → length t < suc n → length t < suc m
+    → ((x : Said) → length (drop (wholeLength t) t) < n → length (drop (wholeLength t) t) < m → goes n space w at t x ≡ goes m space w at t x)
+    → hearing r (stopped w more) (λ x. after ((turn w at x) .stage) ((turn w at x) .printed) (wholeLength t) (goes n space w at t x))
+    ≡ hearing r (stopped w more) (λ x. after ((turn w at x) .stage) ((turn w at x) .printed) (wholeLength t) (goes m space w at t x))
+unfolding hearing after
+alike n m space w at t r (cut-off e) h k same = refl
+alike n m space w at t r (stands x l i f) h k same =
+    let g : length (drop (wholeLength t) t) ≡ length t - wholeLength t = length-drop (wholeLength t) t in
+    ap (after ((turn w at x) .stage) ((turn w at x) .printed) (wholeLength t)) (same x (omega arith) (omega arith))
+alike n m space w at t r (broken l f) h k same = rw (unfit-ends w at)
+
+pub pass-enough : (n m space : ℕ) (w : Stage) (at : ℕ) (t : List ℕ) → length t < n → length t < m → pass n space w at t ≡ pass m space w at t
+unfolding pass
+pass-enough zero m space w at t h k = absurd (omega arith)
+pass-enough (suc n) zero space w at t h k = absurd (omega arith)
+pass-enough (suc n) (suc m) space w at t h k =
+    let same = alike n m space w at t (heard t) (front t) h k
+        (λ x i j. pass-enough n m (space - length ((turn w at x) .printed)) ((turn w at x) .stage) (at + wholeLength t) (drop (wholeLength t) t) i j) in
+    ap (λ (p : Pass). pick (ltb space longestLine) (stopped w full) p) same
