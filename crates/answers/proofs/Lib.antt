@@ -4,3 +4,4 @@ mod Turning
 mod Closings
 mod Beginning
 mod Playing
+mod Eating

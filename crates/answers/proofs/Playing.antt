@@ -34,15 +34,15 @@ use Rattle.answers.specs.declared.session.Phase.the-variants.{Running}
 -- ---- one turn of a pass
 
 module _ (n space : ℕ) (w : Stage) (at : ℕ) (t : List ℕ) where
-  pass-full : space < longestLine → pass (suc n) space w at t ≡ stopped w passes.full
+  pub pass-full : space < longestLine → pass (suc n) space w at t ≡ stopped w passes.full
   unfolding pass
   pass-full h = rw (lt-ltb space longestLine h)
 
-  pass-more : longestLine ≤ space → heard t ≡ nothing → pass (suc n) space w at t ≡ stopped w passes.more
+  pub pass-more : longestLine ≤ space → heard t ≡ nothing → pass (suc n) space w at t ≡ stopped w passes.more
   unfolding pass hearing
   pass-more h e = rw (le-ltb space longestLine h, e)
 
-  pass-turn : (x : Said) → longestLine ≤ space → heard t ≡ said x
+  pub pass-turn : (x : Said) → longestLine ≤ space → heard t ≡ said x
       → pass (suc n) space w at t
       ≡ after ((turn w at x) .stage) ((turn w at x) .printed) (wholeLength t) (pass n (space - length ((turn w at x) .printed)) ((turn w at x) .stage) (at + wholeLength t) (drop (wholeLength t) t))
   unfolding pass hearing

@@ -1,3 +1,8 @@
+use mathlib.Core.Path.{sym, _∙_}
+use lib.Seq.{length-take-le}
+use Rattle.line.proofs.Limits.{total-fits}
+use Rattle.answers.proofs.Eating.{in-front, goes-from}
+-- `answers::passes::go_on` meets its contract: the front of the lent memory goes out and comes back. Assumes nothing.
 use borrow.Author.Needs.{needs}
 use Rattle.answers.proofs.passes.go_on.Statement.{statement}
 use Rattle.answers.proofs.passes.go_on.Tie as tie
@@ -9,19 +14,21 @@ use Rattle.answers.proofs.passes.play.Reads as play-reads
 
 -- src/passes.rt:169:9
 image-length-requires : tie.Need-image-length-requires
-image-length-requires c κs = ?
+image-length-requires c κs = total-fits _ (c .before .before .before .before .before .pre .sound .within .plate)
 
 -- src/passes.rt:177:9
 slice-relend-prefix-play : tie.Need-slice-relend-prefix-play
-slice-relend-prefix-play c = ?
+slice-relend-prefix-play c = in-front _ _ _ _ _ _ _ _ _ _ _ (c .before .image-length .ensures) (c .before .before .before .before .before .before .before .pre)
 
 -- src/passes.rt:177:9
 slice-aggregate-play : tie.Need-slice-aggregate-play
-slice-aggregate-play c = ?
+slice-aggregate-play c = sym (length-take-le _ _ (in-front _ _ _ _ _ _ _ _ _ _ _ (c .before .before .image-length .ensures) (c .before .before .before .before .before .before .before .before .pre)))
 
 -- src/passes.rt:170:9
 play-requires : tie.Need-play-requires
-play-requires c κs = ?
+play-requires c κs =
+    let a = c .before .before .before .before .before .before .before .before .before .before .pre in
+    (rw (c .before .before .before .before .image-length .ensures) (a .sound), (a .starts, a .space, a .places))
 
 -- src/passes.rt:183:9
 phase-after-requires : tie.Need-phase-after-requires
@@ -49,7 +56,7 @@ same-length-4 c = search needs
 
 -- src/passes.rt:154:1
 returns : tie.Need-returns
-returns c = ?
+returns c = goes-from _ _ _ _ _ _ _ _ _ _ _ (c .before .before .before .before .before .before .before .before .before .before .before .before .before .before .before .image-length .ensures) (c .before .before .before .before .before .before .before .before .before .before .before .before .before .before .before .before .before .before .before .before .before .pre) _ _ _ _ _ (c .before .before .before .before .before .before .before .before .before .before .play .ensures) _ (c .before .phase-after .ensures)
 
 pub go-on-spec : {M : Type 1} → statement M
 go-on-spec =
