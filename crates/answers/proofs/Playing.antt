@@ -89,7 +89,6 @@ begins p place window from kept m w out start s f sound h k = record {
 
 module _ {p : Plate} {place : ℕ} {window : List ℕ} {from : ℕ} {kept₀ m₀ out₀ : List ℕ} {start : ℕ} {s₀ : State} {f₀ : Frame}
     {kept m w out : List ℕ} {s : State} {f : Frame} {at used : ℕ} (g : Going p place window from kept₀ m₀ out₀ start s₀ f₀ kept m w out s f at used) where
-
   abbrev all : Pass
   all = pass (suc (length window)) (length out₀ - start) (runs p s₀ f₀ kept₀ m₀) (place + from) (drop from window)
 
@@ -135,7 +134,7 @@ module _ {p : Plate} {place : ℕ} {window : List ℕ} {from : ℕ} {kept₀ m�
   unfolding after
   ends s′ f′ x end r h e k pr sound d =
       let q : all ≡ before (g .read) (g .text) (record { stage = ended; read = 0; printed = (done x) .printed; stop = passes.over })
-          = g .whole ∙ ap (before (g .read) (g .text)) (pass-turn (g .fuel) (length out - used) here (place + at) (drop at window) x h e ∙ rw k) in
+      = g .whole ∙ ap (before (g .read) (g .text)) (pass-turn (g .fuel) (length out - used) here (place + at) (drop at window) x h e ∙ rw k) in
       rw (q, d)
       (record {
         read = rw add-zero (g .far);
@@ -158,7 +157,7 @@ module _ {p : Plate} {place : ℕ} {window : List ℕ} {from : ℕ} {kept₀ m�
       let b : drop (wholeLength t) t ≡ drop next window = drop-drop (wholeLength t) at window ∙ ap (λ (i : ℕ). drop i window) (sym (past .whole)) in
       let c : length out - used - length ((done x) .printed) ≡ length out′ - used′ = omega (arith, same-room pr, pr .next) in
       let q : pass (suc n) (length out - used - length ((done x) .printed)) ((done x) .stage) (place + at + wholeLength t) (drop (wholeLength t) t)
-          ≡ pass (suc n) (length out′ - used′) (runs p s′ f′ kept′ m′) (place + next) (drop next window) = rw (a, b, c, k) in
+      ≡ pass (suc n) (length out′ - used′) (runs p s′ f′ kept′ m′) (place + next) (drop next window) = rw (a, b, c, k) in
       record {
         fuel = n;
         read = g .read + wholeLength t;
@@ -169,11 +168,11 @@ module _ {p : Plate} {place : ℕ} {window : List ℕ} {from : ℕ} {kept₀ m�
         inside = past .inside;
         enough = omega (arith, g .enough, past .onward);
         whole =
-          g .whole
-          ∙ ap (before (g .read) (g .text)) (pass-turn (g .fuel) (length out - used) here (place + at) t x h e)
-          ∙ rw z
-          (after-running ((done x) .stage) (plateOf p) (stateWith s′ (lineOf f′ kept′)) m′ (g .read) (wholeLength t) (g .text) ((done x) .printed) _ k
-          ∙ ap (before (g .read + wholeLength t) (g .text ++ (done x) .printed)) q);
+            g .whole
+            ∙ ap (before (g .read) (g .text)) (pass-turn (g .fuel) (length out - used) here (place + at) t x h e)
+            ∙ rw z
+            (after-running ((done x) .stage) (plateOf p) (stateWith s′ (lineOf f′ kept′)) m′ (g .read) (wholeLength t) (g .text) ((done x) .printed) _ k
+            ∙ ap (before (g .read + wholeLength t) (g .text ++ (done x) .printed)) q);
       }
 
   pub goes-on : {kept′ m′ w′ out′ : List ℕ} {s′ : State} {f′ : Frame} (x : Said) (next used′ : ℕ)
@@ -201,7 +200,6 @@ module _ {p : Plate} {place : ℕ} {window : List ℕ} {from : ℕ} {kept₀ m�
   -- any other record: a bad one, a good one
   module _ {keptq kept′ m′ w′ out′ : List ℕ} (x : Said) (q : Turned) (same : keptq ≡ kept) (h : longestLine ≤ length out - used) (e : heard (drop at window) ≡ said x)
       (t : Turns p (record { state = s; frame = f }) (place + at) x keptq m out used q kept′ m′ w′ out′) where
-
     turns : Turns p (record { state = s; frame = f }) (place + at) x kept m out used q kept′ m′ w′ out′
     turns = rw same at t
 

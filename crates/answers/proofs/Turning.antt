@@ -51,7 +51,6 @@ yes-it-is false h = absurd h
 module _ (p : Plate) (f g : Frame) (kept kept′ : List ℕ) (t v : ℕ) (bad : Bool)
     (stays : (s : State) → over (plateOf p) (stateWith s (lineOf f kept)) t ≡ false)
     (grown : Extends (more (pick (f .begun) (lineOf f kept) none) t v bad) kept g kept′) (lent : length kept′ ≡ 135) where
-
   -- the meaning's step
   grows : (s : State) (m : List ℕ) → (step (plateOf p) (stateWith s (lineOf f kept)) m (character t v bad)) .state ≡ stateWith s (lineOf g kept′)
   unfolding step upTo still taken withLine
@@ -115,7 +114,6 @@ silent-still p s m power-on e = refl
 -- a call of the board, unrefused
 module _ (p : Plate) (b : Board) (kept m w : List ℕ) (g : Call) (r : Stepped) (kept′ m′ w′ : List ℕ)
     (sound : Sound p b kept m w) (steps : Steps (plateOf p) b kept m w g r kept′ m′ w′) where
-
   abbrev reply : List ℕ
   reply = (step (plateOf p) (stateOf b kept) m g) .reply
 

@@ -298,5 +298,5 @@ pass-enough zero m space w at t h k = absurd (omega arith)
 pass-enough (suc n) zero space w at t h k = absurd (omega arith)
 pass-enough (suc n) (suc m) space w at t h k =
     let same = alike n m space w at t (heard t) (front t) h k
-        (λ x i j. pass-enough n m (space - length ((turn w at x) .printed)) ((turn w at x) .stage) (at + wholeLength t) (drop (wholeLength t) t) i j) in
+    (λ x i j. pass-enough n m (space - length ((turn w at x) .printed)) ((turn w at x) .stage) (at + wholeLength t) (drop (wholeLength t) t) i j) in
     ap (λ (p : Pass). pick (ltb space longestLine) (stopped w full) p) same

@@ -1,3 +1,4 @@
+-- `answers::opening::begin` meets its contract. Assumes nothing.
 use borrow.Author.Tests.{not-true, not-false}
 use mathlib.Core.Path.{sym, _∙_}
 use Rattle.answers.proofs.Beginning.{not-plate, unchecked, in-order}
@@ -8,43 +9,33 @@ use Rattle.answers.proofs.opening.begin.Reads as reads
 use Rattle.answers.proofs.opening.begin.Lts as lts
 use Rattle.line.proofs.plate.Plate.is_ok.Reads as is-ok-reads
 
--- src/opening.rt:22:9
 enum-known-event : tie.Need-enum-known-event
 enum-known-event c = search needs
 
--- src/opening.rt:29:9
 returns : tie.Need-returns
 returns c = not-plate (c .before .args .event) _ (c .match .keys2)
 
--- src/opening.rt:32:16
 cast-t9 : tie.Need-cast-t9
 cast-t9 c = search needs
 
--- src/opening.rt:33:15
 cast-t10 : tie.Need-cast-t10
 cast-t10 c = search needs
 
--- src/opening.rt:34:18
 cast-t11 : tie.Need-cast-t11
 cast-t11 c = search needs
 
--- src/opening.rt:35:16
 cast-t12 : tie.Need-cast-t12
 cast-t12 c = search needs
 
--- src/opening.rt:36:16
 cast-t13 : tie.Need-cast-t13
 cast-t13 c = search needs
 
--- src/opening.rt:38:9
 is-ok-requires : tie.Need-is-ok-requires
 is-ok-requires c κs = search needs
 
--- src/opening.rt:39:9
 returns-2 : tie.Need-returns-2
 returns-2 c = rw (c .before .before .before .event .given .1) (unchecked _ _ (sym (c .before .is-ok .ensures) ∙ not-true _ (c .if1 .taken)))
 
--- src/opening.rt:18:1
 returns-3 : tie.Need-returns-3
 returns-3 c = rw (c .before .before .before .event .given .1) (in-order _ _ (sym (c .before .is-ok .ensures) ∙ not-false _ (c .if1 .left)))
 

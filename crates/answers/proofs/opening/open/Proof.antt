@@ -1,3 +1,4 @@
+-- `answers::opening::open` meets its contract. Assumes nothing.
 use native.Mathlib.Nat.{zero-add}
 use mathlib.Core.Path.{sym, _∙_}
 use Rattle.answers.proofs.Beginning.{opens, fails}
@@ -12,39 +13,30 @@ use Rattle.answers.proofs.opening.begin.Reads as begin-reads
 use Rattle.tape.proofs.event_of.Reads as event-of-reads
 use Rattle.tape.proofs.record.Cursor.read.Reads as read-reads
 
--- src/opening.rt:48:11
 read-requires : tie.Need-read-requires
 read-requires c κs = search needs
 
--- src/opening.rt:49:23
 enum-told : tie.Need-enum-told
 enum-told c = search needs
 
--- src/opening.rt:50:22
 enum-told-2 : tie.Need-enum-told-2
 enum-told-2 c = search needs
 
--- src/opening.rt:52:13
 enum-known-kind : tie.Need-enum-known-kind
 enum-known-kind c = search needs
 
--- src/opening.rt:57:17
 event-of-requires : tie.Need-event-of-requires
 event-of-requires c κs = body-inside _ _ _ _ _ _ (sym (c .before .before .before .read .ensures) ∙ c .before .kind .given .1)
 
--- src/opening.rt:58:13
 begin-requires : tie.Need-begin-requires
 begin-requires c κs = search needs
 
--- src/opening.rt:44:1
 returns : tie.Need-returns
 returns c = sym (not-yet _ _ (sym (c .before .before .read .ensures) ∙ c .enum-told .given .1) .heard)
 
--- src/opening.rt:44:1
 returns-2 : tie.Need-returns-2
 returns-2 c = fails _ (sym (none-there _ _ (sym (c .before .before .read .ensures) ∙ c .enum-told2 .given .1) .heard))
 
--- src/opening.rt:44:1
 returns-3 : tie.Need-returns-3
 returns-3 c =
     let e = sym (c .before .before .before .before .before .read .ensures) ∙ c .before .before .before .kind .given .1 in

@@ -1,3 +1,7 @@
+-- `answers::passes::eat` meets its contract. Assumes nothing.
+use mathlib.Core.Path.{_≡_, sym, _∙_}
+use Rattle.answers.proofs.Eating.{at-work, playable, eats-on, eats-full, eats-more, eats-bad, fresh-playable, eats-plate}
+-- `answers::passes::eat` meets its contract. Assumes nothing.
 use borrow.Author.Needs.{needs}
 use Rattle.answers.proofs.passes.eat.Statement.{statement}
 use Rattle.answers.proofs.passes.eat.Tie as tie
@@ -12,105 +16,88 @@ use Rattle.board.proofs.fresh.Reads as fresh-reads
 enum-told : tie.Need-enum-told
 enum-told c = search needs
 
--- src/passes.rt:233:9
 go-on-requires : tie.Need-go-on-requires
-go-on-requires c κs = ?
+go-on-requires c κs =
+    let a = c .before .before .before .before .before .before .before .before .before .before .before in
+    playable _ _ _ _ _ _ _ (a .pre) (at-work (a .args .session .phase) _ _ _ _ _ (c .before .before .before .before .match .keys2) (a .pre .steady))
 
--- src/passes.rt:233:9
 same-length : tie.Need-same-length
 same-length c = search needs
 
--- src/passes.rt:233:9
 same-length-2 : tie.Need-same-length-2
 same-length-2 c = search needs
 
--- src/passes.rt:233:9
 same-length-3 : tie.Need-same-length-3
 same-length-3 c = search needs
 
--- src/passes.rt:233:9
 same-length-4 : tie.Need-same-length-4
 same-length-4 c = search needs
 
--- src/passes.rt:233:9
 returns : tie.Need-returns
-returns c = ?
+returns c =
+    let a = c .before .before .before .before .before .before .before .before .before .before .before .before .before .before .before .before .before .before .before .before in
+    eats-on _ _ _ _ _ _ _ (a .pre) _ _ _ _ _ (at-work (a .args .session .phase) _ _ _ _ _ (c .before .before .before .before .before .before .before .before .before .before .before .before .before .match .keys2) (a .pre .steady)) (c .before .before .before .before .before .before .before .before .go-on .ensures)
 
--- src/passes.rt:246:8
 sub-if1 : tie.Need-sub-if1
 sub-if1 c = search needs
 
--- src/passes.rt:247:9
 stopped-requires : tie.Need-stopped-requires
 stopped-requires c κs = search needs
 
--- src/passes.rt:247:9
 returns-2 : tie.Need-returns-2
-returns-2 c = ?
+returns-2 c = eats-full _ _ _ _ _ _ _ (c .before .before .before .before .before .before .before .before .before .before .pre) _ (c .before .if1 .taken) (c .stopped .ensures)
 
--- src/passes.rt:249:11
 open-requires : tie.Need-open-requires
 open-requires c κs = search needs
 
--- src/passes.rt:250:48
 enum-told-2 : tie.Need-enum-told-2
 enum-told-2 c = search needs
 
--- src/passes.rt:250:25
 stopped-requires-2 : tie.Need-stopped-requires-2
 stopped-requires-2 c κs = search needs
 
--- src/passes.rt:251:40
 enum-told-3 : tie.Need-enum-told-3
 enum-told-3 c = search needs
 
--- src/passes.rt:251:24
 refuse-requires : tie.Need-refuse-requires
 refuse-requires c κs = search needs
 
--- src/passes.rt:252:25
 enum-known-plate : tie.Need-enum-known-plate
 enum-known-plate c = search needs
 
--- src/passes.rt:254:13
 fresh-requires : tie.Need-fresh-requires
 fresh-requires c κs = search needs
 
--- src/passes.rt:252:42
 go-on-requires-2 : tie.Need-go-on-requires-2
-go-on-requires-2 c κs = ?
+go-on-requires-2 c κs =
+    let o = rw (c .before .before .before .before .before .before .plate .given .1) at (c .before .before .before .before .before .before .before .before .open .ensures) in
+    fresh-playable _ _ _ _ _ _ _ (c .before .before .before .before .before .before .before .before .before .before .before .before .before .before .before .before .before .before .pre) (c .before .before .before .before .before .before .before .before .before .before .enum-told .given .1) _ _ _ (o .1) _ (c .before .before .before .before .fresh .ensures)
 
--- src/passes.rt:217:1
 returns-3 : tie.Need-returns-3
-returns-3 c = ?
+returns-3 c = eats-more _ _ _ _ _ _ _ (c .before .before .before .before .before .before .before .before .before .before .before .before .before .pre) _ (c .before .before .before .before .if1 .left) (rw (c .before .enum-told2 .given .1) at (c .before .before .before .open .ensures)) (c .stopped2 .ensures)
 
--- src/passes.rt:217:1
 same-length-5 : tie.Need-same-length-5
 same-length-5 c = search needs
 
--- src/passes.rt:217:1
 returns-4 : tie.Need-returns-4
-returns-4 c = ?
+returns-4 c = eats-bad _ _ _ _ _ _ _ (c .before .before .before .before .before .before .before .before .before .before .before .before .before .before .before .before .pre) (c .before .before .before .before .before .before .before .before .enum-told .given .1) (c .before .before .before .before .before .before .before .if1 .left) _ _ (rw (c .before .before .before .before .enum-told3 .given .1) at (c .before .before .before .before .before .before .open .ensures)) (c .before .before .refuse .ensures)
 
--- src/passes.rt:217:1
 same-length-6 : tie.Need-same-length-6
 same-length-6 c = search needs
 
--- src/passes.rt:217:1
 same-length-7 : tie.Need-same-length-7
 same-length-7 c = search needs
 
--- src/passes.rt:217:1
 same-length-8 : tie.Need-same-length-8
 same-length-8 c = search needs
 
--- src/passes.rt:217:1
 same-length-9 : tie.Need-same-length-9
 same-length-9 c = search needs
 
--- src/passes.rt:217:1
 returns-5 : tie.Need-returns-5
-returns-5 c = ?
+returns-5 c =
+    let o = rw (c .before .before .before .before .before .before .before .before .before .before .before .before .before .before .before .plate .given .1) at (c .before .before .before .before .before .before .before .before .before .before .before .before .before .before .before .before .before .open .ensures) in
+    eats-plate _ _ _ _ _ _ _ (c .before .before .before .before .before .before .before .before .before .before .before .before .before .before .before .before .before .before .before .before .before .before .before .before .before .before .before .pre) (c .before .before .before .before .before .before .before .before .before .before .before .before .before .before .before .before .before .before .before .enum-told .given .1) _ _ _ (o .1) _ (c .before .before .before .before .before .before .before .before .before .before .before .before .before .fresh .ensures) _ _ _ _ _ (c .before .before .before .before .before .before .before .before .before .before .before .before .before .before .before .before .before .before .if1 .left) (c .before .before .before .before .before .before .before .before .go-on2 .ensures)
 
 pub eat-spec : {M : Type 1} → statement M
 eat-spec =

@@ -1,3 +1,4 @@
+-- `answers::passes::finish` meets its contract. Assumes nothing.
 use mathlib.Core.Path.{sym}
 use native.Mathlib.Omega.{arith}
 use Rattle.tape.proofs.Texts.{printed-as}
@@ -9,31 +10,25 @@ use Rattle.answers.proofs.passes.finish.Reads as reads
 use Rattle.answers.proofs.passes.finish.Lts as lts
 use Rattle.tape.proofs.bad_line.Reads as bad-line-reads
 
--- src/passes.rt:258:9
 returns : tie.Need-returns
 returns c =
     let a = c .before .before .before .args in
     λ kept m. no-text _ _ (none-left (a .session) kept m (a .rest .now) (c .if1 .taken)) (omega (arith, c .before .before .before .pre))
 
--- src/passes.rt:262:9
 enum-told : tie.Need-enum-told
 enum-told c = search needs
 
--- src/passes.rt:262:9
 returns-2 : tie.Need-returns-2
 returns-2 c =
     let a = c .before .before .before .before .before .args in
     λ kept m. no-text _ _ (was-ended (a .session) kept m (a .rest .now) (c .enum-told .given .1)) (omega (arith, c .before .before .before .before .before .pre))
 
--- src/passes.rt:264:5
 bad-line-requires : tie.Need-bad-line-requires
 bad-line-requires c κs = search needs
 
--- src/passes.rt:253:1
 same-length : tie.Need-same-length
 same-length c = search needs
 
--- src/passes.rt:253:1
 returns-3 : tie.Need-returns-3
 returns-3 c =
     let a = c .before .before .before .before .before .before .before .before .args in

@@ -1,3 +1,4 @@
+-- `answers::passes::go_on` meets its contract. Assumes nothing.
 use mathlib.Core.Path.{sym, _∙_}
 use lib.Seq.{length-take-le}
 use Rattle.line.proofs.Limits.{total-fits}
@@ -12,49 +13,38 @@ use Rattle.answers.proofs.passes.image_length.Reads as image-length-rea
 use Rattle.answers.proofs.passes.phase_after.Reads as phase-after-reads
 use Rattle.answers.proofs.passes.play.Reads as play-reads
 
--- src/passes.rt:169:9
 image-length-requires : tie.Need-image-length-requires
 image-length-requires c κs = total-fits _ (c .before .before .before .before .before .pre .sound .within .plate)
 
--- src/passes.rt:177:9
 slice-relend-prefix-play : tie.Need-slice-relend-prefix-play
 slice-relend-prefix-play c = in-front _ _ _ _ _ _ _ _ _ _ _ (c .before .image-length .ensures) (c .before .before .before .before .before .before .before .pre)
 
--- src/passes.rt:177:9
 slice-aggregate-play : tie.Need-slice-aggregate-play
 slice-aggregate-play c = sym (length-take-le _ _ (in-front _ _ _ _ _ _ _ _ _ _ _ (c .before .before .image-length .ensures) (c .before .before .before .before .before .before .before .before .pre)))
 
--- src/passes.rt:170:9
 play-requires : tie.Need-play-requires
 play-requires c κs =
     let a = c .before .before .before .before .before .before .before .before .before .before .pre in
     (rw (c .before .before .before .before .image-length .ensures) (a .sound), (a .starts, a .space, a .places))
 
--- src/passes.rt:183:9
 phase-after-requires : tie.Need-phase-after-requires
 phase-after-requires c κs = search needs
 
--- src/passes.rt:189:16
 add-t26 : tie.Need-add-t26
 add-t26 c = search needs
 
--- src/passes.rt:154:1
 same-length : tie.Need-same-length
 same-length c = search needs
 
--- src/passes.rt:154:1
 same-length-2 : tie.Need-same-length-2
 same-length-2 c = search needs
 
--- src/passes.rt:154:1
 same-length-3 : tie.Need-same-length-3
 same-length-3 c = search needs
 
--- src/passes.rt:154:1
 same-length-4 : tie.Need-same-length-4
 same-length-4 c = search needs
 
--- src/passes.rt:154:1
 returns : tie.Need-returns
 returns c = goes-from _ _ _ _ _ _ _ _ _ _ _ (c .before .before .before .before .before .before .before .before .before .before .before .before .before .before .before .image-length .ensures) (c .before .before .before .before .before .before .before .before .before .before .before .before .before .before .before .before .before .before .before .before .before .pre) _ _ _ _ _ (c .before .before .before .before .before .before .before .before .before .before .play .ensures) _ (c .before .phase-after .ensures)
 

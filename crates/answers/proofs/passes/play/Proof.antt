@@ -31,187 +31,146 @@ abbrev μ-loop : tie.MeasureT-loop
 μ-loop plate place window from kept₀ memory₀ reply₀ out₀ start state₀ frame₀ at₀ used₀ kept memory reply out state frame at used =
     length window - at
 
--- src/passes.rt:77:5
 loop-holds : tie.Need-loop-holds Inv-loop μ-loop
 loop-holds c =
     let a = c .before .before .before .before .before .before .before .pre in
     (refl, refl, refl, refl, begins _ _ _ _ _ _ _ _ _ _ _ (a .0) (a .1 .0) (a .1 .1))
 
--- src/passes.rt:78:12
 sub-if1 : tie.Need-sub-if1 Inv-loop μ-loop
 sub-if1 c =
     let v = c .loop .inv in omega (arith, v .4 .printed .within, v .3)
 
--- src/passes.rt:79:13
 halt-requires : tie.Need-halt-requires Inv-loop μ-loop
 halt-requires c κs = search needs
 
--- src/passes.rt:79:13
 same-length : tie.Need-same-length Inv-loop μ-loop
 same-length c = search needs
 
--- src/passes.rt:79:13
 same-length-2 : tie.Need-same-length-2 Inv-loop μ-loop
 same-length-2 c = search needs
 
--- src/passes.rt:79:13
 same-length-3 : tie.Need-same-length-3 Inv-loop μ-loop
 same-length-3 c = search needs
 
--- src/passes.rt:79:13
 same-length-4 : tie.Need-same-length-4 Inv-loop μ-loop
 same-length-4 c = search needs
 
--- src/passes.rt:79:13
 returns : tie.Need-returns Inv-loop μ-loop
 returns c =
     halts-full (c .before .before .loop .inv .4) _ (c .before .if1 .taken) (c .halt .ensures)
 
--- src/passes.rt:81:15
 hear-requires : tie.Need-hear-requires Inv-loop μ-loop
 hear-requires c κs = search needs
 
--- src/passes.rt:83:53
 enum-told : tie.Need-enum-told Inv-loop μ-loop
 enum-told c = search needs
 
--- src/passes.rt:83:17
 halt-requires-2 : tie.Need-halt-requires-2 Inv-loop μ-loop
 halt-requires-2 c κs = search needs
 
--- src/passes.rt:83:17
 same-length-5 : tie.Need-same-length-5 Inv-loop μ-loop
 same-length-5 c = search needs
 
--- src/passes.rt:83:17
 same-length-6 : tie.Need-same-length-6 Inv-loop μ-loop
 same-length-6 c = search needs
 
--- src/passes.rt:83:17
 same-length-7 : tie.Need-same-length-7 Inv-loop μ-loop
 same-length-7 c = search needs
 
--- src/passes.rt:83:17
 same-length-8 : tie.Need-same-length-8 Inv-loop μ-loop
 same-length-8 c = search needs
 
--- src/passes.rt:83:17
 returns-2 : tie.Need-returns-2 Inv-loop μ-loop
 returns-2 c =
     halts-more (c .before .before .before .before .before .loop .inv .4) _ (c .before .before .before .before .if1 .left) (sym (c .before .before .before .hear .ensures .heard) ∙ ap heardOf (c .before .enum-told .given .1)) (c .halt2 .ensures)
 
--- src/passes.rt:86:50
 enum-told-2 : tie.Need-enum-told-2 Inv-loop μ-loop
 enum-told-2 c = search needs
 
--- src/passes.rt:86:42
 add-bad-line : tie.Need-add-bad-line Inv-loop μ-loop
 add-bad-line c = search needs
 
--- src/passes.rt:86:21
 bad-line-requires : tie.Need-bad-line-requires Inv-loop μ-loop
 bad-line-requires c κs =
     let v = c .before .before .before .before .before .loop .inv in omega (arith, c .before .before .before .before .if1 .left, v .4 .printed .within, v .3)
 
--- src/passes.rt:87:17
 halt-requires-3 : tie.Need-halt-requires-3 Inv-loop μ-loop
 halt-requires-3 c κs = search needs
 
--- src/passes.rt:87:17
 same-length-9 : tie.Need-same-length-9 Inv-loop μ-loop
 same-length-9 c = search needs
 
--- src/passes.rt:87:17
 same-length-10 : tie.Need-same-length-10 Inv-loop μ-loop
 same-length-10 c = search needs
 
--- src/passes.rt:87:17
 same-length-11 : tie.Need-same-length-11 Inv-loop μ-loop
 same-length-11 c = search needs
 
--- src/passes.rt:87:17
 same-length-12 : tie.Need-same-length-12 Inv-loop μ-loop
 same-length-12 c = search needs
 
--- src/passes.rt:87:17
 returns-3 : tie.Need-returns-3 Inv-loop μ-loop
 returns-3 c =
     breaks (c .before .before .before .before .before .before .before .before .before .loop .inv .4) _ _ (c .before .before .before .before .before .before .before .before .if1 .left) (sym (c .before .before .before .before .before .before .before .hear .ensures .heard) ∙ ap heardOf (c .before .before .before .before .before .enum-told2 .given .1)) (c .before .before .before .bad-line .ensures) (c .halt3 .ensures)
 
--- src/passes.rt:89:27
 enum-known-event : tie.Need-enum-known-event Inv-loop μ-loop
 enum-known-event c = search needs
 
--- src/passes.rt:90:23
 quick-requires : tie.Need-quick-requires Inv-loop μ-loop
 quick-requires c κs =
     let w = c .before .before .before .before .before .before .loop .inv .4 .sound .within in record { few = w .few; all = w .places }
 
--- src/passes.rt:91:32
 enum-known-more : tie.Need-enum-known-more Inv-loop μ-loop
 enum-known-more c = search needs
 
--- src/passes.rt:95:29
 enum-told-3 : tie.Need-enum-told-3 Inv-loop μ-loop
 enum-told-3 c = search needs
 
--- src/passes.rt:96:36
 add-here : tie.Need-add-here Inv-loop μ-loop
 add-here c = search needs
 
--- src/passes.rt:97:29
 turn-requires : tie.Need-turn-requires Inv-loop μ-loop
 turn-requires c κs =
     let v = c .before .before .before .before .before .before .before .before .before .before .before .before .before .before .before .loop .inv in
     (rw (rw (c .before .before .before .before .enum-told3 .given .1) at (c .before .before .before .before .before .before .before .before .quick .ensures)) (v .4 .sound), omega (arith, c .before .before .before .before .before .before .before .before .before .before .before .before .before .before .if1 .left, v .4 .printed .within, v .3))
 
--- src/passes.rt:113:29
 halt-requires-4 : tie.Need-halt-requires-4 Inv-loop μ-loop
 halt-requires-4 c κs = search needs
 
--- src/passes.rt:113:29
 same-length-13 : tie.Need-same-length-13 Inv-loop μ-loop
 same-length-13 c =
     c .before .before .before .before .before .before .before .before .before .before .before .before .before .turn .kept .1 .1 .1 .1 .0 ∙ c .before .before .before .before .before .before .before .before .before .before .before .before .before .before .before .before .before .before .before .before .before .before .quick .kept .1 .1 .1 .0 ∙ c .before .before .before .before .before .before .before .before .before .before .before .before .before .before .before .before .before .before .before .before .before .before .before .before .before .before .before .before .before .loop .inv .0
 
--- src/passes.rt:113:29
 same-length-14 : tie.Need-same-length-14 Inv-loop μ-loop
 same-length-14 c =
     c .before .before .before .before .before .before .before .before .before .before .before .before .before .turn .kept .1 .1 .1 .1 .1 .0 ∙ c .before .before .before .before .before .before .before .before .before .before .before .before .before .before .before .before .before .before .before .before .before .before .before .before .before .before .before .before .before .loop .inv .1
 
--- src/passes.rt:113:29
 same-length-15 : tie.Need-same-length-15 Inv-loop μ-loop
 same-length-15 c =
     c .before .before .before .before .before .before .before .before .before .before .before .before .before .turn .kept .1 .1 .1 .1 .1 .1 .0 ∙ c .before .before .before .before .before .before .before .before .before .before .before .before .before .before .before .before .before .before .before .before .before .before .before .before .before .before .before .before .before .loop .inv .2
 
--- src/passes.rt:113:29
 same-length-16 : tie.Need-same-length-16 Inv-loop μ-loop
 same-length-16 c =
     c .before .before .before .before .before .before .before .before .before .before .before .before .before .turn .kept .1 .1 .1 .1 .1 .1 .1 .0 ∙ c .before .before .before .before .before .before .before .before .before .before .before .before .before .before .before .before .before .before .before .before .before .before .before .before .before .before .before .before .before .loop .inv .3
 
--- src/passes.rt:113:29
 returns-4 : tie.Need-returns-4 Inv-loop μ-loop
 returns-4 c =
     turn-ends (c .before .before .before .before .before .before .before .before .before .before .before .before .before .before .before .before .before .before .before .before .before .before .before .before .before .before .before .before .before .loop .inv .4) _ _ (rw (c .before .before .before .before .before .before .before .before .before .before .before .before .before .before .before .before .before .before .enum-told3 .given .1) at (c .before .before .before .before .before .before .before .before .before .before .before .before .before .before .before .before .before .before .before .before .before .before .quick .ensures)) (c .before .before .before .before .before .before .before .before .before .before .before .before .before .before .before .before .before .before .before .before .before .before .before .before .before .before .before .before .if1 .left) (sym (c .before .before .before .before .before .before .before .before .before .before .before .before .before .before .before .before .before .before .before .before .before .before .before .before .before .before .before .hear .ensures .heard) ∙ ap heardOf (c .before .before .before .before .before .before .before .before .before .before .before .before .before .before .before .before .before .before .before .before .before .before .before .before .before .event .given .1)) (c .before .before .before .before .before .before .before .before .before .before .before .before .before .turn .ensures) _ (c .before .if2 .taken) (c .halt4 .ensures)
 
--- src/passes.rt:77:5
 loop-less : tie.Need-loop-less Inv-loop μ-loop
 loop-less c =
     let n = rw (c .before .before .before .before .before .before .before .before .event .given .1) at (c .before .before .before .before .before .before .before .before .before .before .hear .ensures .next) in omega (arith, n .onward, n .inside)
 
--- src/passes.rt:77:5
 loop-again : tie.Need-loop-again Inv-loop μ-loop
 loop-again c =
     let g = quiet-goes (c .before .before .before .before .before .before .before .before .before .before .before .before .loop .inv .4) _ _ (c .before .before .before .before .before .before .before .before .before .before .before .if1 .left) (sym (c .before .before .before .before .before .before .before .before .before .before .hear .ensures .heard) ∙ ap heardOf (c .before .before .before .before .before .before .before .before .event .given .1)) (rw (c .before .more .given .1) at (c .before .before .before .before .before .quick .ensures)) (rw (c .before .before .before .before .before .before .before .before .event .given .1) at (c .before .before .before .before .before .before .before .before .before .before .hear .ensures .next)) in
     let v = c .before .before .before .before .before .before .before .before .before .before .before .before .loop .inv in
     (c .before .before .before .before .before .quick .kept .1 .1 .1 .0 ∙ v .0, v .1, v .2, v .3, g)
 
--- src/passes.rt:77:5
 loop-less-2 : tie.Need-loop-less-2 Inv-loop μ-loop
 loop-less-2 c =
     let n = rw (c .before .before .before .before .before .before .before .before .before .before .before .before .before .before .before .before .before .before .before .before .before .before .before .before .event .given .1) at (c .before .before .before .before .before .before .before .before .before .before .before .before .before .before .before .before .before .before .before .before .before .before .before .before .before .before .hear .ensures .next) in omega (arith, n .onward, n .inside)
 
--- src/passes.rt:77:5
 loop-again-2 : tie.Need-loop-again-2 Inv-loop μ-loop
 loop-again-2 c =
     let g = turn-goes (c .before .before .before .before .before .before .before .before .before .before .before .before .before .before .before .before .before .before .before .before .before .before .before .before .before .before .before .before .loop .inv .4) _ _ (rw (c .before .before .before .before .before .before .before .before .before .before .before .before .before .before .before .before .before .enum-told3 .given .1) at (c .before .before .before .before .before .before .before .before .before .before .before .before .before .before .before .before .before .before .before .before .before .quick .ensures)) (c .before .before .before .before .before .before .before .before .before .before .before .before .before .before .before .before .before .before .before .before .before .before .before .before .before .before .before .if1 .left) (sym (c .before .before .before .before .before .before .before .before .before .before .before .before .before .before .before .before .before .before .before .before .before .before .before .before .before .before .hear .ensures .heard) ∙ ap heardOf (c .before .before .before .before .before .before .before .before .before .before .before .before .before .before .before .before .before .before .before .before .before .before .before .before .event .given .1)) (c .before .before .before .before .before .before .before .before .before .before .before .before .turn .ensures) _ (c .if2 .left) (rw (c .before .before .before .before .before .before .before .before .before .before .before .before .before .before .before .before .before .before .before .before .before .before .before .before .event .given .1) at (c .before .before .before .before .before .before .before .before .before .before .before .before .before .before .before .before .before .before .before .before .before .before .before .before .before .before .hear .ensures .next)) in

@@ -1,3 +1,4 @@
+-- `answers::passes::refuse` meets its contract. Assumes nothing.
 use mathlib.Core.Path.{sym, _∙_, ap, refl}
 use Rattle.answers.specs.declared.passes.Eaten.{Eaten}
 -- `answers::passes::refuse` meets its contract. Assumes nothing.
@@ -9,19 +10,15 @@ use Rattle.answers.proofs.passes.refuse.Lts as lts
 use Rattle.answers.proofs.passes.stopped.Reads as stopped-reads
 use Rattle.tape.proofs.bad_line.Reads as bad-line-reads
 
--- src/passes.rt:195:9
 bad-line-requires : tie.Need-bad-line-requires
 bad-line-requires c κs = search needs
 
--- src/passes.rt:204:5
 stopped-requires : tie.Need-stopped-requires
 stopped-requires c κs = search needs
 
--- src/passes.rt:191:1
 same-length : tie.Need-same-length
 same-length c = search needs
 
--- src/passes.rt:191:1
 returns : tie.Need-returns
 returns c =
     let e = c .stopped .ensures in

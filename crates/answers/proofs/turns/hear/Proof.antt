@@ -1,3 +1,4 @@
+-- `answers::turns::hear` meets its contract. Assumes nothing.
 use mathlib.Core.Path.{sym, _∙_}
 use Rattle.answers.proofs.Hearing.{not-yet, none-there, body-inside, past-it, said-there}
 use borrow.Author.Needs.{needs}
@@ -8,35 +9,27 @@ use Rattle.answers.proofs.turns.hear.Lts as lts
 use Rattle.tape.proofs.event_of.Reads as event-of-reads
 use Rattle.tape.proofs.record.Cursor.read.Reads as read-reads
 
--- src/turns.rt:44:11
 read-requires : tie.Need-read-requires
 read-requires c κs = search needs
 
--- src/turns.rt:45:23
 enum-told : tie.Need-enum-told
 enum-told c = search needs
 
--- src/turns.rt:46:22
 enum-told-2 : tie.Need-enum-told-2
 enum-told-2 c = search needs
 
--- src/turns.rt:48:13
 enum-known-kind : tie.Need-enum-known-kind
 enum-known-kind c = search needs
 
--- src/turns.rt:53:17
 event-of-requires : tie.Need-event-of-requires
 event-of-requires c κs = body-inside _ _ _ _ _ _ (sym (c .before .before .before .read .ensures) ∙ c .before .kind .given .1)
 
--- src/turns.rt:40:1
 returns : tie.Need-returns
 returns c = not-yet _ _ (sym (c .before .before .read .ensures) ∙ c .enum-told .given .1)
 
--- src/turns.rt:40:1
 returns-2 : tie.Need-returns-2
 returns-2 c = none-there _ _ (sym (c .before .before .read .ensures) ∙ c .enum-told2 .given .1)
 
--- src/turns.rt:40:1
 returns-3 : tie.Need-returns-3
 returns-3 c =
     let e = sym (c .before .before .before .before .read .ensures) ∙ c .before .before .kind .given .1 in

@@ -1,3 +1,4 @@
+-- `answers::turns::quick` meets its contract. Assumes nothing.
 use mathlib.Core.Path.{refl, sym, _∙_}
 use Rattle.answers.proofs.Turning.{quiet-character, quiet-poll}
 use borrow.Author.Needs.{needs}
@@ -8,49 +9,38 @@ use Rattle.answers.proofs.turns.quick.Lts as lts
 use Rattle.line.proofs.characters.Frame.is_over.Reads as is-over-reads
 use Rattle.line.proofs.characters.Frame.with_character.Reads as with-character-reads
 
--- src/turns.rt:69:13
 enum-known-event : tie.Need-enum-known-event
 enum-known-event c = search needs
 
--- src/turns.rt:73:16
 is-over-requires : tie.Need-is-over-requires
 is-over-requires c κs = search needs
 
--- src/turns.rt:74:17
 returns : tie.Need-returns
 returns c = search needs
 
--- src/turns.rt:76:24
 with-character-requires : tie.Need-with-character-requires
 with-character-requires c κs = search needs
 
--- src/turns.rt:78:23
 enum-known-event-2 : tie.Need-enum-known-event-2
 enum-known-event-2 c = search needs
 
--- src/turns.rt:79:16
 is-over-requires-2 : tie.Need-is-over-requires-2
 is-over-requires-2 c κs = search needs
 
--- src/turns.rt:80:17
 returns-2 : tie.Need-returns-2
 returns-2 c = search needs
 
--- src/turns.rt:63:1
 same-length : tie.Need-same-length
 same-length c = search needs
 
--- src/turns.rt:63:1
 returns-3 : tie.Need-returns-3
 returns-3 c =
     let w = c .before .before .with-character in
     rw (c .before .before .before .before .before .before .before .event .given .1) (quiet-character _ _ _ _ _ _ _ _ (λ s. sym (c .before .before .before .before .before .is-over .ensures _ _ refl) ∙ c .before .before .before .before .if1 .left) (w .ensures) (w .kept .1 .1 .1 .1 .0 ∙ c .before .before .before .before .before .before .before .before .before .before .pre .all))
 
--- src/turns.rt:63:1
 returns-4 : tie.Need-returns-4
 returns-4 c = rw (c .before .before .before .event2 .given .1) (quiet-poll _ _ _ _ (λ s. sym (c .before .is-over2 .ensures _ _ refl) ∙ c .if2 .left))
 
--- src/turns.rt:63:1
 returns-5 : tie.Need-returns-5
 returns-5 c = search needs
 

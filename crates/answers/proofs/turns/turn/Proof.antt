@@ -19,140 +19,108 @@ use Rattle.board.proofs.poll.Reads as poll-reads
 use Rattle.board.proofs.power_on.Reads as power-on-reads
 use Rattle.tape.proofs.bad_line.Reads as bad-line-reads
 
--- src/turns.rt:145:13
 enum-known-event : tie.Need-enum-known-event
 enum-known-event c = search needs
 
--- src/turns.rt:149:17
 character-requires : tie.Need-character-requires
 character-requires c κs = search needs
 
--- src/turns.rt:150:13
 answered-requires : tie.Need-answered-requires
 answered-requires c κs = fitting _ _ _ _ _ _ _ _ _ _ (c .before .before .before .before .before .before .before .before .before .before .before .before .before .before .before .before .before .before .before .pre .0) (c .before .before .before .before .before .before .before .before .character .ensures) _ _ (c .before .before .before .before .before .before .before .before .before .before .before .before .before .before .before .before .before .before .before .pre .1)
 
--- src/turns.rt:152:23
 enum-known-event-2 : tie.Need-enum-known-event-2
 enum-known-event-2 c = search needs
 
--- src/turns.rt:153:17
 poll-requires : tie.Need-poll-requires
 poll-requires c κs = search needs
 
--- src/turns.rt:154:13
 answered-requires-2 : tie.Need-answered-requires-2
 answered-requires-2 c κs = fitting _ _ _ _ _ _ _ _ _ _ (c .before .before .before .before .before .before .before .before .before .before .before .before .before .before .before .before .before .before .before .pre .0) (c .before .before .before .before .before .before .before .before .poll .ensures) _ _ (c .before .before .before .before .before .before .before .before .before .before .before .before .before .before .before .before .before .before .before .pre .1)
 
--- src/turns.rt:156:27
 enum-known-event-3 : tie.Need-enum-known-event-3
 enum-known-event-3 c = search needs
 
--- src/turns.rt:156:48
 measured-requires : tie.Need-measured-requires
 measured-requires c κs = search needs
 
--- src/turns.rt:156:41
 silent-requires : tie.Need-silent-requires
 silent-requires c κs = search needs
 
--- src/turns.rt:157:24
 enum-known-event-4 : tie.Need-enum-known-event-4
 enum-known-event-4 c = search needs
 
--- src/turns.rt:157:41
 fault-requires : tie.Need-fault-requires
 fault-requires c κs = search needs
 
--- src/turns.rt:157:34
 silent-requires-2 : tie.Need-silent-requires-2
 silent-requires-2 c κs = search needs
 
--- src/turns.rt:158:34
 enum-told : tie.Need-enum-told
 enum-told c = search needs
 
--- src/turns.rt:158:34
 power-on-requires : tie.Need-power-on-requires
 power-on-requires c κs = search needs
 
--- src/turns.rt:158:27
 silent-requires-3 : tie.Need-silent-requires-3
 silent-requires-3 c κs = search needs
 
--- src/turns.rt:160:17
 bad-line-requires : tie.Need-bad-line-requires
 bad-line-requires c κs = search needs
 
--- src/turns.rt:161:13
 after-requires : tie.Need-after-requires
 after-requires c κs = search needs
 
--- src/turns.rt:128:1
 same-length : tie.Need-same-length
 same-length c = search needs
 
--- src/turns.rt:128:1
 same-length-2 : tie.Need-same-length-2
 same-length-2 c = search needs
 
--- src/turns.rt:128:1
 same-length-3 : tie.Need-same-length-3
 same-length-3 c = search needs
 
--- src/turns.rt:128:1
 same-length-4 : tie.Need-same-length-4
 same-length-4 c = search needs
 
--- src/turns.rt:128:1
 returns : tie.Need-returns
 returns c = rw (c .before .before .before .before .before .before .before .before .before .before .before .before .before .before .before .before .event .given .1) (turns-answered _ _ _ _ _ _ _ _ _ _ (c .before .before .before .before .before .before .before .before .before .before .before .before .before .before .before .before .before .before .before .before .before .before .pre .0) (c .before .before .before .before .before .before .before .before .before .before .before .character .ensures) _ _ (as-poll _ _ _) (c .before .before .answered .ensures))
 
--- src/turns.rt:128:1
 same-length-5 : tie.Need-same-length-5
 same-length-5 c = search needs
 
--- src/turns.rt:128:1
 same-length-6 : tie.Need-same-length-6
 same-length-6 c = search needs
 
--- src/turns.rt:128:1
 same-length-7 : tie.Need-same-length-7
 same-length-7 c = search needs
 
--- src/turns.rt:128:1
 same-length-8 : tie.Need-same-length-8
 same-length-8 c = search needs
 
--- src/turns.rt:128:1
 returns-2 : tie.Need-returns-2
 returns-2 c = rw (c .before .before .before .before .before .before .before .before .before .before .before .before .before .before .before .before .event2 .given .1) (turns-answered _ _ _ _ _ _ _ _ _ _ (c .before .before .before .before .before .before .before .before .before .before .before .before .before .before .before .before .before .before .before .before .before .before .pre .0) (c .before .before .before .before .before .before .before .before .before .before .before .poll .ensures) _ _ (λ l. refl) (c .before .before .answered2 .ensures))
 
--- src/turns.rt:128:1
 returns-3 : tie.Need-returns-3
 unfolding closes
 returns-3 c =
     let p = c .before .before .before .before .before .before .before .before .before .pre .0 in
     rw (c .before .before .before .event3 .given .1) (turns-silent _ _ _ _ _ _ _ _ _ _ p (c .before .measured .ensures _ _ _ (p .within .places)) _ refl (c .silent .ensures) (omega (arith, c .before .before .before .before .before .before .before .before .before .pre .1)))
 
--- src/turns.rt:128:1
 returns-4 : tie.Need-returns-4
 unfolding closes
 returns-4 c =
     let p = c .before .before .before .before .before .before .before .before .before .pre .0 in
     rw (c .before .before .before .event4 .given .1) (turns-silent _ _ _ _ _ _ _ _ _ _ p (c .before .fault .ensures _ _ _ (p .within .places)) _ refl (c .silent2 .ensures) (omega (arith, c .before .before .before .before .before .before .before .before .before .pre .1)))
 
--- src/turns.rt:128:1
 returns-5 : tie.Need-returns-5
 unfolding closes
 returns-5 c =
     let p = c .before .before .before .before .before .before .before .before .pre .0 in
     rw (c .before .before .enum-told .given .1) (turns-silent _ _ _ _ _ _ _ _ _ _ p (c .before .power-on .ensures _ _ _ (p .within .places)) _ refl (c .silent3 .ensures) (omega (arith, c .before .before .before .before .before .before .before .before .pre .1)))
 
--- src/turns.rt:128:1
 same-length-9 : tie.Need-same-length-9
 same-length-9 c = search needs
 
--- src/turns.rt:128:1
 returns-6 : tie.Need-returns-6
 returns-6 c = turns-bad _ _ _ _ _ _ _ _ _ _ (c .before .before .before .before .before .before .before .before .before .before .args .event) _ (c .before .before .before .before .before .match .keys6) (c .before .before .before .before .before .before .before .before .before .before .pre .0) (c .before .before .before .bad-line .ensures) (c .after .ensures)
 
