@@ -5,3 +5,4 @@ mod Closings
 mod Beginning
 mod Playing
 mod Eating
+pub mod Printing

@@ -46,6 +46,11 @@ phaseAfter More = Running
 phaseAfter Full = Running
 phaseAfter Over = Ended
 
+-- a tape at its first byte
+pub record Starts (s : Session) : Type 0 where
+  pub phase : s .phase ≡ Opening
+  pub place : s .place ≡ 0
+
 -- what a pass of a running board leaves
 pub record Plays (p : Plate) (q : Pass) (from : ℕ) (window out : List ℕ) (used : ℕ) (r : Played) (kept′ m′ w′ out′ : List ℕ) : Type 0 where
   pub read : r .at ≡ from + q .read

@@ -1,4 +1,6 @@
 // Where a tape stands between two of its parts.
+ghost use mathlib.Core.Path.{_≡_};
+ghost use Rattle.answers.specs.Sessions.{Starts};
 use board::Board;
 use line::Plate;
 
@@ -22,4 +24,26 @@ pub struct Session {
     pub plate: Plate,
     pub board: Board,
     pub place: u64,
+}
+
+impl Session {
+    // A tape at its first byte.
+    pub fn start() -> Session
+        ensures { λ r. ⌜ Starts r ⌝ }
+    {
+        let plate = Plate {
+            total: 0,
+            bits: 0,
+            address: 0,
+            ticks: 0,
+            pause: 0,
+        };
+        let board = board::fresh(plate);
+        Session {
+            phase: Phase::Opening,
+            plate,
+            board,
+            place: 0,
+        }
+    }
 }
