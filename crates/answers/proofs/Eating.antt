@@ -1,0 +1,222 @@
+-- A pass from the plate on, and of a board at work, over the front of the lent memory. Assumes nothing.
+use Prim.Native.Nat.{ℕ, zero, suc, _+_, _-_, _*_, _≤_, _<_}
+use mathlib.Core.Path.{_≡_, refl, sym, ap, _∙_}
+use mathlib.Core.Bool.{Bool, true, false}
+use mathlib.Core.List.{List, [], _∷_, _++_}
+use native.Mathlib.Nat.{add-zero, zero-add, add-assoc}
+use native.Mathlib.Omega.{arith}
+use lib.ListN.{length, take, drop, replicate, length-take, length-drop, length-replicate}
+use lib.Seq.{take-at, length-take-le}
+use lib.Dec.{T}
+use types.Run.{OneOf, miss}
+use denote.Enum.Declared.{tagOf}
+use Rattle.meaning.specs.Bytes.{zeros}
+use Rattle.meaning.specs.State as meaning
+use Rattle.meaning.specs.State.{plateOk, stateOk, fresh}
+use Rattle.meaning.specs.Fields.{imageLength}
+use Rattle.meaning.proofs.Limits.{fresh-within}
+use Rattle.line.specs.declared.plate.Plate.{Plate}
+use Rattle.line.specs.Line.{plateOf}
+use Rattle.line.proofs.Limits.{total-fits}
+use Rattle.board.specs.declared.limits.Board.{Board}
+use Rattle.board.specs.Board.{stateOf}
+use Rattle.board.specs.Promises.{Within}
+use Rattle.tape.specs.Records.{wholeLength}
+use Rattle.tape.specs.Kinds.{Said}
+use Rattle.tape.specs.Text.{badLine}
+use Rattle.tape.specs.Answers.{Stage, opening, running, ended, Turn, bad, turn}
+use Rattle.tape.specs.Passes as passes
+use Rattle.tape.specs.Passes.{Pass, pass, stopped, after, heard, nothing, said, longestLine}
+use Rattle.tape.specs.Reader.{Printed}
+use Rattle.tape.proofs.Streams.{pass-enough}
+use Rattle.answers.specs.Turns.{Sound}
+use Rattle.answers.specs.Sessions.{largestImage, stageFrom, stageOf, stopTold, phaseAfter, Plays, Steady, Ready, passOver, Eats, Playable, passFrom, GoesOn, Refuses}
+use Rattle.answers.specs.Openings.{Begins, Fails}
+use Rattle.answers.specs.declared.session.Phase.{Phase}
+use Rattle.answers.specs.declared.session.Phase.the-variants.{Opening, Running, Ended}
+use Rattle.answers.specs.declared.session.Session.{Session}
+use Rattle.answers.specs.declared.session.Stop.{Stop}
+use Rattle.answers.specs.declared.session.Stop.the-variants.{More, Full, Over}
+use Rattle.answers.specs.declared.passes.Played.{Played}
+use Rattle.answers.specs.declared.passes.Eaten.{Eaten}
+use Rattle.answers.proofs.session.Phase.{the-type}
+use Rattle.answers.proofs.Closings.{no-text}
+use Rattle.answers.proofs.Playing.{pass-full, pass-more, pass-turn}
+
+-- ---- the front of the lent memory
+
+pub front-fits : (p : Plate) (m : List ℕ) → plateOk (plateOf p) ≡ true → length m ≡ largestImage → imageLength (p .total) ≤ length m
+front-fits p m ok e = omega (arith, total-fits (plateOf p) ok)
+
+module _ (p : Plate) (b : Board) (place : ℕ) (window : List ℕ) (from : ℕ) (kept m w out : List ℕ) (used : ℕ)
+    (n : ℕ) (here : n ≡ imageLength (p .total)) (ready : Playable p b place window from kept m w out used) where
+  pub in-front : n ≤ length m
+  in-front = rw here (front-fits p m (ready .sound .within .plate) (ready .size))
+
+  module _ (r : Played) (kept′ mp w′ out′ : List ℕ)
+      (played : Plays p (pass (suc (length window)) (length out - used) (running (plateOf p) (stateOf b kept) (take n m)) (place + from) (drop from window)) from window out used r kept′ mp w′ out′) where
+    plays : Plays p (passFrom p b place window from kept m out used) from window out used r kept′ mp w′ out′
+    plays = rw here at played
+
+    -- the front comes back
+    front-back : take (imageLength (p .total)) (mp ++ drop n m) ≡ mp
+    front-back = take-at mp (drop n m) (imageLength (p .total)) (plays .sound .within .size)
+
+    steady : (s : Stop) → (phaseAfter s ≡ Ended → ⊥) → Steady (phaseAfter s) p (r .board) kept′ (mp ++ drop n m) w′
+    steady More h = rw front-back (plays .sound)
+    steady Full h = rw front-back (plays .sound)
+    steady Over h = absurd (h refl)
+
+    pub goes-from : (f : Phase) → f ≡ phaseAfter (r .stop)
+        → GoesOn p b place window from kept m out used
+        (record { session = record { phase = f; plate = p; board = r .board; place = place + r .at }; read = r .at; used = r .used; stop = r .stop }) kept′ (mp ++ drop n m) w′ out′
+    goes-from f e = record {
+      stage = rw (front-back, e) (plays .stage);
+      next = ap (λ (i : ℕ). place + i) (plays .read);
+      read = plays .read;
+      inside = plays .inside;
+      stop = plays .stop;
+      printed = plays .printed;
+      steady = rw e (steady (r .stop));
+    }
+
+-- ---- a board at work
+
+pub at-work : (f : Phase) (p : Plate) (b : Board) (kept m w : List ℕ) → OneOf (1 ∷ 2 ∷ []) (tagOf the-type f) → Steady f p b kept m w → f ≡ Running
+at-work Opening p b kept m w k h = absurd (miss (1 ∷ 2 ∷ []) 0 tt k)
+at-work Running p b kept m w k h = refl
+at-work Ended p b kept m w k h = absurd h
+
+module _ (s : Session) (window kept m w out : List ℕ) (used : ℕ) (ready : Ready s window kept m w out used) where
+  pub playable : s .phase ≡ Running → Playable (s .plate) (s .board) (s .place) window 0 kept m w out used
+  playable e = record { sound = rw e at (ready .steady); size = ready .size; starts = omega arith; space = ready .space; places = ready .place }
+
+  pub eats-on : (r : Eaten) (kept′ m′ w′ out′ : List ℕ) → s .phase ≡ Running → GoesOn (s .plate) (s .board) (s .place) window 0 kept m out used r kept′ m′ w′ out′
+      → Eats s window kept m out used r kept′ m′ w′ out′
+  eats-on r kept′ m′ w′ out′ e g =
+      let q : passFrom (s .plate) (s .board) (s .place) window 0 kept m out used ≡ passOver s window kept m out used = rw (add-zero (s .place), e) in
+      record {
+        stage = g .stage ∙ ap (λ (x : Pass). x .stage) q;
+        place = g .next ∙ ap (λ (x : Pass). s .place + (0 + x .read)) q ∙ rw zero-add;
+        read = g .read ∙ ap (λ (x : Pass). 0 + x .read) q ∙ rw zero-add;
+        inside = g .inside;
+        stop = g .stop ∙ ap (λ (x : Pass). stopTold (x .stop)) q;
+        printed = rw q at (g .printed);
+        steady = g .steady;
+      }
+
+  -- ---- before the plate
+
+  eats-stopped : (why : passes.Stop) (r : Eaten) → passOver s window kept m out used ≡ stopped (stageOf s kept m) why
+      → r ≡ record { session = s; read = 0; used = used; stop = stopTold why } → Eats s window kept m out used r kept m w out
+  unfolding stopped
+  eats-stopped why r q d =
+      rw d
+      (record {
+        stage = sym (ap (λ (x : Pass). x .stage) q);
+        place = rw q (sym (add-zero (s .place)));
+        read = sym (ap (λ (x : Pass). x .read) q);
+        inside = omega arith;
+        stop = rw q;
+        printed = no-text out used (ap (λ (x : Pass). x .printed) q) (ready .space);
+        steady = λ h. ready .steady;
+      })
+
+  pub eats-full : (r : Eaten) → length out - used < longestLine → r ≡ record { session = s; read = 0; used = used; stop = Full } → Eats s window kept m out used r kept m w out
+  eats-full r h d = eats-stopped passes.full r (pass-full (length window) (length out - used) (stageOf s kept m) (s .place) window h) d
+
+  pub eats-more : (r : Eaten) → longestLine ≤ length out - used → heard window ≡ nothing → r ≡ record { session = s; read = 0; used = used; stop = More }
+      → Eats s window kept m out used r kept m w out
+  eats-more r h e d = eats-stopped passes.more r (pass-more (length window) (length out - used) (stageOf s kept m) (s .place) window h e) d
+
+  module _ (first : s .phase ≡ Opening) (space : longestLine ≤ length out - used) where
+    begin-pass : (x : Said) → heard window ≡ said x → let k = turn opening (s .place) x in
+        passOver s window kept m out used
+        ≡ after (k .stage) (k .printed) (wholeLength window) (pass (length window) (length out - used - length (k .printed)) (k .stage) (s .place + wholeLength window) (drop (wholeLength window) window))
+    begin-pass x e = rw first (pass-turn (length window) (length out - used) opening (s .place) window x space e)
+
+    pub eats-bad : (r : Eaten) (out′ : List ℕ) → (x : Said) × Fails window x → Refuses s out used r out′ → Eats s window kept m out used r kept m w out′
+    unfolding after bad
+    eats-bad r out′ (x, f) g =
+        let q : passOver s window kept m out used ≡ record { stage = ended; read = 0; printed = badLine (s .place); stop = passes.over }
+        = begin-pass x (f .heard) ∙ rw (f .turned (s .place)) in
+        let d = g .eaten in
+        record {
+          stage = rw (d, q);
+          place = rw (d, q) (sym (add-zero (s .place)));
+          read = rw (d, q);
+          inside = rw d (omega arith);
+          stop = rw (d, q);
+          printed = rw q (g .printed);
+          steady = rw d (λ h. absurd (h refl));
+        }
+
+-- ---- the plate
+
+take-zeros : (n k : ℕ) → n ≤ k → take n (zeros k) ≡ zeros n
+take-zeros zero k h = refl
+take-zeros (suc n) zero h = absurd (omega arith)
+take-zeros (suc n) (suc k) h = ap (λ (l : List ℕ). 0 ∷ l) (take-zeros n k (omega arith))
+
+-- a pass after so many bytes
+abbrev ahead : ℕ → Pass → Pass
+ahead n q = record { stage = q .stage; read = n + q .read; printed = q .printed; stop = q .stop }
+
+yes-it-is : (b : Bool) → T b → b ≡ true
+yes-it-is true h = refl
+yes-it-is false h = absurd h
+
+module _ (s : Session) (window kept m w out : List ℕ) (used : ℕ) (ready : Ready s window kept m w out used) (first : s .phase ≡ Opening)
+    (p : Plate) (next : ℕ) (x : Said) (begins : Begins window p next x) (b : Board) (fresh-board : (k : List ℕ) → stateOf b k ≡ fresh (plateOf p)) where
+  blank : take (imageLength (p .total)) m ≡ zeros (imageLength (p .total))
+  blank =
+      let z : m ≡ zeros largestImage = rw first at (ready .steady) in
+      rw z (take-zeros (imageLength (p .total)) largestImage (omega (arith, total-fits (plateOf p) (begins .good))))
+
+  few : b .frame .len ≤ 135
+  unfolding fresh meaning.none
+  few =
+      let e : take (b .frame .len) kept ≡ [] = ap (λ (y : meaning.State). y .line .kept) (fresh-board kept) in
+      omega (arith, ap length e, length-take (b .frame .len) kept, ready .lent)
+
+  pub fresh-playable : Playable p b (s .place) window next kept m w out used
+  fresh-playable = record {
+    sound = record {
+      within = record {
+        plate = begins .good;
+        state = rw (fresh-board kept) (yes-it-is (stateOk (plateOf p) (fresh (plateOf p))) (fresh-within (plateOf p)));
+        few = few;
+        places = ready .lent;
+        size = length-take-le (imageLength (p .total)) m (front-fits p m (begins .good) (ready .size));
+      };
+      room = ready .room;
+    };
+    size = ready .size;
+    starts = begins .inside;
+    space = ready .space;
+    places = ready .place;
+  }
+
+  -- the first record is the plate, and the board's pass begins behind it
+  pub eats-plate : (r : Eaten) (kept′ m′ w′ out′ : List ℕ) → longestLine ≤ length out - used → GoesOn p b (s .place) window next kept m out used r kept′ m′ w′ out′
+      → Eats s window kept m out used r kept′ m′ w′ out′
+  unfolding after
+  eats-plate r kept′ m′ w′ out′ space g =
+      let n = wholeLength window in
+      let d : length (drop n window) < length window = rw (length-drop n window) (omega (arith, begins .whole, begins .inside)) in
+      let z : length out - used - 0 ≡ length out - used = omega arith in
+      let q : pass (length window) (length out - used - 0) (running (plateOf p) (fresh (plateOf p)) (zeros (imageLength (p .total)))) (s .place + n) (drop n window)
+      ≡ passFrom p b (s .place) window next kept m out used
+      = rw (z, begins .whole, blank, fresh-board kept)
+      (pass-enough (length window) (suc (length window)) (length out - used) (running (plateOf p) (fresh (plateOf p)) (zeros (imageLength (p .total)))) (s .place + n) (drop n window) d (omega arith)) in
+      let a : passOver s window kept m out used ≡ ahead next (passFrom p b (s .place) window next kept m out used)
+      = begin-pass s window kept m w out used ready first space x (begins .heard) ∙ rw (begins .turned (s .place), q, begins .whole) in
+      record {
+        stage = g .stage ∙ sym (ap (λ (y : Pass). y .stage) a);
+        place = g .next ∙ ap (λ (i : ℕ). s .place + i) (sym (ap (λ (y : Pass). y .read) a));
+        read = g .read ∙ sym (ap (λ (y : Pass). y .read) a);
+        inside = g .inside;
+        stop = g .stop ∙ ap stopTold (sym (ap (λ (y : Pass). y .stop) a));
+        printed = rw a (g .printed);
+        steady = g .steady;
+      }

@@ -1,0 +1,215 @@
+-- The loop of a pass: what was read and printed so far, and what is left, come to the whole pass. Assumes nothing.
+use Prim.Native.Nat.{ℕ, zero, suc, _+_, _-_, _≤_, _<_}
+use mathlib.Core.Path.{_≡_, refl, sym, ap, _∙_}
+use mathlib.Core.Bool.{Bool, true, false}
+use mathlib.Core.List.{List, [], _∷_, _++_, append-assoc, append-nil}
+use native.Mathlib.Nat.{add-assoc, add-zero, zero-add}
+use native.Mathlib.Omega.{arith}
+use lib.ListN.{length, drop, length-drop}
+use lib.Seq.{drop-drop}
+use borrow.Author.Tests.{lt-ltb, le-ltb}
+use Rattle.meaning.specs.State as meaning
+use Rattle.line.specs.declared.plate.Plate.{Plate}
+use Rattle.line.specs.declared.characters.Frame.{Frame}
+use Rattle.line.specs.Line.{plateOf, lineOf}
+use Rattle.commands.specs.declared.state.State.{State}
+use Rattle.commands.specs.State.{stateWith}
+use Rattle.board.specs.declared.limits.Board.{Board}
+use Rattle.tape.specs.Records.{wholeLength}
+use Rattle.tape.specs.Kinds.{Said, unfit}
+use Rattle.tape.specs.Text.{badLine}
+use Rattle.tape.specs.Answers.{Stage, running, ended, Turn, bad, turn}
+use Rattle.tape.specs.Passes as passes
+use Rattle.tape.specs.Passes.{Pass, pass, stopped, after, hearing, heard, nothing, said, longestLine}
+use Rattle.tape.specs.Reader.{Printed}
+use Rattle.tape.proofs.Texts.{same-room, joined}
+use Rattle.answers.specs.Turns.{Sound, runs, Past, Quiet, Turns, stageAfter}
+use Rattle.answers.specs.Sessions.{Plays, stopTold, stageFrom, phaseAfter}
+use Rattle.answers.proofs.Closings.{no-text}
+use Rattle.answers.specs.declared.passes.Played.{Played}
+use Rattle.answers.specs.declared.turns.Turned.{Turned}
+use Rattle.answers.specs.declared.session.Stop.the-variants.{More, Full, Over}
+use Rattle.answers.specs.declared.session.Phase.the-variants.{Running}
+
+-- ---- one turn of a pass
+
+module _ (n space : ℕ) (w : Stage) (at : ℕ) (t : List ℕ) where
+  pub pass-full : space < longestLine → pass (suc n) space w at t ≡ stopped w passes.full
+  unfolding pass
+  pass-full h = rw (lt-ltb space longestLine h)
+
+  pub pass-more : longestLine ≤ space → heard t ≡ nothing → pass (suc n) space w at t ≡ stopped w passes.more
+  unfolding pass hearing
+  pass-more h e = rw (le-ltb space longestLine h, e)
+
+  pub pass-turn : (x : Said) → longestLine ≤ space → heard t ≡ said x
+      → pass (suc n) space w at t
+      ≡ after ((turn w at x) .stage) ((turn w at x) .printed) (wholeLength t) (pass n (space - length ((turn w at x) .printed)) ((turn w at x) .stage) (at + wholeLength t) (drop (wholeLength t) t))
+  unfolding pass hearing
+  pass-turn x h e = rw (le-ltb space longestLine h, e)
+
+-- a pass that so much was read and printed before
+abbrev before : ℕ → List ℕ → Pass → Pass
+before n x q = record { stage = q .stage; read = n + q .read; printed = x ++ q .printed; stop = q .stop }
+
+after-running : (w : Stage) (p : meaning.Plate) (s : meaning.State) (m : List ℕ) (r n : ℕ) (x y : List ℕ) (q : Pass) → w ≡ running p s m
+    → before r x (after w y n q) ≡ before (r + n) (x ++ y) q
+unfolding after
+after-running w p s m r n x y q e = rw (e, append-assoc x y (q .printed), add-assoc r n (q .read))
+
+-- ---- the loop's invariant
+
+pub record Going (p : Plate) (place : ℕ) (window : List ℕ) (from : ℕ) (kept₀ m₀ out₀ : List ℕ) (start : ℕ) (s₀ : State) (f₀ : Frame)
+    (kept m w out : List ℕ) (s : State) (f : Frame) (at used : ℕ) : Type 0 where
+  pub fuel : ℕ
+  pub read : ℕ
+  pub text : List ℕ
+  pub sound : Sound p (record { state = s; frame = f }) kept m w
+  pub printed : Printed text out₀ start used out
+  pub far : at ≡ from + read
+  pub inside : at ≤ length window
+  pub enough : length window - at ≤ fuel
+  pub whole : pass (suc (length window)) (length out₀ - start) (runs p s₀ f₀ kept₀ m₀) (place + from) (drop from window)
+      ≡ before read text (pass (suc fuel) (length out - used) (runs p s f kept m) (place + at) (drop at window))
+
+pub begins : (p : Plate) (place : ℕ) (window : List ℕ) (from : ℕ) (kept m w out : List ℕ) (start : ℕ) (s : State) (f : Frame)
+    → Sound p (record { state = s; frame = f }) kept m w → from ≤ length window → start ≤ length out
+    → Going p place window from kept m out start s f kept m w out s f from start
+begins p place window from kept m w out start s f sound h k = record {
+  fuel = length window;
+  read = 0;
+  text = [];
+  sound = sound;
+  printed = no-text out start refl k;
+  far = sym (add-zero from);
+  inside = h;
+  enough = omega arith;
+  whole = rw zero-add;
+}
+
+module _ {p : Plate} {place : ℕ} {window : List ℕ} {from : ℕ} {kept₀ m₀ out₀ : List ℕ} {start : ℕ} {s₀ : State} {f₀ : Frame}
+    {kept m w out : List ℕ} {s : State} {f : Frame} {at used : ℕ} (g : Going p place window from kept₀ m₀ out₀ start s₀ f₀ kept m w out s f at used) where
+  abbrev all : Pass
+  all = pass (suc (length window)) (length out₀ - start) (runs p s₀ f₀ kept₀ m₀) (place + from) (drop from window)
+
+  abbrev here : Stage
+  here = runs p s f kept m
+
+  abbrev done : Said → Turn
+  done x = turn here (place + at) x
+
+  -- no space for a line, no whole record
+  halted : (why : passes.Stop) (r : Played) → phaseAfter (stopTold why) ≡ Running → all ≡ before (g .read) (g .text) (stopped here why)
+      → r ≡ record { board = record { state = s; frame = f }; at = at; used = used; stop = stopTold why }
+      → Plays p all from window out₀ start r kept m w out
+  unfolding stopped
+  halted why r k e d =
+      rw (e, d)
+      (record {
+        read = rw add-zero (g .far);
+        inside = g .inside;
+        stop = refl;
+        printed = rw append-nil (g .printed);
+        stage = rw k;
+        sound = g .sound;
+      })
+
+  pub halts-full : (r : Played) → length out - used < longestLine → r ≡ record { board = record { state = s; frame = f }; at = at; used = used; stop = Full }
+      → Plays p all from window out₀ start r kept m w out
+  halts-full r h d =
+      halted passes.full r refl (g .whole ∙ ap (before (g .read) (g .text)) (pass-full (g .fuel) (length out - used) here (place + at) (drop at window) h)) d
+
+  pub halts-more : (r : Played) → longestLine ≤ length out - used → heard (drop at window) ≡ nothing
+      → r ≡ record { board = record { state = s; frame = f }; at = at; used = used; stop = More }
+      → Plays p all from window out₀ start r kept m w out
+  halts-more r h e d =
+      halted passes.more r refl (g .whole ∙ ap (before (g .read) (g .text)) (pass-more (g .fuel) (length out - used) here (place + at) (drop at window) h e)) d
+
+  -- a bad record
+  pub ends : {kept′ m′ w′ out′ : List ℕ} (s′ : State) (f′ : Frame) (x : Said) (end : ℕ) (r : Played)
+      → longestLine ≤ length out - used → heard (drop at window) ≡ said x → (done x) .stage ≡ ended → Printed ((done x) .printed) out used end out′
+      → Sound p (record { state = s′; frame = f′ }) kept′ m′ w′
+      → r ≡ record { board = record { state = s′; frame = f′ }; at = at; used = end; stop = Over }
+      → Plays p all from window out₀ start r kept′ m′ w′ out′
+  unfolding after
+  ends s′ f′ x end r h e k pr sound d =
+      let q : all ≡ before (g .read) (g .text) (record { stage = ended; read = 0; printed = (done x) .printed; stop = passes.over })
+      = g .whole ∙ ap (before (g .read) (g .text)) (pass-turn (g .fuel) (length out - used) here (place + at) (drop at window) x h e ∙ rw k) in
+      rw (q, d)
+      (record {
+        read = rw add-zero (g .far);
+        inside = g .inside;
+        stop = refl;
+        printed = joined (g .printed) pr;
+        stage = refl;
+        sound = sound;
+      })
+
+  -- a good record
+  goes : {kept′ m′ w′ out′ : List ℕ} {s′ : State} {f′ : Frame} (n : ℕ) (x : Said) (next used′ : ℕ)
+      → g .fuel ≡ n → longestLine ≤ length out - used → heard (drop at window) ≡ said x → (done x) .stage ≡ runs p s′ f′ kept′ m′
+      → Printed ((done x) .printed) out used used′ out′ → Sound p (record { state = s′; frame = f′ }) kept′ m′ w′ → Past at window next
+      → Going p place window from kept₀ m₀ out₀ start s₀ f₀ kept′ m′ w′ out′ s′ f′ next used′
+  goes zero x next used′ z h e k pr sound past = absurd (omega (arith, g .enough, past .onward, past .inside))
+  goes {kept′} {m′} {w′} {out′} {s′} {f′} (suc n) x next used′ z h e k pr sound past =
+      let t = drop at window in
+      let a : place + at + wholeLength t ≡ place + next = omega (arith, past .whole) in
+      let b : drop (wholeLength t) t ≡ drop next window = drop-drop (wholeLength t) at window ∙ ap (λ (i : ℕ). drop i window) (sym (past .whole)) in
+      let c : length out - used - length ((done x) .printed) ≡ length out′ - used′ = omega (arith, same-room pr, pr .next) in
+      let q : pass (suc n) (length out - used - length ((done x) .printed)) ((done x) .stage) (place + at + wholeLength t) (drop (wholeLength t) t)
+      ≡ pass (suc n) (length out′ - used′) (runs p s′ f′ kept′ m′) (place + next) (drop next window) = rw (a, b, c, k) in
+      record {
+        fuel = n;
+        read = g .read + wholeLength t;
+        text = g .text ++ (done x) .printed;
+        sound = sound;
+        printed = joined (g .printed) pr;
+        far = omega (arith, past .whole, g .far);
+        inside = past .inside;
+        enough = omega (arith, g .enough, past .onward);
+        whole =
+            g .whole
+            ∙ ap (before (g .read) (g .text)) (pass-turn (g .fuel) (length out - used) here (place + at) t x h e)
+            ∙ rw z
+            (after-running ((done x) .stage) (plateOf p) (stateWith s′ (lineOf f′ kept′)) m′ (g .read) (wholeLength t) (g .text) ((done x) .printed) _ k
+            ∙ ap (before (g .read + wholeLength t) (g .text ++ (done x) .printed)) q);
+      }
+
+  pub goes-on : {kept′ m′ w′ out′ : List ℕ} {s′ : State} {f′ : Frame} (x : Said) (next used′ : ℕ)
+      → longestLine ≤ length out - used → heard (drop at window) ≡ said x → (done x) .stage ≡ runs p s′ f′ kept′ m′
+      → Printed ((done x) .printed) out used used′ out′ → Sound p (record { state = s′; frame = f′ }) kept′ m′ w′ → Past at window next
+      → Going p place window from kept₀ m₀ out₀ start s₀ f₀ kept′ m′ w′ out′ s′ f′ next used′
+  goes-on x next used′ = goes (g .fuel) x next used′ refl
+
+  -- no record begins there
+  pub breaks : {out′ : List ℕ} (end : ℕ) (r : Played) → longestLine ≤ length out - used → heard (drop at window) ≡ said unfit
+      → Printed (badLine (place + at)) out used end out′ → r ≡ record { board = record { state = s; frame = f }; at = at; used = end; stop = Over }
+      → Plays p all from window out₀ start r kept m w out′
+  unfolding turn bad
+  breaks end r h e pr d = ends s f unfit end r h e refl pr (g .sound) d
+
+  -- a record that closes no frame
+  pub quiet-goes : {kept′ : List ℕ} {f′ : Frame} (x : Said) (next : ℕ) → longestLine ≤ length out - used → heard (drop at window) ≡ said x
+      → Quiet p f kept x f′ kept′ → Past at window next
+      → Going p place window from kept₀ m₀ out₀ start s₀ f₀ kept′ m w out s f′ next used
+  quiet-goes x next h e q past =
+      let t = q .turned s m (place + at) in
+      goes-on x next used h e (ap (λ (y : Turn). y .stage) t) (no-text out used (ap (λ (y : Turn). y .printed) t) (omega (arith, g .printed .within, same-room (g .printed))))
+      (record { within = q .within s m (g .sound .within); room = g .sound .room }) past
+
+  -- any other record: a bad one, a good one
+  module _ {keptq kept′ m′ w′ out′ : List ℕ} (x : Said) (q : Turned) (same : keptq ≡ kept) (h : longestLine ≤ length out - used) (e : heard (drop at window) ≡ said x)
+      (t : Turns p (record { state = s; frame = f }) (place + at) x keptq m out used q kept′ m′ w′ out′) where
+    turns : Turns p (record { state = s; frame = f }) (place + at) x kept m out used q kept′ m′ w′ out′
+    turns = rw same at t
+
+    pub turn-ends : (r : Played) → q .over ≡ true → r ≡ record { board = record { state = q .board .state; frame = q .board .frame }; at = at; used = q .used; stop = Over }
+        → Plays p all from window out₀ start r kept′ m′ w′ out′
+    turn-ends r o d =
+        ends (q .board .state) (q .board .frame) x (q .used) r h e (sym (turns .stage) ∙ ap (λ (b : Bool). stageAfter b (runs p (q .board .state) (q .board .frame) kept′ m′)) o)
+        (turns .printed) (turns .sound) d
+
+    pub turn-goes : (next : ℕ) → q .over ≡ false → Past at window next
+        → Going p place window from kept₀ m₀ out₀ start s₀ f₀ kept′ m′ w′ out′ (q .board .state) (q .board .frame) next (q .used)
+    turn-goes next o past =
+        goes-on x next (q .used) h e (sym (turns .stage) ∙ ap (λ (b : Bool). stageAfter b (runs p (q .board .state) (q .board .frame) kept′ m′)) o) (turns .printed) (turns .sound) past

@@ -1,0 +1,49 @@
+-- `answers::turns::hear` meets its contract. Assumes nothing.
+use mathlib.Core.Path.{sym, _∙_}
+use Rattle.answers.proofs.Hearing.{not-yet, none-there, body-inside, past-it, said-there}
+use borrow.Author.Needs.{needs}
+use Rattle.answers.proofs.turns.hear.Statement.{statement}
+use Rattle.answers.proofs.turns.hear.Tie as tie
+use Rattle.answers.proofs.turns.hear.Reads as reads
+use Rattle.answers.proofs.turns.hear.Lts as lts
+use Rattle.tape.proofs.event_of.Reads as event-of-reads
+use Rattle.tape.proofs.record.Cursor.read.Reads as read-reads
+
+read-requires : tie.Need-read-requires
+read-requires c κs = search needs
+
+enum-told : tie.Need-enum-told
+enum-told c = search needs
+
+enum-told-2 : tie.Need-enum-told-2
+enum-told-2 c = search needs
+
+enum-known-kind : tie.Need-enum-known-kind
+enum-known-kind c = search needs
+
+event-of-requires : tie.Need-event-of-requires
+event-of-requires c κs = body-inside _ _ _ _ _ _ (sym (c .before .before .before .read .ensures) ∙ c .before .kind .given .1)
+
+returns : tie.Need-returns
+returns c = not-yet _ _ (sym (c .before .before .read .ensures) ∙ c .enum-told .given .1)
+
+returns-2 : tie.Need-returns-2
+returns-2 c = none-there _ _ (sym (c .before .before .read .ensures) ∙ c .enum-told2 .given .1)
+
+returns-3 : tie.Need-returns-3
+returns-3 c =
+    let e = sym (c .before .before .before .before .read .ensures) ∙ c .before .before .kind .given .1 in
+    record { heard = said-there _ _ _ _ _ _ e (c .event-of .ensures); next = past-it _ _ _ _ _ _ e }
+
+pub hear-spec : {M : Type 1} → statement M
+hear-spec =
+    tie.close
+    (tie.spec
+    read-requires
+    enum-told
+    enum-told-2
+    enum-known-kind
+    event-of-requires
+    returns
+    returns-2
+    returns-3)

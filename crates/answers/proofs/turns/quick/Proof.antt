@@ -1,0 +1,61 @@
+-- `answers::turns::quick` meets its contract. Assumes nothing.
+use mathlib.Core.Path.{refl, sym, _∙_}
+use Rattle.answers.proofs.Turning.{quiet-character, quiet-poll}
+use borrow.Author.Needs.{needs}
+use Rattle.answers.proofs.turns.quick.Statement.{statement}
+use Rattle.answers.proofs.turns.quick.Tie as tie
+use Rattle.answers.proofs.turns.quick.Reads as reads
+use Rattle.answers.proofs.turns.quick.Lts as lts
+use Rattle.line.proofs.characters.Frame.is_over.Reads as is-over-reads
+use Rattle.line.proofs.characters.Frame.with_character.Reads as with-character-reads
+
+enum-known-event : tie.Need-enum-known-event
+enum-known-event c = search needs
+
+is-over-requires : tie.Need-is-over-requires
+is-over-requires c κs = search needs
+
+returns : tie.Need-returns
+returns c = search needs
+
+with-character-requires : tie.Need-with-character-requires
+with-character-requires c κs = search needs
+
+enum-known-event-2 : tie.Need-enum-known-event-2
+enum-known-event-2 c = search needs
+
+is-over-requires-2 : tie.Need-is-over-requires-2
+is-over-requires-2 c κs = search needs
+
+returns-2 : tie.Need-returns-2
+returns-2 c = search needs
+
+same-length : tie.Need-same-length
+same-length c = search needs
+
+returns-3 : tie.Need-returns-3
+returns-3 c =
+    let w = c .before .before .with-character in
+    rw (c .before .before .before .before .before .before .before .event .given .1) (quiet-character _ _ _ _ _ _ _ _ (λ s. sym (c .before .before .before .before .before .is-over .ensures _ _ refl) ∙ c .before .before .before .before .if1 .left) (w .ensures) (w .kept .1 .1 .1 .1 .0 ∙ c .before .before .before .before .before .before .before .before .before .before .pre .all))
+
+returns-4 : tie.Need-returns-4
+returns-4 c = rw (c .before .before .before .event2 .given .1) (quiet-poll _ _ _ _ (λ s. sym (c .before .is-over2 .ensures _ _ refl) ∙ c .if2 .left))
+
+returns-5 : tie.Need-returns-5
+returns-5 c = search needs
+
+pub quick-spec : {M : Type 1} → statement M
+quick-spec =
+    tie.close
+    (tie.spec
+    enum-known-event
+    is-over-requires
+    returns
+    with-character-requires
+    enum-known-event-2
+    is-over-requires-2
+    returns-2
+    same-length
+    returns-3
+    returns-4
+    returns-5)

@@ -1,0 +1,116 @@
+-- Where a tape stands between two of its parts, as a stage of the meaning; what a pass and the end of the tape leave. Assumes nothing.
+use Prim.Native.Nat.{ℕ, suc, _+_, _-_, _≤_, _<_, _^_}
+use mathlib.Core.Path.{_≡_}
+use mathlib.Core.List.{List}
+use lib.ListN.{length, take, drop}
+use Rattle.meaning.specs.Bytes.{zeros, put}
+use Rattle.meaning.specs.Fields.{imageLength}
+use Rattle.line.specs.declared.plate.Plate.{Plate}
+use Rattle.line.specs.Line.{plateOf}
+use Rattle.board.specs.declared.limits.Board.{Board}
+use Rattle.board.specs.Board.{stateOf}
+use Rattle.tape.specs.Answers.{Stage, opening, running, ended}
+use Rattle.tape.specs.Passes as passes
+use Rattle.tape.specs.Passes.{Pass, pass, longestLine}
+use Rattle.tape.specs.Text.{badLine}
+use Rattle.tape.specs.Reader.{Printed}
+use Rattle.answers.specs.Turns.{Sound}
+use Rattle.answers.specs.declared.session.Phase.{Phase}
+use Rattle.answers.specs.declared.session.Phase.the-variants.{Opening, Running, Ended}
+use Rattle.answers.specs.declared.session.Session.{Session}
+use Rattle.answers.specs.declared.session.Stop.{Stop}
+use Rattle.answers.specs.declared.session.Stop.the-variants.{More, Full, Over}
+use Rattle.answers.specs.declared.passes.Played.{Played}
+use Rattle.answers.specs.declared.passes.Eaten.{Eaten}
+
+-- the lent memory has room for the largest plate; a board uses the front of it
+abbrev pub largestImage : ℕ
+largestImage = imageLength 112
+
+abbrev pub stageFrom : Phase → Plate → Board → List ℕ → List ℕ → Stage
+stageFrom Opening p b kept m = opening
+stageFrom Running p b kept m = running (plateOf p) (stateOf b kept) m
+stageFrom Ended p b kept m = ended
+
+abbrev pub stageOf : Session → List ℕ → List ℕ → Stage
+stageOf s kept m = stageFrom (s .phase) (s .plate) (s .board) kept (take (imageLength (s .plate .total)) m)
+
+-- why a pass stopped, and whether it goes on
+abbrev pub stopTold : passes.Stop → Stop
+stopTold passes.more = More
+stopTold passes.full = Full
+stopTold passes.over = Over
+
+abbrev pub phaseAfter : Stop → Phase
+phaseAfter More = Running
+phaseAfter Full = Running
+phaseAfter Over = Ended
+
+-- a tape at its first byte
+pub record Starts (s : Session) : Type 0 where
+  pub phase : s .phase ≡ Opening
+  pub place : s .place ≡ 0
+
+-- what a pass of a running board leaves
+pub record Plays (p : Plate) (q : Pass) (from : ℕ) (window out : List ℕ) (used : ℕ) (r : Played) (kept′ m′ w′ out′ : List ℕ) : Type 0 where
+  pub read : r .at ≡ from + q .read
+  pub inside : r .at ≤ length window
+  pub stop : r .stop ≡ stopTold (q .stop)
+  pub printed : Printed (q .printed) out used (r .used) out′
+  pub stage : stageFrom (phaseAfter (r .stop)) p (r .board) kept′ m′ ≡ q .stage
+  pub sound : Sound p (r .board) kept′ m′ w′
+
+-- what each phase asks of the lent bytes: blank memory before the plate, then a board within its limits; after the end nothing is read
+abbrev pub Steady : Phase → Plate → Board → List ℕ → List ℕ → List ℕ → Type 0
+Steady Opening p b kept m w = m ≡ zeros largestImage
+Steady Running p b kept m w = Sound p b kept (take (imageLength (p .total)) m) w
+Steady Ended p b kept m w = ⊥
+
+pub record Ready (s : Session) (window kept m w out : List ℕ) (used : ℕ) : Type 0 where
+  pub steady : Steady (s .phase) (s .plate) (s .board) kept m w
+  pub lent : length kept ≡ 135
+  pub size : length m ≡ largestImage
+  pub room : 134 ≤ length w
+  pub space : used ≤ length out
+  pub place : s .place + length window < 2 ^ 64
+
+-- the pass over a window with what space the room has
+abbrev pub passOver : Session → List ℕ → List ℕ → List ℕ → List ℕ → ℕ → Pass
+passOver s window kept m out used = pass (suc (length window)) (length out - used) (stageOf s kept m) (s .place) window
+
+-- what a pass leaves: all is as the meaning's pass over the window says
+pub record Eats (s : Session) (window kept m out : List ℕ) (used : ℕ) (r : Eaten) (kept′ m′ w′ out′ : List ℕ) : Type 0 where
+  pub stage : stageOf (r .session) kept′ m′ ≡ (passOver s window kept m out used) .stage
+  pub place : r .session .place ≡ s .place + (passOver s window kept m out used) .read
+  pub read : r .read ≡ (passOver s window kept m out used) .read
+  pub inside : r .read ≤ length window
+  pub stop : r .stop ≡ stopTold ((passOver s window kept m out used) .stop)
+  pub printed : Printed ((passOver s window kept m out used) .printed) out used (r .used) out′
+  pub steady : (r .session .phase ≡ Ended → ⊥) → Steady (r .session .phase) (r .session .plate) (r .session .board) kept′ m′ w′
+
+-- a board at work, with the lent memory of which it uses the front
+pub record Playable (p : Plate) (b : Board) (place : ℕ) (window : List ℕ) (from : ℕ) (kept m w out : List ℕ) (used : ℕ) : Type 0 where
+  pub sound : Sound p b kept (take (imageLength (p .total)) m) w
+  pub size : length m ≡ largestImage
+  pub starts : from ≤ length window
+  pub space : used ≤ length out
+  pub places : place + length window < 2 ^ 64
+
+-- the pass of such a board over the window from a place on
+abbrev pub passFrom : Plate → Board → ℕ → List ℕ → ℕ → List ℕ → List ℕ → List ℕ → ℕ → Pass
+passFrom p b place window from kept m out used =
+    pass (suc (length window)) (length out - used) (stageFrom Running p b kept (take (imageLength (p .total)) m)) (place + from) (drop from window)
+
+pub record GoesOn (p : Plate) (b : Board) (place : ℕ) (window : List ℕ) (from : ℕ) (kept m out : List ℕ) (used : ℕ) (r : Eaten) (kept′ m′ w′ out′ : List ℕ) : Type 0 where
+  pub stage : stageOf (r .session) kept′ m′ ≡ (passFrom p b place window from kept m out used) .stage
+  pub next : r .session .place ≡ place + (from + (passFrom p b place window from kept m out used) .read)
+  pub read : r .read ≡ from + (passFrom p b place window from kept m out used) .read
+  pub inside : r .read ≤ length window
+  pub stop : r .stop ≡ stopTold ((passFrom p b place window from kept m out used) .stop)
+  pub printed : Printed ((passFrom p b place window from kept m out used) .printed) out used (r .used) out′
+  pub steady : (r .session .phase ≡ Ended → ⊥) → Steady (r .session .phase) (r .session .plate) (r .session .board) kept′ m′ w′
+
+-- the first record is bad
+pub record Refuses (s : Session) (out : List ℕ) (used : ℕ) (r : Eaten) (out′ : List ℕ) : Type 0 where
+  pub eaten : r ≡ record { session = record { phase = Ended; plate = s .plate; board = s .board; place = s .place }; read = 0; used = r .used; stop = Over }
+  pub printed : Printed (badLine (s .place)) out used (r .used) out′

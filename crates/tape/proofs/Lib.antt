@@ -1,0 +1,8 @@
+pub mod Bytes
+pub mod Rooms
+pub mod Decimal
+pub mod Events
+pub mod Windows
+pub mod Texts
+pub mod Streams
+pub mod Worked

@@ -1,0 +1,91 @@
+-- Bytes put into a room one after another, from the front and from the back. Assumes nothing.
+use Prim.Native.Nat.{ℕ, zero, suc, _+_, _-_, _*_, _/_, _%_, _≤_, _<_}
+use mathlib.Core.Path.{_≡_, refl, sym, ap, _∙_}
+use mathlib.Core.List.{List, [], _∷_, _++_, append-assoc, append-nil}
+use native.Mathlib.Numerals.{add-one}
+use native.Mathlib.Nat.{add-assoc, add-zero}
+use native.Mathlib.Omega.{arith}
+use lib.ListN.{length, getD, take, drop, set, length-append, length-take, length-drop, length-set, take-append-drop, drop-of-length-le}
+use lib.Seq.{drop-cons, take-at, drop-at, drop-drop, set-split, length-take-le, take-set-le, drop-set-lt, set-at, append-snoc}
+use Rattle.meaning.specs.Bytes.{put}
+use Rattle.meaning.proofs.Puts.{length-put}
+use Rattle.tape.specs.Text.{digitOf, hexOf}
+
+-- nothing put
+pub put-nil : (room : List ℕ) (at : ℕ) → put room at [] ≡ room
+unfolding put
+put-nil room at = rw (add-zero at) (take-append-drop at room)
+
+-- one text behind another
+pub put-put : (room : List ℕ) (at : ℕ) (xs ys : List ℕ) → at + length xs + length ys ≤ length room
+    → put (put room at xs) (at + length xs) ys ≡ put room at (xs ++ ys)
+unfolding put
+put-put room at xs ys h =
+    let k : length (take at room) ≡ at = length-take-le at room (omega arith) in
+    let j : length (take at room ++ xs) ≡ at + length xs = simp (length-append, k) in
+    let e : take at room ++ (xs ++ drop (at + length xs) room) ≡ (take at room ++ xs) ++ drop (at + length xs) room = sym (append-assoc (take at room) xs _) in
+    let f : drop (at + length xs + length ys) ((take at room ++ xs) ++ drop (at + length xs) room) ≡ drop (at + (length xs + length ys)) room
+    = rw (← drop-drop (length ys) (at + length xs) ((take at room ++ xs) ++ drop (at + length xs) room), drop-at (take at room ++ xs) (drop (at + length xs) room) (at + length xs) j, drop-drop (length ys) (at + length xs) room, add-assoc at) in
+    rw (e, take-at (take at room ++ xs) (drop (at + length xs) room) (at + length xs) j, f, length-append xs ys, append-assoc (take at room) xs, append-assoc xs ys)
+
+-- one byte is a store
+pub put-one : (room : List ℕ) (at b : ℕ) → at < length room → set room at b ≡ put room at (b ∷ [])
+unfolding put
+put-one room at b h = rw (add-one at) (set-split room at b h)
+
+-- a byte in front of the rest
+pub put-next : (room : List ℕ) (at b : ℕ) (bs : List ℕ) → at + 1 + length bs ≤ length room → put (set room at b) (at + 1) bs ≡ put room at (b ∷ bs)
+put-next room at b bs h = rw (put-one room at b (omega arith)) (put-put room at (b ∷ []) bs (omega arith))
+
+-- a byte behind the rest, stored before it or after it
+pub put-last : (room : List ℕ) (at z : ℕ) (bs : List ℕ) → at + length bs < length room → set (put room at bs) (at + length bs) z ≡ put room at (bs ++ (z ∷ []))
+put-last room at z bs h =
+    put-one (put room at bs) (at + length bs) z (rw (length-put room at bs (omega arith)) h) ∙ put-put room at bs (z ∷ []) (omega arith)
+
+pub put-back : (room : List ℕ) (at z : ℕ) (bs : List ℕ) → at + length bs < length room → put (set room (at + length bs) z) at bs ≡ put room at (bs ++ (z ∷ []))
+unfolding put
+put-back room at z bs h =
+    let k : length (bs ++ (z ∷ [])) ≡ suc (length bs) = simp length-append (omega arith) in
+    let n : at + suc (length bs) ≡ suc (at + length bs) = omega arith in
+    let d : drop (at + length bs) (set room (at + length bs) z) ≡ z ∷ drop (suc (at + length bs)) room
+    = rw (set-split room (at + length bs) z h) (drop-at (take (at + length bs) room) (z ∷ drop (suc (at + length bs)) room) (at + length bs) (length-take-le (at + length bs) room (omega arith))) in
+    rw (take-set-le at room (at + length bs) z (omega arith), d, k, n, append-snoc bs z)
+
+-- one more byte as a space and two digits
+pub hex-next : (room : List ℕ) (at b : ℕ) (bs : List ℕ) → at + 3 + length (hexOf bs) ≤ length room
+    → put (set (set (set room at 32) (at + 1) (digitOf (b / 16))) (at + 2) (digitOf (b % 16))) (at + 3) (hexOf bs) ≡ put room at (hexOf (b ∷ bs))
+unfolding hexOf
+hex-next room at b bs h =
+    let x : ℕ = digitOf (b / 16) in
+    let y : ℕ = digitOf (b % 16) in
+    let e₂ : at + 2 ≡ at + 1 + 1 = omega arith in
+    let e₃ : at + 3 ≡ at + 1 + 1 + 1 = omega arith in
+    rw (e₃, e₂)
+    (put-next (set (set room at 32) (at + 1) x) (at + 1 + 1) y (hexOf bs) (simp length-set (omega arith))
+    ∙ put-next (set room at 32) (at + 1) x (y ∷ hexOf bs) (simp length-set (omega arith))
+    ∙ put-next room at 32 (x ∷ y ∷ hexOf bs) (omega arith))
+
+pub length-hex : (s : List ℕ) → length (hexOf s) ≡ 3 * length s
+unfolding hexOf
+length-hex [] = refl
+length-hex (b ∷ s) = let h = length-hex s in omega arith
+
+-- what is left of a text, from the place reached, comes to the whole: one byte more, and none left
+pub copy-next : (s room : List ℕ) (i to : ℕ) → i < length s → to + (length s - i) ≤ length room
+    → put (set room to (getD s i 0)) (to + 1) (drop (i + 1) s) ≡ put room to (drop i s)
+copy-next s room i to h k =
+    let d : drop i s ≡ getD s i 0 ∷ drop (i + 1) s = rw (add-one i) (drop-cons s i 0 h) in
+    put-next room to (getD s i 0) (drop (i + 1) s) (simp length-drop (omega arith)) ∙ ap (λ (l : List ℕ). put room to l) (sym d)
+
+pub hex-more : (s room : List ℕ) (i to : ℕ) → i < length s → to + 3 * (length s - i) ≤ length room
+    → put (set (set (set room to 32) (to + 1) (digitOf (getD s i 0 / 16))) (to + 2) (digitOf (getD s i 0 % 16))) (to + 3) (hexOf (drop (i + 1) s))
+    ≡ put room to (hexOf (drop i s))
+hex-more s room i to h k =
+    let d : drop i s ≡ getD s i 0 ∷ drop (i + 1) s = rw (add-one i) (drop-cons s i 0 h) in
+    let n : length (hexOf (drop (i + 1) s)) ≡ 3 * (length s - (i + 1)) = length-hex (drop (i + 1) s) ∙ ap (λ (j : ℕ). 3 * j) (length-drop (i + 1) s) in
+    hex-next room to (getD s i 0) (drop (i + 1) s) (omega arith) ∙ ap (λ (l : List ℕ). put room to (hexOf l)) (sym d)
+
+pub none-left : (s room : List ℕ) (i to : ℕ) (f : List ℕ → List ℕ) {whole : List ℕ} → f [] ≡ [] → length s ≤ i → put room to (f (drop i s)) ≡ whole → room ≡ whole
+none-left s room i to f z h e =
+    let d : f (drop i s) ≡ [] = ap f (drop-of-length-le s {i = i} h) ∙ z in
+    sym (put-nil room to) ∙ ap (λ (l : List ℕ). put room to l) (sym d) ∙ e

@@ -1,0 +1,46 @@
+-- `tape::kinds::character_in` meets its contract. Assumes nothing.
+use mathlib.Core.Path.{sym}
+use Rattle.tape.proofs.Events.{unfitted, character-unfit, character-said}
+use borrow.Author.Needs.{needs}
+use Rattle.tape.proofs.kinds.character_in.Statement.{statement}
+use Rattle.tape.proofs.kinds.character_in.Tie as tie
+use Rattle.tape.proofs.kinds.character_in.Reads as reads
+use Rattle.tape.proofs.kinds.character_in.Lts as lts
+use Rattle.tape.proofs.record.get32.Reads as get32-reads
+
+returns : tie.Need-returns
+returns c = sym (unfitted _ _ _ (c .before .before .pre) 6 _ (c .if1 .taken))
+
+get32-requires : tie.Need-get32-requires
+get32-requires c κs = search needs
+
+add-value : tie.Need-add-value
+add-value c = search needs
+
+shared-slice-read-value : tie.Need-shared-slice-read-value
+shared-slice-read-value c = search needs
+
+add-fault : tie.Need-add-fault
+add-fault c = search needs
+
+shared-slice-read-fault : tie.Need-shared-slice-read-fault
+shared-slice-read-fault c = search needs
+
+returns-2 : tie.Need-returns-2
+returns-2 c = character-unfit _ _ _ (c .before .before .before .before .before .before .pre) (c .before .before .before .before .if1 .left) (c .if2 .taken)
+
+returns-3 : tie.Need-returns-3
+returns-3 c = character-said _ _ _ (c .before .before .before .before .before .before .pre) _ (c .before .before .before .before .if1 .left) (c .before .before .before .get32 .ensures) (c .if2 .left)
+
+pub character-in-spec : {M : Type 1} → statement M
+character-in-spec =
+    tie.close
+    (tie.spec
+    returns
+    get32-requires
+    add-value
+    shared-slice-read-value
+    add-fault
+    shared-slice-read-fault
+    returns-2
+    returns-3)

@@ -1,0 +1,6 @@
+pub mod Records
+pub mod Kinds
+pub mod Text
+pub mod Answers
+pub mod Reader
+pub mod Passes

@@ -1,0 +1,39 @@
+-- What the reader answers, and how the code's events say what the records say. Assumes nothing.
+use Prim.Native.Nat.{ℕ, _+_, _-_, _≤_}
+use mathlib.Core.Path.{_≡_}
+use mathlib.Core.List.{List}
+use lib.ListN.{length, drop}
+use lib.Dec.{ltb}
+use Rattle.meaning.specs.Bytes.{pick, part, put}
+use Rattle.meaning.specs.Run.{character, poll, measured, fault, power-on}
+use Rattle.tape.specs.Records.{little, lengthAt, wholeLength}
+use Rattle.tape.specs.Kinds.{Said, plate, call, unfit}
+use Rattle.tape.specs.declared.record.Read.{Read}
+use Rattle.tape.specs.declared.record.Read.the-variants.{Record, More, Bad}
+use Rattle.tape.specs.declared.kinds.Event.{Event}
+use Rattle.tape.specs.declared.kinds.Event.the-variants as event
+
+-- what stands at the front of t, which begins at a place of the window: More where the window ends before the record does, Bad where
+-- no record begins so: its length has no room for a kind, or is over the longest that the reader's kinds have
+unfoldable pub readAt : ℕ → ℕ → List ℕ → Read
+readAt longest at t =
+    pick (ltb (length t) 4) More
+    (pick (ltb (lengthAt t) 2) Bad
+    (pick (ltb longest (lengthAt t)) Bad
+    (pick (ltb (length t) (wholeLength t)) More
+    (Record (little (part t 2 2)) (at + 4) (lengthAt t - 2) (record { at = at + wholeLength t })))))
+
+abbrev pub saidOf : Event → Said
+saidOf (event.Plate t p a b u) = plate (record { total = t; bits = p; address = a; ticks = b; pause = u })
+saidOf (event.Character t v f) = call (character t v f)
+saidOf (event.Poll t) = call (poll t)
+saidOf (event.Measured n) = call (measured n)
+saidOf (event.Fault c) = call (fault c)
+saidOf event.PowerOn = call power-on
+saidOf event.Unfit = unfit
+
+-- a text is written into a room from a place on: r is the place past it, and the rest of the room is untouched
+pub record Printed (text room : List ℕ) (at r : ℕ) (room′ : List ℕ) : Type 0 where
+  pub next : r ≡ at + length text
+  pub bytes : room′ ≡ put room at text
+  pub within : r ≤ length room

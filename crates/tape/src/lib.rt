@@ -1,0 +1,12 @@
+// The answer program's tape: a reader of records, the kinds of its records, and the lines that are printed (01, "The answer program").
+mod kinds;
+mod record;
+mod text;
+
+pub use kinds::Event;
+pub use kinds::event_of;
+pub use record::Cursor;
+pub use record::Read;
+pub use text::bad_line;
+pub use text::first_line;
+pub use text::reply_line;
