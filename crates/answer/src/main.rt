@@ -1,76 +1,133 @@
 // The answer program: reads a tape on standard input and prints the replies (01, "The answer program"). The bytes at hand lie in a window of
-// 65,536 bytes and the lines are gathered in a room of as many, so a tape may have any length.
+// 65,536 bytes and the lines are gathered in a room of as many, so a tape may have any length. What is printed of a window is proved in the
+// crate `answers`; what is read and written is tested.
+ghost use mathlib.Core.Path.{_≡_};
+ghost use mathlib.Core.List.{[]};
+ghost use Prim.Native.Nat.{_+_, _≤_, _<_};
+ghost use lib.ListN.{length};
+ghost use Rattle.answer.specs.Program.{Leaves, Buffers};
+ghost use Rattle.answers.specs.Sessions.{Ready};
+use answers::Phase;
 use answers::Session;
 use answers::Stop;
 use libc::STDIN_FILENO;
 use libc::STDOUT_FILENO;
 
-struct Going {
+// What a window came to: where the tape stands, how far the window was read, how much of the room is used.
+struct Fed {
     session: Session,
-    have: usize,
+    at: usize,
     used: usize,
-    going: bool,
 }
 
-fn flush(out: &[u8], used: usize) {
-    if used <= out.len() {
-        io::write_all(STDOUT_FILENO, &out[..used]);
-    }
+fn flush(out: &[u8], used: usize)
+    requires { ⌜ used ≤ length (now out) ⌝ }
+{
+    io::write_all(STDOUT_FILENO, &out[..used]);
 }
 
-// Moves the bytes from `from` to `to` to the front of the window.
-fn shift(window: &mut [u8], from: usize, to: usize) {
-    let mut i = 0;
-    let mut j = from;
-    while j < to {
-        window[i] = window[j];
-        i += 1;
-        j += 1;
-    }
-}
-
-// Eats what is in the window.
-fn eat_all(
-    g: Going,
-    window: &mut [u8],
-    total: usize,
+// Eats what the window has, and writes the room out whenever it is full. Each pass that is stopped for want of space has read a record, so the
+// window's length bounds the turns.
+fn feed(
+    first: Session,
+    window: &[u8],
     kept: &mut [u8],
     memory: &mut [u8],
     reply: &mut [u8],
     out: &mut [u8],
-) -> Going {
-    let mut session = g.session;
-    let mut used = g.used;
+    start: usize,
+) -> Fed
+    requires { ⌜ Ready first [] (now kept) (now memory) (now reply) (now out) start ⌝ }
+    requires { ⌜ length (now window) ≤ 65536 ⌝ }
+    ensures { λ r. ⌜ Leaves r (now (window .entry)) (now (kept .exit)) (now (memory .exit)) (now (reply .exit)) (now (out .exit)) ⌝ }
+{
+    let mut session = first;
     let mut at = 0;
-    loop {
-        let e = answers::eat(session, &window[at..total], kept, memory, reply, out, used);
-        session = e.session;
-        at += e.read;
-        used = e.used;
-        let stop = e.stop;
-        match stop {
-            Stop::Full => {
-                flush(out, used);
-                used = 0;
-            }
-            Stop::More => {
-                shift(window, at, total);
-                return Going {
-                    session,
-                    have: total - at,
-                    used,
-                    going: true,
-                };
-            }
-            Stop::Over => {
-                return Going {
-                    session,
-                    have: 0,
-                    used,
-                    going: false,
-                };
-            }
+    let mut used = start;
+    let mut turns = window.len() + 1;
+    while 0 < turns {
+        turns -= 1;
+        let phase = session.phase;
+        if let Phase::Ended = phase {
+            return Fed { session, at, used };
         }
+        // No tape has 2 to the 63 bytes.
+        if 9223372036854775808 <= session.place {
+            return Fed { session, at, used };
+        }
+        let eaten = answers::eat(session, &window[at..], kept, memory, reply, out, used);
+        session = eaten.session;
+        at += eaten.read;
+        used = eaten.used;
+        let stop = eaten.stop;
+        let Stop::Full = stop else {
+            return Fed { session, at, used };
+        };
+        flush(out, used);
+        used = 0;
+    }
+    Fed { session, at, used }
+}
+
+// Reads behind the bytes that the window has, and says how many it has then.
+fn refill(window: &mut [u8], have: usize) -> usize
+    requires { ⌜ have ≤ length (now window) ⌝ }
+    ensures { λ r. ⌜ r ≤ length (now (window .entry)) ⌝ }
+{
+    have + io::read_full(STDIN_FILENO, &mut window[have..])
+}
+
+// The bytes from one place to another go to the front of the window.
+fn shift(window: &mut [u8], from: usize, to: usize) -> usize
+    requires { ⌜ (from ≤ to) × (to ≤ length (now window)) ⌝ }
+    ensures { λ r. ⌜ from + r ≡ to ⌝ }
+{
+    let mut i = 0;
+    while i < to - from {
+        window[i] = window[from + i];
+        i += 1;
+    }
+    to - from
+}
+
+// The end of the tape: what is left is a record cut short, and the room is written out.
+fn end(session: Session, rest: &[u8], out: &mut [u8], used: usize)
+    requires { ⌜ (used ≤ length (now out)) × (25 ≤ length (now out)) ⌝ }
+{
+    if out.len() - used < 25 {
+        flush(out, used);
+        let last = answers::finish(session, rest, out, 0);
+        flush(out, last);
+        return;
+    }
+    let last = answers::finish(session, rest, out, used);
+    flush(out, last);
+}
+
+fn run(window: &mut [u8], kept: &mut [u8], memory: &mut [u8], reply: &mut [u8], out: &mut [u8])
+    requires { ⌜ Buffers (now window) (now kept) (now memory) (now reply) (now out) ⌝ }
+{
+    let mut session = Session::start();
+    let mut have = 0;
+    let mut used = tape::first_line(out, 0);
+    let mut turns = u64::MAX;
+    while 0 < turns {
+        turns -= 1;
+        let total = refill(window, have);
+        let fed = feed(session, &window[..total], kept, memory, reply, out, used);
+        session = fed.session;
+        used = fed.used;
+        let at = fed.at;
+        let phase = session.phase;
+        if let Phase::Ended = phase {
+            flush(out, used);
+            return;
+        }
+        if total == have {
+            end(session, &window[at..total], out, used);
+            return;
+        }
+        have = shift(window, at, total);
     }
 }
 
@@ -80,23 +137,5 @@ fn main() {
     let mut kept = [0u8; 135];
     let mut memory = [0u8; 1904];
     let mut reply = [0u8; 134];
-    let used = tape::first_line(&mut out, 0);
-    let mut g = Going {
-        session: Session::new(),
-        have: 0,
-        used,
-        going: true,
-    };
-    while g.going {
-        let have = g.have;
-        let w: &mut [u8] = &mut window;
-        let got = io::read_full(STDIN_FILENO, &mut w[have..]);
-        let total = have + got;
-        g = eat_all(g, w, total, &mut kept, &mut memory, &mut reply, &mut out);
-        if got == 0 {
-            g.going = false;
-        }
-    }
-    let end = answers::finish(g.session, g.have, &mut out, g.used);
-    flush(&out, end);
+    run(&mut window, &mut kept, &mut memory, &mut reply, &mut out);
 }

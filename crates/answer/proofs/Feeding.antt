@@ -1,0 +1,68 @@
+-- What a pass leaves of the program's buffers. Assumes nothing.
+use Prim.Native.Nat.{ℕ, _+_, _-_, _≤_, _<_}
+use mathlib.Core.Path.{_≡_, refl, sym, ap, _∙_}
+use mathlib.Core.List.{List, [], _∷_}
+use native.Mathlib.Omega.{arith}
+use lib.ListN.{length, take, drop, length-take, length-drop, length-replicate}
+use types.Run.{OneOf, miss}
+use denote.Enum.Declared.{tagOf}
+use Rattle.tape.specs.Text.{firstLine}
+use Rattle.tape.specs.Reader.{Printed}
+use Rattle.tape.proofs.Texts.{same-room}
+use Rattle.answers.specs.declared.session.Phase.{Phase}
+use Rattle.answers.specs.declared.session.Phase.the-variants.{Opening, Running, Ended}
+use Rattle.answers.specs.declared.session.Session.{Session}
+use Rattle.answers.specs.declared.passes.Eaten.{Eaten}
+use Rattle.answers.specs.Sessions.{largestImage, Starts, Ready, Eats}
+use Rattle.answers.proofs.session.Phase.{the-type}
+use Rattle.answer.specs.Program.{Leaves, Buffers}
+
+pub not-ended : (f : Phase) → OneOf (0 ∷ 1 ∷ []) (tagOf the-type f) → f ≡ Ended → ⊥
+not-ended f k e = miss (0 ∷ 1 ∷ []) 2 tt (rw e at k)
+
+module _ (s : Session) (kept m w out : List ℕ) (used : ℕ) (ready : Ready s [] kept m w out used) where
+  -- a window of bytes, at a place that is not too far
+  pub with-window : (window : List ℕ) → s .place < 9223372036854775808 → length window ≤ 65536 → Ready s window kept m w out used
+  with-window window h l = record {
+    steady = ready .steady;
+    lent = ready .lent;
+    size = ready .size;
+    room = ready .room;
+    space = ready .space;
+    place = omega arith;
+  }
+
+  -- the room written out
+  pub emptied : Ready s [] kept m w out 0
+  emptied = record { steady = ready .steady; lent = ready .lent; size = ready .size; room = ready .room; space = omega arith; place = ready .place }
+
+  pub eaten-leaves : (window part : List ℕ) (at : ℕ) (r : Eaten) (kept′ m′ w′ out′ : List ℕ) → s .place < 9223372036854775808 → length window ≤ 65536
+      → at + length part ≤ length window → Eats s part kept m out used r kept′ m′ w′ out′ → length kept′ ≡ length kept → length m′ ≡ length m → length w′ ≡ length w
+      → Leaves (record { session = r .session; at = at + r .read; used = r .used }) window kept′ m′ w′ out′
+  eaten-leaves window part at r kept′ m′ w′ out′ h l i e k₁ k₂ k₃ = record {
+    inside = omega (arith, e .inside);
+    space = omega (arith, e .printed .within, same-room (e .printed));
+    ready = λ n. record {
+      steady = e .steady n;
+      lent = k₁ ∙ ready .lent;
+      size = k₂ ∙ ready .size;
+      room = omega (arith, k₃, ready .room);
+      space = omega (arith, e .printed .within, same-room (e .printed));
+      place = omega (arith, e .place, e .read, e .inside);
+    };
+  }
+
+-- the part of a window from a place on
+pub part-fits : (window : List ℕ) (at : ℕ) → at ≤ length window → at + length (take (length window - at) (drop at window)) ≤ length window
+part-fits window at h = simp (length-take, length-drop) (omega arith)
+
+-- at the first byte
+pub ready-first : (s : Session) (window kept m w out out′ : List ℕ) (used : ℕ) → Buffers window kept m w out → Starts s → Printed firstLine out 0 used out′ → Ready s [] kept m w out′ used
+ready-first s window kept m w out out′ used b t p = record {
+  steady = rw (t .phase) (b .blank);
+  lent = b .kept-size;
+  size = ap length (b .blank) ∙ length-replicate {A = ℕ} largestImage 0;
+  room = b .reply-size;
+  space = omega (arith, p .within, same-room p);
+  place = rw (t .place) (omega arith);
+}

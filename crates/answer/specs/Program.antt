@@ -1,0 +1,23 @@
+-- What the program's functions ask of its buffers and leave of them. Assumes nothing.
+use Prim.Native.Nat.{ℕ, _≤_}
+use mathlib.Core.Path.{_≡_}
+use mathlib.Core.List.{List, []}
+use lib.ListN.{length}
+use Rattle.meaning.specs.Bytes.{zeros}
+use Rattle.answers.specs.declared.session.Phase.the-variants.{Ended}
+use Rattle.answers.specs.Sessions.{largestImage, Ready}
+use Rattle.answer.specs.declared.Fed.{Fed}
+
+-- after a window the board is ready for the next, unless a record was bad
+pub record Leaves (r : Fed) (window kept m w out : List ℕ) : Type 0 where
+  pub inside : r .at ≤ length window
+  pub space : r .used ≤ length out
+  pub ready : (r .session .phase ≡ Ended → ⊥) → Ready (r .session) [] kept m w out (r .used)
+
+-- the buffers at the start
+pub record Buffers (window kept m w out : List ℕ) : Type 0 where
+  pub window-size : length window ≡ 65536
+  pub kept-size : length kept ≡ 135
+  pub blank : m ≡ zeros largestImage
+  pub reply-size : 134 ≤ length w
+  pub room-size : length out ≡ 65536
