@@ -8,6 +8,17 @@ ghost use Rattle.line.specs.Line.{lineOf, Fits};
 ghost use Rattle.line.specs.Judge.{judgementOf, addressed};
 use crate::characters::Frame;
 
+// The codes of steps 2 to 6.
+const PARITY_FAULT: u8 = 0x09;
+
+const WRONG_CHECKSUM: u8 = 0x0A;
+
+const TOO_LONG: u8 = 0x0C;
+
+const UNKNOWN_COMMAND: u8 = 0x0B;
+
+const WRONG_LENGTH: u8 = 0x0C;
+
 // Too short; for another address; an error code to answer; a command whose data has its row's length.
 pub enum Judgement {
     Short,
@@ -53,22 +64,22 @@ impl Frame {
             return Judgement::Elsewhere;
         }
         if self.parity {
-            return Judgement::Fault(0x09);
+            return Judgement::Fault(PARITY_FAULT);
         }
         if self.sum != 0 {
-            return Judgement::Fault(0x0A);
+            return Judgement::Fault(WRONG_CHECKSUM);
         }
         if self.longer {
-            return Judgement::Fault(0x0C);
+            return Judgement::Fault(TOO_LONG);
         }
         let command = kept[1];
         let row = frame::row_of(command);
         let wanted = row.request;
         if !row.known {
-            return Judgement::Fault(0x0B);
+            return Judgement::Fault(UNKNOWN_COMMAND);
         }
         if !frame::length_fits(wanted, count_of(len, kept), (len - 3) as usize) {
-            return Judgement::Fault(0x0C);
+            return Judgement::Fault(WRONG_LENGTH);
         }
         Judgement::Request(command)
     }
