@@ -16,8 +16,7 @@ use Rattle.meaning.specs.State.{none, withLine, stateOk}
 use Rattle.meaning.specs.Frames.{over, more, taken, still, upTo}
 use Rattle.meaning.specs.Run.{Call, character, poll, measured, fault, power-on, step, closes}
 use Rattle.meaning.proofs.Limits.{keeps-limits, replies-fit}
-use Rattle.meaning.proofs.Puts.{length-put}
-use Rattle.meaning.proofs.Calls.{put-front}
+use Rattle.meaning.proofs.Puts.{length-put, put-front}
 use Rattle.line.specs.declared.plate.Plate.{Plate}
 use Rattle.line.specs.declared.characters.Frame.{Frame}
 use Rattle.line.specs.Line.{plateOf, lineOf, Extends}

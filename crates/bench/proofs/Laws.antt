@@ -21,14 +21,11 @@ use Rattle.frame.specs.Table.{lengthOf, rowOf}
 use Rattle.frame.specs.declared.table.Row.{Row}
 use Rattle.bench.specs.Outcomes.{writtenOf}
 use Rattle.bench.specs.declared.request.Written.the-variants.{Request, R4, R5}
+use Rattle.meaning.proofs.Choices.{both-left, both-false}
 
 either-cases : (a b : Bool) → either a b ≡ true → b ≡ false → a ≡ true
 either-cases true b e n = refl
 either-cases false b e n = sym n ∙ e
-
-both-first : (a b : Bool) → both a b ≡ true → a ≡ true
-both-first true b e = refl
-both-first false b e = e
 
 pub address-small : (n : ℕ) → addressOk n ≡ true → (n ≡ 255 → ⊥) → n ≤ 31
 unfolding addressOk
@@ -90,10 +87,6 @@ same-long [] [] n = absurd (n refl)
 same-long [] (y ∷ ys) n = refl
 same-long (x ∷ xs) [] n = refl
 same-long (x ∷ xs) (y ∷ ys) n = rw (same-long xs ys (λ e. n (ap suc e))) (both-false (eqb x y))
-  where
-    both-false : (b : Bool) → both b false ≡ false
-    both-false true = refl
-    both-false false = refl
 
 -- one byte more is compared
 pub same-more : (a b : List ℕ) (i : ℕ) → i < length a → i < length b
@@ -194,7 +187,7 @@ module _ (q r : List ℕ) where
 
   pub written-long : written q ≡ true → 3 ≤ length q
   unfolding written
-  written-long e = leb-true 3 (length q) (both-first (leb 3 (length q)) _ e)
+  written-long e = leb-true 3 (length q) (both-left (leb 3 (length q)) _ e)
 
   module _ (w : written q ≡ true) where
     pub reply-short : length r < 3 → judge q r ≡ refusal 1

@@ -13,9 +13,9 @@ use Rattle.meaning.specs.Bench.{addressOk, addressFor, allowed, request, writes
 use Rattle.meaning.specs.Bench as meaning
 use Rattle.meaning.proofs.Steps.{both-0, both-1}
 use Rattle.meaning.proofs.Wire.{writes-well}
-use Rattle.frame.proofs.Laws.{put-front}
 use Rattle.bench.specs.Outcomes.{writtenOf}
 use Rattle.bench.specs.declared.request.Written.the-variants.{Request, R4, R5}
+use Rattle.meaning.proofs.Puts.{put-front}
 
 -- the request that stands at the front of the room passes B0, and is the one that was meant
 pub record Meant (n c k : ℕ) (d after : List ℕ) : Type 0 where

@@ -13,10 +13,10 @@ use Rattle.meaning.specs.Fields.{imageLength}
 use Rattle.meaning.specs.Run.{Call, character, poll, refusedBy, lends}
 use Rattle.line.specs.declared.plate.Plate as line
 use Rattle.line.specs.Line.{plateOf}
-use Rattle.line.proofs.Limits.{both-left, both-right}
 use Rattle.board.specs.declared.limits.Board.{Board}
 use Rattle.board.specs.Work.{Ready}
 use Rattle.board.specs.Board.{stateOf, fitsIn, Bounds, limitNumber, sizeNumber, roomNumber, firstOf, refusalOn}
+use Rattle.meaning.proofs.Choices.{both-left, both-right, both-false}
 
 pub lends-poll : (t : ℕ) → lends (poll t) ≡ true
 unfolding lends
@@ -25,10 +25,6 @@ lends-poll t = refl
 pub lends-character : (t v : ℕ) (bad : Bool) → lends (character t v bad) ≡ true
 unfolding lends
 lends-character t v bad = refl
-
-both-false : (t : Bool) → both t false ≡ false
-both-false true = refl
-both-false false = refl
 
 few-taken : (n : ℕ) (kept : List ℕ) → length kept ≡ 135 → length (take n kept) ≤ 135
 few-taken n kept all = simp length-take (omega arith)

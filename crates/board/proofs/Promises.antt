@@ -134,9 +134,9 @@ outcomes : {a b : Board} {x y : code.Outcome} → a ≡ b → x ≡ y → _≡_ 
 outcomes i j = rw (i, j)
 
 -- no two differing outcomes satisfy the contract of a call
-pub one-outcome : (p : Plate) (b : Board) (k m w : List ℕ) (g : Call) {r t : Stepped} {k′ k″ m′ m″ w′ w″ : List ℕ} → Steps p b k m w g r k′ m′ w′
+pub calls-tight : (p : Plate) (b : Board) (k m w : List ℕ) (g : Call) {r t : Stepped} {k′ k″ m′ m″ w′ w″ : List ℕ} → Steps p b k m w g r k′ m′ w′
     → Steps p b k m w g t k″ m″ w″ → Alike r t k′ k″ m′ m″ w′ w″
-one-outcome p b k m w g {r} {t} {k′} {k″} x y =
+calls-tight p b k m w g {r} {t} {k′} {k″} x y =
     record {
       stepped = outcomes (go (ℕ-discrete ((calledOn p b k m w g) .refusal) 0)) (x .outcome ∙ sym (y .outcome));
       kept = x .bytes ∙ sym (y .bytes);
@@ -162,7 +162,7 @@ refusal-tight p b k m n x y h i =
 pub alone-tight : (p : Plate) (b : Board) (g : Call) (r t : Stepped) → ((kept m w : List ℕ) → length kept ≡ 135 → Steps p b kept m w g r kept m w)
     → ((kept m w : List ℕ) → length kept ≡ 135 → Steps p b kept m w g t kept m w) → r ≡ t
 alone-tight p b g r t h i =
-    (one-outcome p b (zeros 135) [] [] g (h (zeros 135) [] [] (length-replicate {A = ℕ} 135 0)) (i (zeros 135) [] [] (length-replicate {A = ℕ} 135 0))) .stepped
+    (calls-tight p b (zeros 135) [] [] g (h (zeros 135) [] [] (length-replicate {A = ℕ} 135 0)) (i (zeros 135) [] [] (length-replicate {A = ℕ} 135 0))) .stepped
 
 closings : {s t : State} {m n : ℕ} → s ≡ t → m ≡ n → _≡_ {A = Closed} (record { state = s; sent = m }) (record { state = t; sent = n })
 closings i j = rw (i, j)

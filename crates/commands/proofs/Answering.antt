@@ -18,6 +18,7 @@ use Rattle.commands.specs.declared.rows.Access.{Access}
 use Rattle.commands.specs.declared.rows.Access.the-variants.{Granted, Denied}
 use Rattle.commands.specs.State.{stateWith}
 use Rattle.commands.specs.Rows.{accessOf, Answers}
+use Rattle.meaning.proofs.Puts.{stored-is-put}
 
 pub put-nothing : (w : List ℕ) (i : ℕ) → w ≡ put w i []
 unfolding put
@@ -56,23 +57,18 @@ pub granted : (x y : ℕ) → accessOf (differ x y) ≡ Granted → eqb x y ≡ 
 unfolding right
 granted x y e = by-access (eqb x y) ∙ ap right e
 
--- stores one after the other are a put
-stored : (w : List ℕ) (i : ℕ) (bs : List ℕ) → i + length bs ≤ length w → sets w i bs ≡ put w i bs
-unfolding put
-stored w i bs h = sets-eq bs w i h ∙ append-assoc (take i w) bs (drop (i + length bs) w)
-
 pub put-one : (w : List ℕ) (a : ℕ) → 134 ≤ length w → set w 2 a ≡ put w 2 (a ∷ [])
-put-one w a h = stored w 2 (a ∷ []) (omega arith)
+put-one w a h = stored-is-put w 2 (a ∷ []) (omega arith)
 
 pub put-three : (w : List ℕ) (x : ℕ) {a b c : ℕ} → 134 ≤ length w → a ≡ x / 65536 % 256 → b ≡ x / 256 % 256 → c ≡ x % 256
     → set (set (set w 2 a) 3 b) 4 c ≡ put w 2 (bytes3 x)
 unfolding bytes3
-put-three w x {a} {b} {c} h i j k = rw (← i, ← j, ← k) (stored w 2 (a ∷ b ∷ c ∷ []) (omega arith))
+put-three w x {a} {b} {c} h i j k = rw (← i, ← j, ← k) (stored-is-put w 2 (a ∷ b ∷ c ∷ []) (omega arith))
 
 pub put-four : (w : List ℕ) (x : ℕ) {a b c d : ℕ} → 134 ≤ length w → a ≡ x / 16777216 % 256 → b ≡ x / 65536 % 256 → c ≡ x / 256 % 256 → d ≡ x % 256
     → set (set (set (set w 2 a) 3 b) 4 c) 5 d ≡ put w 2 (bytes4 x)
 unfolding bytes4
-put-four w x {a} {b} {c} {d} h i j k n = rw (← i, ← j, ← k, ← n) (stored w 2 (a ∷ b ∷ c ∷ d ∷ []) (omega arith))
+put-four w x {a} {b} {c} {d} h i j k n = rw (← i, ← j, ← k, ← n) (stored-is-put w 2 (a ∷ b ∷ c ∷ d ∷ []) (omega arith))
 
 -- the first four bytes of a request, one by one
 pub first-four : (d : List ℕ) → length d ≡ 5 → take 4 d ≡ getD d 0 0 ∷ getD d 1 0 ∷ getD d 2 0 ∷ getD d 3 0 ∷ []

@@ -14,6 +14,7 @@ use Rattle.meaning.specs.Demands.{waits}
 use Rattle.commands.specs.declared.faults.Faults.{Faults}
 use Rattle.commands.specs.declared.faults.Oldest.{Oldest}
 use Rattle.commands.specs.Queue.{waiting, queueOf, mayPrecede, noFaults, holding, Queues, Reads}
+use Rattle.meaning.proofs.Choices.{both-true, either-false}
 
 no-more-one : (c : ℕ) (q : List ℕ) → not (waits (waiting c q)) ≡ both (eqb c 0) (not (waits q))
 unfolding waits waiting
@@ -40,10 +41,6 @@ none-waits f e = rw (no-more-one (f .first) (waiting (f .second) (waiting (f .th
 
 positive : (c : ℕ) → eqb c 0 ≡ false → 0 < c
 positive c e = omega (arith, eqb-false c 0 e)
-
-either-false : (a : Bool) → either a false ≡ a
-either-false true = refl
-either-false false = refl
 
 among-one : (c x : ℕ) → 0 < c → among c (waiting x []) ≡ eqb c x
 unfolding among waiting
@@ -110,10 +107,6 @@ pub may-precede : (c x y z : ℕ) {t : Bool} → eqb c 0 ≡ false
     → t ≡ mayPrecede c (waiting x (waiting y (waiting z [])))
 unfolding mayPrecede queueable locks
 may-precede c x y z h e = rw (h, among-three c x y z (positive c h)) (sym e)
-
-pub both-true : (t : Bool) → both t true ≡ t
-both-true true = refl
-both-true false = refl
 
 -- 01, "State limits", one place more in front
 pub apart-more : (c : ℕ) (q : List ℕ) → apart (waiting c q) ≡ both (mayPrecede c q) (apart q)

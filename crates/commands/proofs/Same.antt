@@ -1,18 +1,20 @@
 -- Two code states that say the same are the same. Assumes nothing.
-use Prim.Native.Nat.{ℕ}
-use mathlib.Core.Path.{_≡_, sym, ap, _∙_}
+use Prim.Native.Nat.{ℕ, _≤_}
+use native.Mathlib.Omega.{arith}
+use mathlib.Core.Path.{_≡_, refl, sym, ap, _∙_}
 use mathlib.Core.Bool.{Bool}
 use mathlib.Core.List.{List, []}
-use lib.ListN.{drop}
+use lib.ListN.{length, drop}
 use Rattle.meaning.specs.Bytes.{arg}
 use Rattle.meaning.specs.State as meaning
-use Rattle.meaning.specs.State.{withLock, withQueue}
+use Rattle.meaning.specs.State.{withLock, withQueue, none, stateOk}
 use Rattle.meaning.specs.Commands as commands
 use Rattle.frame.specs.declared.answer.Answer.{Answer}
 use Rattle.commands.specs.declared.faults.Faults.{Faults}
+use Rattle.commands.specs.declared.faults.Oldest.{Oldest}
 use Rattle.commands.specs.declared.state.State.{State}
 use Rattle.commands.specs.declared.rows.Worked.{Worked}
-use Rattle.commands.specs.Queue.{waiting, queueOf, holding, Queues}
+use Rattle.commands.specs.Queue.{waiting, queueOf, holding, Queues, Reads}
 use Rattle.commands.specs.State.{stateWith}
 use Rattle.commands.specs.Rows.{Answers}
 use Rattle.commands.proofs.Places.{front, behind}
@@ -51,8 +53,25 @@ pub held-tight : (s : meaning.State) (f g : Faults) → holding s f ≡ holding 
 unfolding holding withLock withQueue
 held-tight s f g h = same-faults f g (ap (λ (x : meaning.State). x .queue) h) (ap (λ (x : meaning.State). x .locked) h)
 
+pub state-tight : (l : meaning.Line) (y : meaning.State) (a b : State) → stateWith a l ≡ y → stateWith b l ≡ y → a ≡ b
+state-tight l y a b h i = same-state a b l l (h ∙ sym i)
+
+pub is-ok-tight : (s : State) (bits : ℕ) (a b : Bool)
+    → ((p : meaning.Plate) (l : meaning.Line) → p .bits ≡ bits → length (l .kept) ≤ 135 → a ≡ stateOk p (stateWith s l))
+    → ((p : meaning.Plate) (l : meaning.Line) → p .bits ≡ bits → length (l .kept) ≤ 135 → b ≡ stateOk p (stateWith s l)) → a ≡ b
+unfolding none
+is-ok-tight s bits a b h i =
+    let p : meaning.Plate = record { total = 1; bits = bits; address = 0; ticks = 1; pause = 22 } in
+    h p none refl (omega arith) ∙ sym (i p none refl (omega arith))
+
 pub queues-tight : (f : Faults) (q : List ℕ) (r t : Faults) → Queues f q r → Queues f q t → r ≡ t
 queues-tight f q r t h i = same-faults r t (h .queue ∙ sym (i .queue)) (h .lock ∙ sym (i .lock))
+
+oldest : {c d : ℕ} {f g : Faults} → c ≡ d → f ≡ g → _≡_ {A = Oldest} (record { code = c; faults = f }) (record { code = d; faults = g })
+oldest i j = rw (i, j)
+
+pub reads-tight : (f : Faults) (r t : Oldest) → Reads f r → Reads f t → r ≡ t
+reads-tight f r t h i = oldest (h .oldest ∙ sym (i .oldest)) (queues-tight f _ (r .faults) (t .faults) (h .rest) (i .rest))
 
 outcomes : {s t : State} {x y : Answer} → s ≡ t → x ≡ y → _≡_ {A = Worked} (record { state = s; answer = x }) (record { state = t; answer = y })
 outcomes i j = rw (i, j)

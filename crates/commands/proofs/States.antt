@@ -14,7 +14,7 @@ use Rattle.commands.specs.declared.faults.Faults.{Faults}
 use Rattle.commands.specs.declared.state.State.{State}
 use Rattle.commands.specs.Queue.{waiting, queueOf, noFaults, holding}
 use Rattle.commands.specs.State.{stateWith}
-use Rattle.commands.proofs.Places.{both-true}
+use Rattle.meaning.proofs.Choices.{both-true}
 
 holds-own : (s : State) (l : Line) → holding (stateWith s l) (s .faults) ≡ stateWith s l
 unfolding holding withLock withQueue

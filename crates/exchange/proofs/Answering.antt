@@ -15,12 +15,11 @@ use Rattle.meaning.specs.Frames.{Outcome, still, resting, over}
 use Rattle.meaning.specs.Run.{poll, step, runFrom, closes}
 use Rattle.meaning.specs.Bench.{addressFor, request, judge}
 use Rattle.meaning.specs.Demands.{meant}
-use Rattle.meaning.proofs.Puts.{length-put}
+use Rattle.meaning.proofs.Puts.{length-put, put-front}
 use Rattle.meaning.proofs.Rests.{meant-rests}
 use Rattle.meaning.proofs.Steps.{both-0, both-1}
 use Rattle.meaning.proofs.Limits.{replies-fit}
-use Rattle.frame.proofs.Laws.{put-front}
-use Rattle.line.proofs.Limits.{both-left, both-right, low-address}
+use Rattle.line.proofs.Limits.{low-address}
 use Rattle.commands.proofs.Answering.{put-nothing}
 use Rattle.board.specs.declared.limits.Board.{Board}
 use Rattle.board.specs.declared.limits.Outcome.the-variants.{Still, Over}
@@ -37,6 +36,7 @@ use Rattle.exchange.specs.Calls.{stampOf, sending, Clear, Sends}
 use Rattle.exchange.specs.Passing.{reached, answerTo, verdictOn, Asks, Converses, countOf}
 use Rattle.exchange.proofs.Stepping.{kept-bytes}
 use Rattle.exchange.proofs.Closing.{over-now, poll-answers, verdict-answers}
+use Rattle.meaning.proofs.Choices.{both-left, both-right}
 
 -- ---- the pause as a number of ticks fits 32 bits
 

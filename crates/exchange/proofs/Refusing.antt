@@ -17,7 +17,6 @@ use Rattle.meaning.specs.Bench.{addressOk, addressFor, allowed, request, writes
 use Rattle.meaning.specs.Bench as meaning
 use Rattle.meaning.proofs.Steps.{both-0, both-1}
 use Rattle.meaning.proofs.Wire.{writes-well}
-use Rattle.frame.proofs.Laws.{put-front}
 use Rattle.board.specs.declared.limits.Board.{Board}
 use Rattle.board.specs.Board.{stateOf, fitsIn, refusalOn}
 use Rattle.bench.specs.declared.request.Written.the-variants.{Request}
@@ -27,6 +26,7 @@ use Rattle.exchange.specs.declared.asking.Refusal.{Refusal}
 use Rattle.exchange.specs.declared.asking.Ended.the-variants.{Refused}
 use Rattle.exchange.specs.declared.asking.Exchanged.{Exchanged}
 use Rattle.exchange.specs.Passing.{numberOf, refusalFor, Asks, Converses, passed, Passes}
+use Rattle.meaning.proofs.Puts.{put-front}
 
 -- R1 to R3 have no higher number
 pub refusal-few : (p : Plate) (b : Board) (kept m : List ℕ) (r : ℕ) (g : Call) → refusalOn p b kept m r g ≤ 3

@@ -11,8 +11,7 @@ use Rattle.meaning.specs.Bytes.{put, arg}
 use Rattle.meaning.specs.State.{Plate, State}
 use Rattle.meaning.specs.Frames.{Outcome, taken, still}
 use Rattle.meaning.specs.Run.{Call, character, step, runFrom}
-use Rattle.meaning.proofs.Puts.{drop-put-low}
-use Rattle.frame.proofs.Laws.{put-front}
+use Rattle.meaning.proofs.Puts.{drop-put-low, put-front}
 use Rattle.commands.proofs.Answering.{put-nothing}
 use Rattle.board.specs.declared.limits.Board.{Board}
 use Rattle.board.specs.declared.limits.Stepped.{Stepped}

@@ -20,7 +20,7 @@ use Rattle.frame.specs.declared.answer.Answer.the-variants.{Accept}
 use Rattle.frame.specs.Answers.{told, Works}
 use Rattle.fields.specs.Memory.{Fit}
 use Rattle.frame.proofs.Laws.{tail-filled}
-use Rattle.meaning.proofs.Puts.{length-put}
+use Rattle.meaning.proofs.Puts.{length-put, put-put}
 use Rattle.fields.specs.Replies.{named, readOwn, storeOwn, Replied}
 use Rattle.fields.specs.Found.{codeIn, orElse, OpenTo}
 use Rattle.fields.specs.declared.find.Found.{Found}
@@ -28,7 +28,7 @@ use Rattle.fields.specs.declared.find.Found.the-variants.{Field}
 use Rattle.fields.proofs.find.Found as declared
 use Rattle.fields.proofs.Tables.{rest-is}
 use Rattle.fields.proofs.Finds.{refused-is}
-use Rattle.fields.proofs.Pieces.{put-put, part-part, put-in-part}
+use Rattle.fields.proofs.Pieces.{part-part, put-in-part}
 
 -- the reader: past the end, and within it
 module _ (own d : List ℕ) (s : State) (m : List ℕ) where

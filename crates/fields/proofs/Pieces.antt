@@ -8,20 +8,6 @@ use lib.Seq.{sets, sets-eq, take-at, take-nil, take-take, take-add, drop-drop, d
 use borrow.Rule.Slice.PartMut.{putMid, midOf}
 use Rattle.meaning.specs.Bytes.{put}
 
--- stored one after another is put
-pub stored-is-put : (m : List ℕ) (i : ℕ) (bs : List ℕ) → i + length bs ≤ length m → sets m i bs ≡ put m i bs
-unfolding put
-stored-is-put m i bs h = sets-eq bs m i h ∙ append-assoc (take i m) bs (drop (i + length bs) m)
-
--- bytes put after bytes put
-pub put-put : (m : List ℕ) (i : ℕ) (xs ys : List ℕ) (n : ℕ) → n ≡ i + length xs → i + length xs ≤ length m → put (put m i xs) n ys ≡ put m i (xs ++ ys)
-unfolding put
-put-put m i xs ys n e h =
-    let k : length (take i m ++ xs) ≡ n = simp (length-append, length-take) (omega arith) in
-    let j : i + length (xs ++ ys) ≡ i + length xs + length ys = simp length-append (omega arith) in
-    rw (← append-assoc (take i m) xs, take-at (take i m ++ xs) (drop (i + length xs) m) n k, ← k, drop-append-add (take i m ++ xs) (drop (i + length xs) m) (length ys), drop-drop (length ys) (i + length xs) m, j)
-    (simp append-assoc)
-
 take-drop : (l : List ℕ) (n o k : ℕ) → o + k ≤ n → take k (drop o (take n l)) ≡ take k (drop o l)
 take-drop l n zero k h = take-take k n l (omega arith)
 take-drop [] n (suc o) k h = ap (λ (r : List ℕ). take k (drop (suc o) r)) (take-nil n)

@@ -14,13 +14,12 @@ use Rattle.meaning.specs.Bytes.{arg, both, differ, put, zeros}
 use Rattle.meaning.specs.State.{Plate, State}
 use Rattle.meaning.specs.Fields.{bytesOf, dataBytes, blocks, exists, clear, putStatus, Survey, survey}
 use Rattle.meaning.specs.Commands.{Answer, refuse, accept, error, choose, wrongCode, create, modify, delete, resize, shapeField}
-use Rattle.meaning.proofs.Puts.{length-put}
+use Rattle.meaning.proofs.Puts.{length-put, stored-is-put}
 use Rattle.fields.specs.Memory.{Sits}
 use Rattle.fields.specs.Shape.{shaped, codeOf, Judged, Shapes}
 use Rattle.fields.specs.declared.shape.Grant.{Grant}
 use Rattle.fields.specs.declared.shape.Grant.the-variants.{Granted, Refused}
 use Rattle.fields.proofs.shape.Grant as declared
-use Rattle.fields.proofs.Pieces.{stored-is-put}
 use Rattle.fields.proofs.Tables.{blocks-some}
 
 -- a run lent from the middle and come back cleared

@@ -12,6 +12,9 @@ use borrow.Author.Tests.{leb-true}
 use Rattle.fields.specs.Memory.{Sits}
 use Rattle.meaning.specs.Bytes.{both, blank}
 use Rattle.meaning.specs.Fields.{blocks, exists, fieldCount, used, sound, table, freeBlocks, statusAt, Survey, survey}
+use Rattle.meaning.proofs.Choices.{both-right}
+use Rattle.meaning.proofs.Wire.{within}
+use Rattle.meaning.proofs.Tables.{used-nil}
 
 module _ (s : ℕ) (r : List ℕ) where
   count-yes : exists s ≡ true → fieldCount (s ∷ r) ≡ suc (fieldCount r)
@@ -34,22 +37,9 @@ count-nil : fieldCount [] ≡ 0
 unfolding fieldCount
 count-nil = refl
 
-used-nil : used [] ≡ 0
-unfolding used
-used-nil = refl
-
 pub blocks-most : (s : ℕ) → blocks s ≤ 8
 unfolding blocks
 blocks-most s = omega arith
-
--- there are at most as many fields as bytes
-pub count-le : (l : List ℕ) → fieldCount l ≤ length l
-count-le [] = omega (arith, count-nil)
-count-le (s ∷ r) = go (exists s) refl (count-le r)
-  where
-    go : (b : Bool) → exists s ≡ b → fieldCount r ≤ length r → fieldCount (s ∷ r) ≤ suc (length r)
-    go true e h = omega (arith, count-yes s r e)
-    go false e h = omega (arith, count-no s r e)
 
 -- and at most eight blocks to a byte
 pub used-le : (l : List ℕ) → used l ≤ 8 * length l
@@ -123,21 +113,6 @@ count-le-used (s ∷ r) = go (exists s) refl (count-le-used r)
     go true e h = omega (arith, count-yes s r e, used-yes s r e, blocks-some s)
     go false e h = omega (arith, count-no s r e)
 
--- a field ends no later than the last one
-used-own : (l : List ℕ) (f : ℕ) → f < fieldCount l → used (take f l) + blocks (getD l f 0) ≤ used l
-used-own [] f h = absurd (omega (arith, count-nil))
-used-own (s ∷ r) f h = go f h (exists s) refl (used-own r)
-  where
-    go : (g : ℕ) → g < fieldCount (s ∷ r) → (b : Bool) → exists s ≡ b → ((i : ℕ) → i < fieldCount r → used (take i r) + blocks (getD r i 0) ≤ used r)
-        → used (take g (s ∷ r)) + blocks (getD (s ∷ r) g 0) ≤ used (s ∷ r)
-    go zero k true e ih = omega (arith, used-nil, used-yes s r e)
-    go (suc g) k true e ih = omega (arith, ih g (omega (arith, count-yes s r e)), used-yes s r e, used-yes s (take g r) e)
-    go g k false e ih = absurd (omega (arith, count-no s r e))
-
-both-right : (a b : Bool) → both a b ≡ true → b ≡ true
-both-right true b e = e
-both-right false b e = cc
-
 sound-fits : (t : ℕ) (l : List ℕ) → sound t l ≡ true → used l ≤ t
 unfolding sound
 sound-fits t l e = leb-true _ _ (both-right (blank (drop (fieldCount l) l)) (leb (used l) t) e)
@@ -147,7 +122,7 @@ unfolding survey freeBlocks statusAt
 sits-in t m f e =
     let l = table t m in
     let u = sound-fits t l e in
-    record { room = omega (arith, count-le-used l); own = λ h. omega (arith, used-own l f h) }
+    record { room = omega (arith, count-le-used l); own = λ h. omega (arith, within l f h) }
 
 -- where the fields of a sound table lie
 pub sits : (t : ℕ) (m : List ℕ) (f : ℕ) (v : Survey) → v ≡ survey t m f → v .trusted ≡ true → Sits t v f

@@ -13,14 +13,11 @@ use lib.Seq.{drop-cons}
 use borrow.Author.Tests.{ne-eqb, eqb-true, eqb-false}
 use Rattle.meaning.specs.Bytes.{both, blank}
 use Rattle.meaning.specs.Fields.{blocks, exists, fieldCount, used}
+use Rattle.meaning.proofs.Choices.{both-true}
 
 both-assoc : (a b c : Bool) → both (both a b) c ≡ both a (both b c)
 both-assoc true b c = refl
 both-assoc false b c = refl
-
-both-true : (a : Bool) → both a true ≡ a
-both-true true = refl
-both-true false = refl
 
 -- no bit is set in either exactly where none is set in both together
 or-zero : (a b : ℕ) → eqb (bitOr a b) 0 ≡ both (eqb a 0) (eqb b 0)

@@ -15,7 +15,7 @@ use borrow.Rule.Slice.PartMut.{putMid, midOf}
 use Rattle.meaning.specs.Bytes.{arg, xorFrom, xorAll, part, put}
 use Rattle.meaning.specs.Commands.{counted, lengthFits}
 use Rattle.meaning.specs.Frames.{sealed}
-use Rattle.meaning.proofs.Puts.{drop-put-low}
+use Rattle.meaning.proofs.Puts.{drop-put-low, put-front, part-put}
 use Rattle.meaning.proofs.Wire.{xor-snoc, length-sealed}
 use Rattle.meaning.proofs.Bytewise.{xor-cancel}
 
@@ -35,11 +35,6 @@ pub fill-more : (s d : List ℕ) (i : ℕ) → i < length s → i < length d
 fill-more s d i h k =
     rw (add-one, drop-cons d i 0, take-suc s i 0)
     (set-at (take i s) (getD d i 0) (drop (suc i) d) (getD s i 0) i (length-take-le i s (omega arith)) ∙ sym (append-snoc (take i s) (getD s i 0) (drop (suc i) d)))
-
--- bytes put at the front
-pub put-front : (m bs : List ℕ) → put m 0 bs ≡ bs ++ drop (length bs) m
-unfolding put
-put-front m bs = rw zero-add
 
 -- the tail of a room from place a on, lent, filled at its front and come back
 pub tail-filled : (room d : List ℕ) (a : ℕ) → a + length d ≤ length room
@@ -63,19 +58,13 @@ sealed-round a c n (x ∷ y ∷ r) h =
     let t : n + 2 - 2 ≡ n = omega arith in
     rw (t, s, put-front (x ∷ y ∷ r) q, k, set-split r n z (omega arith)) (sym (append-snoc (a ∷ c ∷ take n r) z (drop (suc n) r)))
 
-part-put : (n : ℕ) (d room : List ℕ) → length d ≡ n → 2 ≤ length room → part (put room 2 d) 2 n ≡ d
-unfolding part put
-part-put n d [] e h = absurd (omega arith)
-part-put n d (x ∷ []) e h = absurd (omega arith)
-part-put n d (x ∷ y ∷ r) e h = take-at d (drop (2 + length d) (x ∷ y ∷ r)) n e
-
 -- data put from place 2 on and then sealed is the whole frame put at the front
 pub seal-data : (a c n : ℕ) (d room : List ℕ) → length d ≡ n → n + 3 ≤ length room
     → put (put room 2 d) 0 (sealed (a ∷ c ∷ part (put room 2 d) 2 n)) ≡ put room 0 (sealed (a ∷ c ∷ d))
 seal-data a c n d room e h =
     let q : List ℕ = sealed (a ∷ c ∷ d) in
     let k : 2 + length d ≤ length q = omega (arith, length-sealed (a ∷ c ∷ d)) in
-    rw (part-put n d room e (omega arith), put-front (put room 2 d) q, put-front room q, drop-put-low room 2 d (omega arith) (length q) k)
+    rw (part-put room 2 d n (omega arith) e, put-front (put room 2 d) q, put-front room q, drop-put-low room 2 d (omega arith) (length q) k)
 
 -- a count past its base: too few, too many, and compared by what is past
 pub too-few : (b : ℕ) (d x : List ℕ) → length x ≤ b → lengthFits (counted b) d x ≡ false

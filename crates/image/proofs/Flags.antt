@@ -8,8 +8,8 @@ use borrow.Author.Tests.{leb-true, le-leb}
 use lib.Dec.{leb, lit<}
 use lib.Bits.{bitAnd, and-block, and-high}
 use Rattle.meaning.specs.Bytes.{both}
-use Rattle.line.proofs.Limits.{both-left, both-right}
 use Rattle.image.specs.Image.{lowFirst, flagsOk}
+use Rattle.meaning.proofs.Choices.{both-left, both-right}
 
 -- the bits of a byte but for the lowest
 abbrev upper : ℕ → ℕ

@@ -15,10 +15,10 @@ use Rattle.commands.specs.declared.state.State.{State}
 use Rattle.commands.specs.State.{stateWith}
 use Rattle.line.specs.declared.characters.Frame.{Frame}
 use Rattle.line.specs.Line.{lineOf, Fits}
-use Rattle.line.proofs.Limits.{both-left, both-right}
 use Rattle.image.specs.Image.{flagByte, flagsOk, isImage, stateIn, frameIn, keptIn, heldIn, stateBytes, lineBytes, frameRow, frameBytes, imageOf}
 use Rattle.image.proofs.Standing.{Typed, state-first, frame-again, line-row}
 use Rattle.image.proofs.Parts.{whole-front, whole-rest, whole-kept, whole-length, kept-length, front-length, line-length, state-as-it-was, frame-as-it-was, parts-joined, state-length}
+use Rattle.meaning.proofs.Choices.{both-left, both-right}
 
 -- what an image is
 pub record Good (img : List ℕ) : Type 0 where

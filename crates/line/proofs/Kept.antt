@@ -16,14 +16,7 @@ use Rattle.meaning.specs.State.{none}
 use Rattle.meaning.specs.Frames.{more}
 use Rattle.line.specs.declared.characters.Frame.{Frame}
 use Rattle.line.specs.Line.{lineOf, noFrame, Fits, Starts, Extends}
-
-either-false : (a : Bool) → either a false ≡ a
-either-false true = refl
-either-false false = refl
-
-either-true : (a : Bool) → either a true ≡ true
-either-true true = refl
-either-true false = refl
+use Rattle.meaning.proofs.Choices.{either-true, either-false}
 
 or-either : (a b : Bool) → (a || b) ≡ either a b
 or-either true b = refl

@@ -7,14 +7,7 @@ use lib.Dec.{leb}
 use borrow.Author.Tests.{leb-true}
 use Rattle.meaning.specs.Bytes.{both, among}
 use Rattle.meaning.specs.State.{Plate, plateOk, between}
-
-pub both-left : (a b : Bool) → both a b ≡ true → a ≡ true
-both-left true b e = refl
-both-left false b e = e
-
-pub both-right : (a b : Bool) → both a b ≡ true → b ≡ true
-both-right true b e = e
-both-right false b e = absurd (false≢true e)
+use Rattle.meaning.proofs.Choices.{both-left, both-right}
 
 module _ (p : Plate) (ok : plateOk p ≡ true) where
   abbrev rest₂ : Bool

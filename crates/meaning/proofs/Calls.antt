@@ -12,11 +12,7 @@ use Rattle.meaning.specs.State.{Plate, State, none, withLine}
 use Rattle.meaning.specs.Characters.{more, taken}
 use Rattle.meaning.specs.Run.{Call, step, refusedBy, Held, called}
 use Rattle.meaning.specs.Demands.{RefusedUntouched, Served, ServedOtherwise, OpensEmpty}
-
--- bytes put at the front of a list
-pub put-front : (room bs : List ℕ) → put room 0 bs ≡ bs ++ drop (length bs) room
-unfolding put
-put-front room bs = rw zero-add
+use Rattle.meaning.proofs.Puts.{put-front}
 
 pub refused-untouched : RefusedUntouched
 unfolding called

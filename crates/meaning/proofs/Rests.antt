@@ -8,7 +8,8 @@ use Rattle.meaning.specs.State.{Plate, State, withCodes, withCounter, wi
 use Rattle.meaning.specs.Commands.{Command, c42, c43, c46, c47, c49, c4A, c4B, c4C, c4D, c4E, c4F, c50, c53, unknown, commandOf, Answer, refuse, accept, quiet, error, onField, readPosition, setPosition, readCounter, stepCounter, clearCounter, readField, storeField, fieldStatus, create, modify, delete, shapeField, memoryStatus, setCode, readFault, reset, worked}
 use Rattle.meaning.specs.Frames.{outcome}
 use Rattle.meaning.specs.Demands.{meant}
-use Rattle.meaning.proofs.Honest.{through, chose}
+use Rattle.meaning.proofs.Honest.{through}
+use Rattle.meaning.proofs.Choices.{choose-by}
 
 module _ (p : Plate) (s : State) (m : List ℕ) (d : List ℕ) where
   -- the state after an answer has the frame that it had
@@ -25,15 +26,15 @@ module _ (p : Plate) (s : State) (m : List ℕ) (d : List ℕ) where
   rested c42 = go _ _ _ (λ _. refl)
   rested c43 = go _ _ _ (λ _. go _ _ _ (λ _. go _ _ _ (λ _. refl)))
   rested c46 = refl
-  rested c47 = chose Rested _ _ _ (λ _. refl) (λ _. refl)
+  rested c47 = choose-by Rested _ _ _ (λ _. refl) (λ _. refl)
   rested c49 = go _ _ _ (λ _. refl)
   rested c4A = go _ _ _ (λ _. go _ _ _ (λ _. go _ _ _ (λ _. go _ _ _ (λ _. go _ _ _ (λ _. refl)))))
   rested c4B = go _ _ _ (λ _. go _ _ _ (λ _. go _ _ _ (λ _. go _ _ _ (λ _. go _ _ _ (λ _. refl)))))
   rested c4C = go _ _ _ (λ _. go _ _ _ (λ _. refl))
-  rested c4D = go _ _ _ (λ _. chose Rested _ _ _
-      (λ _. chose Rested _ _ _ (λ _. go _ _ _ (λ _. go _ _ _ (λ _. refl)))
-      (λ _. chose Rested _ _ _ (λ _. go _ _ _ (λ _. go _ _ _ (λ _. go _ _ _ (λ _. refl)))) (λ _. tt)))
-      (λ _. chose Rested _ _ _ (λ _. go _ _ _ (λ _. go _ _ _ (λ _. refl))) (λ _. tt)))
+  rested c4D = go _ _ _ (λ _. choose-by Rested _ _ _
+      (λ _. choose-by Rested _ _ _ (λ _. go _ _ _ (λ _. go _ _ _ (λ _. refl)))
+      (λ _. choose-by Rested _ _ _ (λ _. go _ _ _ (λ _. go _ _ _ (λ _. go _ _ _ (λ _. refl)))) (λ _. tt)))
+      (λ _. choose-by Rested _ _ _ (λ _. go _ _ _ (λ _. go _ _ _ (λ _. refl))) (λ _. tt)))
   rested c4E = go _ _ _ (λ _. refl)
   rested c4F = go _ _ _ (λ _. go _ _ _ (λ _. refl))
   rested c50 = refl

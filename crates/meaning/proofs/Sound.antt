@@ -11,16 +11,8 @@ use Rattle.meaning.specs.Bytes.{pick, both, blank}
 use Rattle.meaning.specs.Fields.{blocks, exists, fieldCount, used, sound}
 use Rattle.meaning.specs.Demands.{SoundFor, SoundForSome}
 use Rattle.meaning.proofs.Steps.{both-0, both-1}
-use Rattle.meaning.proofs.Tables.{used-cons, count-cons, both-intro}
-
-count-fits : (tb : List ℕ) → fieldCount tb ≤ length tb
-unfolding fieldCount
-count-fits [] = omega arith
-count-fits (s ∷ r) = go (exists s) (count-fits r)
-  where
-    go : (q : Bool) → fieldCount r ≤ length r → pick q (suc (fieldCount r)) 0 ≤ suc (length r)
-    go true h = omega arith
-    go false h = omega arith
+use Rattle.meaning.proofs.Tables.{used-cons, count-cons, count-le}
+use Rattle.meaning.proofs.Choices.{both-intro}
 
 counted-exist : (tb : List ℕ) (f : ℕ) → f < fieldCount tb → T (exists (getD tb f 0))
 unfolding fieldCount
@@ -80,7 +72,7 @@ sound-for-some t tb = (there, here)
   where
     there : T (both (blank (drop (fieldCount tb) tb)) (leb (used tb) t)) → SoundFor t (fieldCount tb) tb
     there h = record {
-      there = count-fits tb;
+      there = count-le tb;
       existing = counted-exist tb;
       rest = blank-from tb (fieldCount tb) (both-0 (blank (drop (fieldCount tb) tb)) (leb (used tb) t) h);
       few = rw (used-counted tb) (leb→le (used tb) t (both-1 (blank (drop (fieldCount tb) tb)) (leb (used tb) t) h));

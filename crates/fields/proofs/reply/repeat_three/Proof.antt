@@ -3,9 +3,9 @@ use native.Mathlib.Omega.{arith}
 use lib.ListN.{length-set}
 use borrow.Author.Needs.{needs}
 use Rattle.fields.specs.Replies.{named}
-use Rattle.fields.proofs.Pieces.{stored-is-put}
 use Rattle.fields.proofs.reply.repeat_three.Statement.{statement}
 use Rattle.fields.proofs.reply.repeat_three.Tie as tie
+use Rattle.meaning.proofs.Puts.{stored-is-put}
 
 shared-slice-read-room : tie.Need-shared-slice-read-room
 shared-slice-read-room c = search needs

@@ -4,9 +4,9 @@ use mathlib.Core.Path.{refl}
 use native.Mathlib.Omega.{arith}
 use lib.ListN.{length-set}
 use borrow.Author.Needs.{needs}
-use Rattle.fields.proofs.Pieces.{stored-is-put}
 use Rattle.fields.proofs.reply.reply_two.Statement.{statement}
 use Rattle.fields.proofs.reply.reply_two.Tie as tie
+use Rattle.meaning.proofs.Puts.{stored-is-put}
 
 slice-write-room : tie.Need-slice-write-room
 slice-write-room c = search needs

@@ -6,9 +6,10 @@ use lib.ListN.{take, length-take, length-drop}
 use borrow.Author.Needs.{needs}
 use Rattle.meaning.specs.Fields.{fieldCount, used}
 use Rattle.meaning.specs.Bytes.{blank, both}
-use Rattle.fields.proofs.Tables.{count-le, used-le, walk-fields, walk-used, survey-is}
+use Rattle.fields.proofs.Tables.{used-le, walk-fields, walk-used, survey-is}
 use Rattle.fields.proofs.table.walk.Statement.{statement}
 use Rattle.fields.proofs.table.walk.Tie as tie
+use Rattle.meaning.proofs.Tables.{count-le}
 
 -- before the named field
 fields-before : (c : tie.After-count-fields) → c .count-fields .result .fields ≡ fieldCount (take (c .before .before .before .args .field) (c .before .before .before .args .statuses .now))

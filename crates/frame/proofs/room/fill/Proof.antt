@@ -6,11 +6,12 @@ use mathlib.Core.List.{_++_}
 use Prim.Native.Nat.{_≤_, _-_}
 use lib.ListN.{length, drop, take, length-set}
 use lib.Seq.{take-length}
-use Rattle.frame.proofs.Laws.{fill-more, put-front}
+use Rattle.frame.proofs.Laws.{fill-more}
 use Rattle.frame.proofs.room.fill.Statement.{statement}
 use Rattle.frame.proofs.room.fill.Tie as tie
 use Rattle.frame.proofs.room.fill.Reads as reads
 use Rattle.frame.proofs.room.fill.Lts as lts
+use Rattle.meaning.proofs.Puts.{put-front}
 
 abbrev Inv-loop : tie.InvT-loop
 Inv-loop src dst₀ i₀ dst i =

@@ -1,0 +1,44 @@
+-- Laws of choices: `pick`, `both`, `either` and `choose`. Assumes nothing.
+use mathlib.Core.Path.{_≡_, refl}
+use mathlib.Core.Bool.{Bool, true, false, not, false≢true}
+use lib.Dec.{T}
+use Rattle.meaning.specs.Bytes.{pick, both, either}
+use Rattle.meaning.specs.Commands.{Answer, choose}
+
+pub pick-true {ℓ} : {A : Type ℓ} (b : Bool) (x y : A) → T b → pick b x y ≡ x
+pick-true true x y h = refl
+pick-true false x y h = absurd h
+
+pub both-intro : (a b : Bool) → T a → T b → T (both a b)
+both-intro true b x y = y
+both-intro false b x y = x
+
+pub both-left : (a b : Bool) → both a b ≡ true → a ≡ true
+both-left true b e = refl
+both-left false b e = e
+
+pub both-right : (a b : Bool) → both a b ≡ true → b ≡ true
+both-right true b e = e
+both-right false b e = absurd (false≢true e)
+
+pub both-true : (a : Bool) → both a true ≡ a
+both-true true = refl
+both-true false = refl
+
+pub both-false : (a : Bool) → both a false ≡ false
+both-false true = refl
+both-false false = refl
+
+pub either-true : (a : Bool) → either a true ≡ true
+either-true true = refl
+either-true false = refl
+
+pub either-false : (a : Bool) → either a false ≡ a
+either-false true = refl
+either-false false = refl
+
+-- what holds of both answers, each where it is chosen, holds of the choice
+pub choose-by : (P : Answer → Type 0) (q : Bool) (a b : Answer) → (T q → P a) → (T (not q) → P b) → P (choose q a b)
+unfolding choose
+choose-by P true a b x y = x tt
+choose-by P false a b x y = y tt

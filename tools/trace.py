@@ -1,0 +1,64 @@
+#!/usr/bin/env python3
+"""Fails if docs/TRACE.md names a file, definition, theorem, function, trial or edit that is not there.
+
+A reference stands in backquotes: `FILE: NAME, NAME`, or `FILE` alone. FILE is below crates/ or the project's root, without .antt;
+a name is one that the file defines, or in double quotes a line of it.
+"""
+
+import os
+import re
+import sys
+
+ROOT = os.path.dirname(os.path.dirname(os.path.abspath(__file__)))
+TRACE = os.path.join(ROOT, "docs", "TRACE.md")
+# How a file of each kind defines a name.
+DEFINED = {
+    ".antt": r"^\s*(?:(?:abbrev |unfoldable )?(?:pub )?%s(?: \{\S+\})? :|(?:pub )?(?:data|record) %s )",
+    ".rt": r"^\s*(?:pub(?:\(crate\))? )?(?:extern \"C\" )?(?:fn|struct|enum|const) %s\b",
+}
+
+
+def path_of(name):
+    """The file that a reference names, or None."""
+    for place in ("crates/" + name + ".antt", "crates/" + name + ".edit", "crates/" + name, name):
+        path = os.path.join(ROOT, place)
+        if os.path.exists(path):
+            return path
+    return None
+
+
+def has(path, text, name):
+    if name.startswith('"'):
+        return name.strip('"') in text.splitlines()
+    form = DEFINED[os.path.splitext(path)[1]]
+    return re.search(form.replace("%s", re.escape(name)), text, re.M) is not None
+
+
+def faults(reference):
+    """What is wrong with a reference."""
+    file, _, names = reference.partition(": ")
+    path = path_of(file)
+    if path is None:
+        yield "no file " + file
+        return
+    if not names:
+        return
+    with open(path, encoding="utf-8") as opened:
+        text = opened.read()
+    for name in re.findall(r'"[^"]*"|[^,\s][^,]*', names):
+        if not has(path, text, name.strip()):
+            yield "%s has no %s" % (file, name.strip())
+
+
+def main():
+    with open(TRACE, encoding="utf-8") as file:
+        lines = [line for line in file if line.startswith("| ")]
+    references = [found for line in lines for found in re.findall(r"`([^`]+)`", line)]
+    wrong = [fault for reference in references for fault in faults(reference)]
+    if wrong:
+        sys.exit("docs/TRACE.md: " + "\ndocs/TRACE.md: ".join(wrong))
+    print("trace: %d lines, %d references, each there" % (len(lines), len(references)))
+
+
+if __name__ == "__main__":
+    main()
