@@ -126,8 +126,7 @@ pub fn exchange(
     if refused != 0 {
         return unsent(board, named(refused));
     }
-    let frame = board.frame;
-    if frame.begun {
+    if board.frame.begun {
         return unsent(board, Refusal::FrameOpen);
     }
     if pause_of(plate) <= spacing {
@@ -136,17 +135,15 @@ pub fn exchange(
     match bench::write_request(address, command, body, request) {
         Written::R4 => unsent(board, Refusal::R4),
         Written::R5 => unsent(board, Refusal::R5),
-        Written::Request { len } => {
-            converse(
-                plate,
-                board,
-                tick,
-                spacing,
-                &request[..len],
-                kept,
-                memory,
-                room,
-            )
-        }
+        Written::Request { len } => converse(
+            plate,
+            board,
+            tick,
+            spacing,
+            &request[..len],
+            kept,
+            memory,
+            room,
+        ),
     }
 }

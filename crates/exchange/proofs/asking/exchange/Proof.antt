@@ -36,13 +36,13 @@ unrefused : (c : tie.Else1)
     → let a = c .before .before .before .before .before .before .before .args in refusalOn (plateOf (a .plate)) (a .board) (a .kept .now) (a .memory .now) (length (a .room .now)) (poll 0) ≡ 0
 unrefused c = sym (refusal-is (c .before)) ∙ c .if1 .left
 
-near : (c : tie.Else3) → let a = c .before .before .before .before .before .before .before .before .before .before .before .args in a .spacing < a .plate .pause * a .plate .ticks
+near : (c : tie.Else3) → let a = c .before .before .before .before .before .before .before .before .before .before .args in a .spacing < a .plate .pause * a .plate .ticks
 near c = rw (c .before .pause-of .ensures) at (c .if3 .left)
 
 -- the request is written
 written : (c : tie.After-known-told)
     → let u = c .before .before .before .before .before in
-    let a = u .before .before .before .before .before .before .before .before .before .before .before .before .before .args in
+    let a = u .before .before .before .before .before .before .before .before .before .before .before .before .args in
     Wrote (a .address) (a .command) (c .before .len .given .0 .0) (a .body .now) (a .request .now) (u .write-request .last .1 .1 .1 .0)
 written c =
     let u = c .before .before .before .before .before in
@@ -65,11 +65,11 @@ unsent-requires-2 c κs = search needs
 returns-2 : tie.Need-returns-2
 returns-2 c =
     let t = c .before in
-    let e = t .before .before in
+    let e = t .before in
     passes-refused _ _ _ _ _ _ _ _ _ _ (refused-open _ _ _ _ _ _ _ _ _ _ (unrefused e) (t .if2 .taken)) (eqb-false 6 0 refl) refl (c .unsent2 .ensures)
 
 pause-of-requires : tie.Need-pause-of-requires
-pause-of-requires c κs = within _ _ _ _ _ (poll 0) (lends-poll 0) (unrefused (c .before .before)) .plate
+pause-of-requires c κs = within _ _ _ _ _ (poll 0) (lends-poll 0) (unrefused (c .before)) .plate
 
 unsent-requires-3 : tie.Need-unsent-requires-3
 unsent-requires-3 c κs = search needs
@@ -79,7 +79,7 @@ returns-3 c =
     let t = c .before in
     let o = t .before .before in
     let slow = rw (t .before .pause-of .ensures) at (t .if3 .taken) in
-    passes-refused _ _ _ _ _ _ _ _ _ _ (refused-slow _ _ _ _ _ _ _ _ _ _ (unrefused (o .before .before)) (o .if2 .left) slow) (eqb-false 7 0 refl) refl (c .unsent3 .ensures)
+    passes-refused _ _ _ _ _ _ _ _ _ _ (refused-slow _ _ _ _ _ _ _ _ _ _ (unrefused (o .before)) (o .if2 .left) slow) (eqb-false 7 0 refl) refl (c .unsent3 .ensures)
 
 write-request-requires : tie.Need-write-request-requires
 write-request-requires c κs = search needs
@@ -110,7 +110,7 @@ converse-requires c κs =
     let k = c .before .before .before .before in
     let l = k .before .before .before .before .before .before .before in
     let o = l .before .before in
-    let none = unrefused (o .before .before) in
+    let none = unrefused (o .before) in
     record {
       within = within _ _ _ _ _ (poll 0) (lends-poll 0) none;
       wide = wide _ _ _ _ _ (poll 0) (lends-poll 0) none;
@@ -128,7 +128,7 @@ returns-4 c =
     let u = m .before .before .before .before in
     let l = u .before .before in
     let o = l .before .before in
-    passes-unwritten _ _ _ _ _ _ _ _ _ _ (unrefused (o .before .before)) (o .if2 .left) (near l) (eqb-false 4 0 refl)
+    passes-unwritten _ _ _ _ _ _ _ _ _ _ (unrefused (o .before)) (o .if2 .left) (near l) (eqb-false 4 0 refl)
     (rw (m .enum-told .given .1) at (u .write-request .ensures)) refl (c .unsent4 .ensures)
 
 same-length-2 : tie.Need-same-length-2
@@ -140,7 +140,7 @@ returns-5 c =
     let u = m .before .before .before .before in
     let l = u .before .before in
     let o = l .before .before in
-    passes-unwritten _ _ _ _ _ _ _ _ _ _ (unrefused (o .before .before)) (o .if2 .left) (near l) (eqb-false 5 0 refl)
+    passes-unwritten _ _ _ _ _ _ _ _ _ _ (unrefused (o .before)) (o .if2 .left) (near l) (eqb-false 5 0 refl)
     (rw (m .enum-told2 .given .1) at (u .write-request .ensures)) refl (c .unsent5 .ensures)
 
 same-length-3 : tie.Need-same-length-3
@@ -162,7 +162,7 @@ returns-6 c =
     let l = k .before .before .before .before .before .before .before in
     let o = l .before .before in
     let y = written k in
-    let z = refused-bench _ _ _ _ _ _ _ _ _ _ (unrefused (o .before .before)) (o .if2 .left) (near l) ∙ y .unrefused in
+    let z = refused-bench _ _ _ _ _ _ _ _ _ _ (unrefused (o .before)) (o .if2 .left) (near l) ∙ y .unrefused in
     passes-heard _ _ _ _ _ _ _ _ _ _ z y (v .converse .ensures _ _ _ (y .asks))
 
 pub exchange-spec : {M : Type 1} → statement M
