@@ -1,0 +1,155 @@
+-- Values of the definitions, computed: for each the two that tell it from a wrong one (docs/CONTRACTS.md, "Rules out"). Assumes nothing.
+use Prim.Native.Nat.{ℕ, _+_, _*_, _/_, _%_, _^_, _-_}
+use mathlib.Core.Path.{_≡_, refl}
+use mathlib.Core.Bool.{Bool, true, false, not}
+use mathlib.Core.List.{List, [], _∷_, _++_}
+use lib.ListN.{length, getD, take, drop, replicate, set}
+use Rattle.meaning.specs.Bytes.{zeros, put, part, blank, among, number, bytes3, bytes4, xorFrom, xorAll, same}
+use Rattle.meaning.specs.State.{Plate, State, Line, none, plateOk, fresh, withCodes, withCounter, withOffset, withMeasured, withQueue, withLock, withLine, locks, queueable, apart, stateOk, code, queued, noted, poweredOn, position, offsetFor, ownByte}
+use Rattle.meaning.specs.Fields.{imageLength, blocks, coded, codeNo, writable, exists, table, fieldCount, used, sound, freeBlocks, statusAt, Survey, survey, clear, putStatus}
+use Rattle.meaning.specs.Commands.{commandOf, lengthFits, counted, row, asked, Answer, refuse, accept, error, choose, wrongCode, readPosition, setPosition, readCounter, stepCounter, clearCounter, onField, readField, storeField, fieldStatus, create, resize, modify, delete, shapeField, freeByte, memoryStatus, setCode, readFault, reset, worked}
+use Rattle.meaning.specs.Characters.{gap, over, more, Frame}
+use Rattle.meaning.specs.Frames.{commandByte, dataOf, ours, judged, Ending, short, elsewhere, answered, ending, warned}
+use Rattle.meaning.specs.Run.{Call, poll, measured, lends, refusedBy}
+use Rattle.meaning.specs.Bench.{writes, request, addressFor, addressOk, allowed, inRange}
+
+-- the plate of the sheet with eight blocks, its fresh state and blank memory
+abbrev eight : Plate
+eight = record { total = 8; bits = 24; address = 0; ticks = 4; pause = 55 }
+
+abbrev new : State
+new = fresh eight
+
+-- three status bytes behind the data of eight blocks, the rest 00h
+abbrev tabled : ℕ → ℕ → ℕ → List ℕ
+tabled a b c = zeros 128 ++ (a ∷ b ∷ c ∷ zeros 5)
+
+pub plate-values : (plateOk (record { total = 113; bits = 24; address = 0; ticks = 4; pause = 55 }) ≡ false) × (plateOk (record { total = 8; bits = 24; address = 0; ticks = 3; pause = 55 }) ≡ false)
+unfolding plateOk among
+plate-values = (refl, refl)
+
+pub own-byte-values : (ownByte (record { total = 8; bits = 24; address = 31; ticks = 4; pause = 55 }) new ≡ 0x5F) × (ownByte eight new ≡ 0x40)
+unfolding ownByte
+own-byte-values = (refl, refl)
+
+-- a clock stepped back by one tick, and one that wrapped
+pub gap-values : (gap 5 4 ≡ 2 ^ 32 - 1) × (gap (2 ^ 32 - 1) 1 ≡ 2)
+unfolding gap
+gap-values = (refl, refl)
+
+pub over-values : (over eight (withLine new (record { begun = false; kept = []; sum = 0; longer = false; parity = false; last = 0 })) 1000 ≡ false)
+    × (over eight (withLine new (record { begun = true; kept = []; sum = 0; longer = false; parity = false; last = 0 })) 220 ≡ true)
+unfolding over gap withLine
+over-values = (refl, refl)
+
+-- the 136th byte is not kept, and makes the frame longer; a parity fault stays
+pub more-values : ((more (record { begun = true; kept = zeros 135; sum = 0; longer = false; parity = true; last = 0 }) 9 7 false) .kept ≡ zeros 135)
+    × ((more (record { begun = true; kept = zeros 135; sum = 0; longer = false; parity = true; last = 0 }) 9 7 false) .longer ≡ true)
+    × ((more (record { begun = true; kept = zeros 135; sum = 0; longer = false; parity = true; last = 0 }) 9 7 false) .parity ≡ true)
+unfolding more
+more-values = (refl, refl, refl)
+
+-- parity before checksum; an unknown command before its length; 60h + a is another's
+pub ending-values : (ending eight new [] (record { bytes = 0x40 ∷ 0x4E ∷ 0x0F ∷ []; sum = 1; longer = false; parity = true }) ≡ answered (refuse 0x09))
+    × (ending eight new [] (record { bytes = 0x40 ∷ 0x44 ∷ 0x00 ∷ 0x04 ∷ []; sum = 0; longer = false; parity = false }) ≡ answered (refuse 0x0B))
+    × (ending eight new [] (record { bytes = 0x60 ∷ 0x4E ∷ 0x2E ∷ []; sum = 0; longer = false; parity = false }) ≡ elsewhere)
+unfolding ending ours ownByte judged error commandByte commandOf row
+ending-values = (refl, refl, refl)
+
+-- a fifth code and one that waits already are dropped
+pub queued-values : (queued (1 ∷ 2 ∷ 3 ∷ 4 ∷ []) 5 ≡ 1 ∷ 2 ∷ 3 ∷ 4 ∷ []) × (queued (1 ∷ 2 ∷ []) 1 ≡ 1 ∷ 2 ∷ [])
+unfolding queued among
+queued-values = (refl, refl)
+
+-- 22h locks and does not wait; 00h does nothing
+pub noted-values : (noted new 0x22 ≡ withLock new true) × (noted new 0x00 ≡ new)
+unfolding noted locks
+noted-values = (refl, refl)
+
+-- the oldest is told and removed; 53h leaves the lock
+pub read-fault-values : (readFault eight (withQueue new (0x1E ∷ 0x08 ∷ [])) [] [] ≡ accept (0x1E ∷ []) (withQueue (withQueue new (0x1E ∷ 0x08 ∷ [])) (0x08 ∷ [])) [])
+    × (readFault eight new [] [] ≡ accept (0x00 ∷ []) (withQueue new []) [])
+unfolding readFault fresh withQueue
+read-fault-values = (refl, refl)
+
+pub reset-values : (reset eight (withLock (withQueue new (0x1E ∷ [])) true) [] [] ≡ Answer.quiet (withLock new true) []) × ((poweredOn (withLock (withQueue new (0x1E ∷ [])) true)) .locked ≡ false)
+unfolding reset poweredOn fresh withQueue withLock withLine
+reset-values = (refl, refl)
+
+pub warned-values : (warned 0x50 (0x1E ∷ []) ≡ 0xD0) × (warned 0x50 [] ≡ 0x50)
+unfolding warned
+warned-values = (refl, refl)
+
+-- a code twice; 24h among them
+pub apart-values : (apart (1 ∷ 1 ∷ []) ≡ false) × (apart (0x24 ∷ []) ≡ false)
+unfolding apart queueable locks among
+apart-values = (refl, refl)
+
+pub fresh-values : (code new 3 ≡ 0x55) × ((fresh eight) .line .begun ≡ false)
+unfolding code fresh none
+fresh-values = (refl, refl)
+
+pub state-values : (stateOk eight (withCounter new 0x1000000) ≡ false) × (stateOk eight (withOffset new (2 ^ 24)) ≡ false)
+unfolding stateOk fresh withCounter withOffset
+state-values = (refl, refl)
+
+-- high byte first; a locked position is not told
+pub position-values : (readPosition eight (withMeasured new 0x010203) [] [] ≡ accept (0 ∷ 1 ∷ 2 ∷ 3 ∷ []) (withMeasured new 0x010203) []) × (readPosition eight (withLock new true) [] [] ≡ refuse 0x02)
+unfolding readPosition error bytes4 position fresh withMeasured withLock
+position-values = (refl, refl)
+
+-- the code before the position; the offset is wanted less measured
+pub set-position-values : (setPosition eight new [] (0xFF ∷ 0 ∷ 0 ∷ 0 ∷ 0x54 ∷ []) ≡ refuse 0x0F)
+    × (setPosition eight (withMeasured new 5) [] (0 ∷ 0 ∷ 0 ∷ 2 ∷ 0x55 ∷ []) ≡ accept [] (withOffset (withMeasured new 5) 0xFFFFFD) [])
+unfolding setPosition error number offsetFor code fresh withMeasured withOffset
+set-position-values = (refl, refl)
+
+pub counter-values : (readCounter eight (withCounter new 0x010203) [] [] ≡ accept (1 ∷ 2 ∷ 3 ∷ []) (withCounter new 0x010203) [])
+    × (stepCounter eight (withCounter new 0xFFFFFF) [] [] ≡ accept [] (withQueue (withCounter (withCounter new 0xFFFFFF) 0) (0x08 ∷ [])) [])
+    × (clearCounter eight new [] (0x54 ∷ []) ≡ refuse 0x0F)
+unfolding readCounter bytes3 stepCounter choose clearCounter error code queued among fresh withCounter withQueue
+counter-values = (refl, refl, refl)
+
+-- a number over 3 before the old code; the new code is set
+pub set-code-values : (setCode eight new [] (4 ∷ 0 ∷ 0 ∷ []) ≡ refuse 0x0D) × (setCode eight new [] (2 ∷ 0x55 ∷ 0x66 ∷ []) ≡ accept (2 ∷ []) (withCodes new (0x55 ∷ 0x55 ∷ 0x66 ∷ 0x55 ∷ [])) [])
+unfolding setCode error code fresh withCodes
+set-code-values = (refl, refl)
+
+-- a field behind 00h makes the table unsound and is not counted; the free blocks are what the fields leave
+pub survey-values : ((survey 8 (tabled 0xC0 0 0xC0) 0) .trusted ≡ false) × ((survey 8 (tabled 0xC0 0 0xC0) 0) .fields ≡ 1) × ((survey 8 (tabled 0xC1 0xC2 0) 0) .free ≡ 3)
+unfolding survey table sound fieldCount used blocks exists freeBlocks statusAt blank
+survey-values = (refl, refl, refl)
+
+-- the code before the count; offset and count together
+pub read-field-values : (readField eight new (tabled 0xC8 0 0) (0 ∷ 0 ∷ 0 ∷ 0x54 ∷ []) ≡ refuse 0x0F) × (readField eight new (tabled 0xC0 0 0) (0 ∷ 15 ∷ 2 ∷ 0 ∷ []) ≡ refuse 0x11)
+unfolding readField onField error survey table sound fieldCount used blocks coded codeNo exists freeBlocks statusAt blank wrongCode code fresh
+read-field-values = (refl, refl)
+
+-- a read-only field before the offset; a byte past the field
+pub store-field-values : (storeField eight new (tabled 0x80 0 0) (0 ∷ 16 ∷ 1 ∷ 0 ∷ 7 ∷ []) ≡ refuse 0x0E) × (storeField eight new (tabled 0xC0 0 0) (0 ∷ 16 ∷ 1 ∷ 0 ∷ 7 ∷ []) ≡ refuse 0x11)
+unfolding storeField onField error survey table sound fieldCount used blocks coded codeNo writable exists freeBlocks statusAt blank wrongCode code fresh
+store-field-values = (refl, refl)
+
+-- 03h before 12h; no field FFh
+pub field-status-values : (fieldStatus eight new (tabled 0xC0 0 0xC0) (5 ∷ []) ≡ refuse 0x03) × (fieldStatus eight new (tabled 0xC0 0 0) (0xFF ∷ []) ≡ refuse 0x12)
+unfolding fieldStatus onField error survey table sound fieldCount used blocks exists freeBlocks statusAt blank
+field-status-values = (refl, refl)
+
+pub memory-status-values : (memoryStatus eight new (tabled 0xC1 0xC2 0) [] ≡ accept (3 ∷ 2 ∷ []) new (tabled 0xC1 0xC2 0)) × (memoryStatus eight new (tabled 0xC0 0 0xC0) [] ≡ refuse 0x03)
+unfolding memoryStatus error survey table sound fieldCount used blocks exists freeBlocks freeByte statusAt blank
+memory-status-values = (refl, refl)
+
+-- R1 before R2; a room of 133 bytes is R3
+pub refused-values : (refusedBy (record { total = 0; bits = 24; address = 0; ticks = 4; pause = 55 }) new [] 134 (poll 0) ≡ 1) × (refusedBy eight new (zeros 136) 133 (poll 0) ≡ 3) × (refusedBy eight new [] 0 (measured 7) ≡ 0)
+unfolding refusedBy plateOk stateOk lends among apart fresh none
+refused-values = (refl, refl, refl)
+
+-- 4Bh of no byte and of 129
+pub length-values : (lengthFits (counted 4) (0 ∷ 0 ∷ 0 ∷ []) (zeros 4) ≡ false) × (lengthFits (counted 4) (0 ∷ 0 ∷ 129 ∷ []) (zeros 133) ≡ false)
+unfolding lengthFits
+length-values = (refl, refl)
+
+-- R4 before R5, in a room of 134 bytes; 4Ah's count of 0 is R5
+pub writes-values : ((writes 32 0x42 [] (zeros 134)) .refusal ≡ 4) × ((writes 0 0x4A (0 ∷ 0 ∷ 0 ∷ 0 ∷ []) (zeros 135)) .refusal ≡ 5)
+unfolding writes addressOk allowed asked row lengthFits commandOf inRange
+writes-values = (refl, refl)
