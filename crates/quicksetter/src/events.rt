@@ -37,10 +37,10 @@ fn is_calm(
     if !image::is_image(image) {
         return false;
     }
-    if image::number_at(image, WAITING) != 0 {
+    if frame::number_at(image, WAITING) != 0 {
         return false;
     }
-    if 0xFFFFFF < image::number_at(image, COUNTER) {
+    if 0xFFFFFF < frame::number_at(image, COUNTER) {
         return false;
     }
     let plate = Plate {
@@ -53,7 +53,7 @@ fn is_calm(
     if !plate.is_ok() {
         return false;
     }
-    if commands::size(bits) <= image::number_at(image, OFFSET) as u64 {
+    if commands::size(bits) <= frame::number_at(image, OFFSET) as u64 {
         return false;
     }
     if memory as u64 != 16 * (total as u64) + total as u64 {

@@ -14,7 +14,7 @@ use Rattle.quicksetter.proofs.events.is_calm.Reads as reads
 use Rattle.quicksetter.proofs.events.is_calm.Lts as lts
 use Rattle.commands.proofs.size.Reads as size-reads
 use Rattle.image.proofs.is_image.Reads as is-image-reads
-use Rattle.image.proofs.number_at.Reads as number-at-reads
+use Rattle.frame.proofs.number_at.Reads as number-at-reads
 use Rattle.line.proofs.plate.Plate.is_ok.Reads as is-ok-reads
 
 fine : (c : tie.Else1) → isImage (now (c .before .before .before .args .image)) ≡ true
