@@ -4,3 +4,4 @@ mod Calm
 mod Finishing
 mod Freshening
 mod Judging
+pub mod Tight
