@@ -5,3 +5,4 @@ mod Finishing
 mod Freshening
 mod Judging
 pub mod Tight
+pub mod Theorems
