@@ -1,4 +1,4 @@
-// What board and bench share: the frame of 000, 2.3.3, the table of the commands, and what a command comes to.
+// What board and bench share: the frame of 000, 2.3.3, the table of the commands, what a command comes to, and a number from its bytes.
 mod answer;
 mod number;
 mod room;
