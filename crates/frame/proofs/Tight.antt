@@ -17,6 +17,10 @@ pub one-outcome : {A B : Type 0} (tells : A → B) (back : B → A) → ((a : A)
     → (y : B) (a b : A) → tells a ≡ y → tells b ≡ y → a ≡ b
 one-outcome tells back same y a b p q = sym (same a) ∙ ap back (p ∙ sym q) ∙ same b
 
+-- .. and so where it says the outcome outright
+pub same-outcome : {A : Type 0} (y a b : A) → a ≡ y → b ≡ y → a ≡ b
+same-outcome y a b p q = p ∙ sym q
+
 abbrev lengthBack : meaning.Length → Length
 lengthBack (meaning.exactly n) = Exactly n
 lengthBack (meaning.counted n) = Counted n

@@ -4,12 +4,14 @@ use native.Mathlib.Omega.{arith}
 use native.Mathlib.Nat.{mod-eq-of-lt}
 use mathlib.Core.Path.{_≡_, refl, sym, ap, _∙_}
 use mathlib.Core.Bool.{Bool, true, false}
+use mathlib.Core.List.{List, [], _∷_}
 use borrow.Author.Tests.{leb-true, le-leb}
 use lib.Dec.{leb, lit<}
 use lib.Bits.{bitAnd, and-block, and-high}
-use Rattle.meaning.specs.Bytes.{both}
-use Rattle.image.specs.Image.{lowFirst, flagsOk}
+use Rattle.meaning.specs.Bytes.{arg, part, both, little}
+use Rattle.frame.proofs.Numbers.{little-at}
 use Rattle.meaning.proofs.Choices.{both-left, both-right}
+use Rattle.image.specs.Image.{flagsOk}
 
 -- the bits of a byte but for the lowest
 abbrev upper : ℕ → ℕ
@@ -34,32 +36,49 @@ blank : (w x y z : ℕ) → ((z * 256 + y) * 256 + x) * 256 + w ≡ 0 → Blank 
 blank w x y z e = record { one = omega arith; two = omega arith; three = omega arith; four = omega arith }
 
 module _ (a b c d : ℕ) (ha : a < 256) (hb : b < 256) (hc : c < 256) (hd : d < 256) where
-  nested : lowFirst a b c d ≡ ((d * 256 + c) * 256 + b) * 256 + a
-  unfolding lowFirst
+  nested : little (a ∷ b ∷ c ∷ d ∷ []) ≡ ((d * 256 + c) * 256 + b) * 256 + a
+  unfolding little
   nested = omega arith
 
-  word : bitAnd (lowFirst a b c d) 0xFEFEFEFE ≡ ((upper d * 256 + upper c) * 256 + upper b) * 256 + upper a
+  word : bitAnd (little (a ∷ b ∷ c ∷ d ∷ [])) 0xFEFEFEFE ≡ ((upper d * 256 + upper c) * 256 + upper b) * 256 + upper a
   word =
       let s : bitAnd (d * 256 + c) 0xFEFE ≡ upper d * 256 + upper c = and-block 8 d 0xFE c 0xFE hc (lit< tt) ∙ rw (upper-is d, upper-is c) in
       let t : bitAnd ((d * 256 + c) * 256 + b) 0xFEFEFE ≡ (upper d * 256 + upper c) * 256 + upper b =
       and-block 8 (d * 256 + c) 0xFEFE b 0xFE hb (lit< tt) ∙ rw (s, upper-is b) in
       ap (λ (x : ℕ). bitAnd x 0xFEFEFEFE) nested ∙ and-block 8 ((d * 256 + c) * 256 + b) 0xFEFEFE a 0xFE ha (lit< tt) ∙ rw (t, upper-is a)
 
-  pub flags-fine : bitAnd (lowFirst a b c d) 0xFEFEFEFE ≡ 0 → flagsOk a b c d ≡ true
+-- the flags of an image, at 20 to 23
+module _ (img : List ℕ) (small : (i : ℕ) → arg img i < 256) where
+  abbrev a : ℕ
+  a = arg img 20
+
+  abbrev b : ℕ
+  b = arg img 21
+
+  abbrev c : ℕ
+  c = arg img 22
+
+  abbrev d : ℕ
+  d = arg img 23
+
+  tested : bitAnd (little (part img 20 4)) 0xFEFEFEFE ≡ ((upper d * 256 + upper c) * 256 + upper b) * 256 + upper a
+  tested = ap (λ (x : ℕ). bitAnd x 0xFEFEFEFE) (little-at img 20) ∙ word a b c d (small 20) (small 21) (small 22) (small 23)
+
+  pub flags-fine : bitAnd (little (part img 20 4)) 0xFEFEFEFE ≡ 0 → flagsOk img ≡ true
   unfolding flagsOk
   flags-fine e =
-      let z : Blank (upper a) (upper b) (upper c) (upper d) = blank (upper a) (upper b) (upper c) (upper d) (sym word ∙ e) in
-      let p : a ≤ 1 = low-bit a ha (z .one) in
-      let q : b ≤ 1 = low-bit b hb (z .two) in
-      let r : c ≤ 1 = low-bit c hc (z .three) in
-      let s : d ≤ 1 = low-bit d hd (z .four) in
+      let z : Blank (upper a) (upper b) (upper c) (upper d) = blank (upper a) (upper b) (upper c) (upper d) (sym tested ∙ e) in
+      let p : a ≤ 1 = low-bit a (small 20) (z .one) in
+      let q : b ≤ 1 = low-bit b (small 21) (z .two) in
+      let r : c ≤ 1 = low-bit c (small 22) (z .three) in
+      let s : d ≤ 1 = low-bit d (small 23) (z .four) in
       rw (le-leb a 1 p, le-leb b 1 q, le-leb c 1 r, le-leb d 1 s)
 
-  pub flags-bad : (bitAnd (lowFirst a b c d) 0xFEFEFEFE ≡ 0 → ⊥) → flagsOk a b c d ≡ false
+  pub flags-bad : (bitAnd (little (part img 20 4)) 0xFEFEFEFE ≡ 0 → ⊥) → flagsOk img ≡ false
   unfolding flagsOk
-  flags-bad n = go (flagsOk a b c d) refl
+  flags-bad n = go (flagsOk img) refl
     where
-      go : (t : Bool) → flagsOk a b c d ≡ t → t ≡ false
+      go : (t : Bool) → flagsOk img ≡ t → t ≡ false
       go false e = refl
       go true e =
           let y : Bool = both (leb c 1) (leb d 1) in
@@ -72,4 +91,4 @@ module _ (a b c d : ℕ) (ha : a < 256) (hb : b < 256) (hc : c < 256) (hd : d < 
           let s : d ≤ 1 = leb-true d 1 (both-right (leb c 1) (leb d 1) g) in
           let u : (x : ℕ) → x ≤ 1 → upper x ≡ 0 = λ x h. omega arith in
           let z : ((upper d * 256 + upper c) * 256 + upper b) * 256 + upper a ≡ 0 = rw (u a p, u b q, u c r, u d s) in
-          absurd (n (word ∙ z))
+          absurd (n (tested ∙ z))

@@ -4,3 +4,4 @@ mod Flags
 pub mod Parts
 pub mod Round
 mod Going
+pub mod Tight

@@ -8,14 +8,15 @@ use mathlib.Core.Bool.{Bool, true, false}
 use mathlib.Core.List.{List, [], _∷_, _++_, append-nil}
 use lib.ListN.{length, getD, take, drop, drop-of-length-le, length-take, length-drop, length-append, take-append-drop}
 use lib.Seq.{take-all, take-at, drop-at, drop-drop, drop-cons, take-take, take-append-le, getD-take, length-take-le}
-use Rattle.meaning.specs.Bytes.{arg, part, put}
+use Rattle.meaning.specs.Bytes.{arg, part, put, little}
 use Rattle.meaning.specs.State.{Line, none}
 use Rattle.meaning.proofs.Puts.{length-put}
+use Rattle.frame.proofs.Numbers.{little-at}
 use Rattle.commands.specs.declared.state.State.{State}
 use Rattle.commands.specs.State.{stateWith}
 use Rattle.line.specs.declared.characters.Frame.{Frame}
 use Rattle.line.specs.Line.{lineOf, Fits, Extends}
-use Rattle.image.specs.Image.{lowFirst, low4, flagByte, flagsOk, isImage, stateIn, frameIn, keptIn, stateBytes, lineBytes, frameRow, frameBytes, imageOf, heldIn, Takes, PutsState, PutsFrame, PutsBoard}
+use Rattle.image.specs.Image.{low4, flagByte, isImage, stateIn, frameIn, keptIn, stateBytes, lineBytes, frameRow, frameBytes, imageOf, heldIn, Takes, PutsState, PutsFrame, PutsBoard}
 use Rattle.image.proofs.Standing.{places, byte-0, byte-1, byte-2, byte-3, flag-back, line-row, frame-again}
 
 -- the state is read from the front alone
@@ -23,7 +24,7 @@ pub state-front : (img : List ℕ) → stateIn (take 21 img) ≡ stateIn img
 unfolding stateIn
 state-front img =
     let front : (i : ℕ) → i < 21 → arg (take 21 img) i ≡ arg img i = λ i h. getD-take 21 img i 0 h in
-    rw (front 0 (omega arith), front 1 (omega arith), front 2 (omega arith), front 3 (omega arith), front 4 (omega arith), front 5 (omega arith), front 6 (omega arith), front 7 (omega arith), front 8 (omega arith), front 9 (omega arith), front 10 (omega arith), front 11 (omega arith), front 12 (omega arith), front 13 (omega arith), front 14 (omega arith), front 15 (omega arith), front 16 (omega arith), front 17 (omega arith), front 18 (omega arith), front 19 (omega arith), front 20 (omega arith))
+    rw (little-at (take 21 img) 4, little-at (take 21 img) 8, little-at (take 21 img) 12, little-at img 4, little-at img 8, little-at img 12, front 0 (omega arith), front 1 (omega arith), front 2 (omega arith), front 3 (omega arith), front 4 (omega arith), front 5 (omega arith), front 6 (omega arith), front 7 (omega arith), front 8 (omega arith), front 9 (omega arith), front 10 (omega arith), front 11 (omega arith), front 12 (omega arith), front 13 (omega arith), front 14 (omega arith), front 15 (omega arith), front 16 (omega arith), front 17 (omega arith), front 18 (omega arith), front 19 (omega arith), front 20 (omega arith))
 
 pub same-front : (a b : List ℕ) → take 21 a ≡ take 21 b → stateIn a ≡ stateIn b
 same-front a b e = sym (state-front a) ∙ ap stateIn e ∙ state-front b
@@ -166,7 +167,7 @@ laid-out img all = sym (parts-joined img all) ∙ ap (λ (x : List ℕ). take 21
 
 -- of an image's own bytes
 module _ (img : List ℕ) (all : length img ≡ 165) (small : (i : ℕ) → arg img i < 256) where
-  low-4 : (i : ℕ) (rest : List ℕ) → low4 (lowFirst (arg img i) (arg img (i + 1)) (arg img (i + 2)) (arg img (i + 3))) rest
+  low-4 : (i : ℕ) (rest : List ℕ) → low4 (little (part img i 4)) rest
       ≡ arg img i ∷ arg img (i + 1) ∷ arg img (i + 2) ∷ arg img (i + 3) ∷ rest
   low-4 i rest =
       let a = arg img i in
@@ -177,7 +178,7 @@ module _ (img : List ℕ) (all : length img ≡ 165) (small : (i : ℕ) → arg 
       let q = small (i + 1) in
       let r = small (i + 2) in
       let s = small (i + 3) in
-      rw (byte-0 a b c d p q r s, byte-1 a b c d p q r s, byte-2 a b c d p q r s, byte-3 a b c d p q r s)
+      rw (little-at img i, byte-0 a b c d p q r s, byte-1 a b c d p q r s, byte-2 a b c d p q r s, byte-3 a b c d p q r s)
 
   pub state-as-it-was : arg img 20 ≤ 1 → (l : Line) → stateBytes (stateWith (stateIn img) l) ≡ take 21 img
   unfolding stateBytes stateIn cells

@@ -9,16 +9,17 @@ use borrow.Author.Tests.{eqb-true}
 use lib.Dec.{eqb}
 use lib.ListN.{length, getD, take, drop, drop-of-length-le, length-drop}
 use lib.Seq.{drop-drop, length-take-le}
-use Rattle.meaning.specs.Bytes.{arg, pick, put}
+use Rattle.meaning.specs.Bytes.{arg, part, pick, put, little}
 use Rattle.meaning.specs.State.{Line, none}
 use Rattle.meaning.proofs.Puts.{put-at}
+use Rattle.frame.proofs.Numbers.{low-first, little-at}
 use Rattle.commands.specs.declared.faults.Faults.{Faults}
 use Rattle.commands.specs.declared.state.State.{State}
 use Rattle.commands.specs.Queue.{waiting, queueOf}
 use Rattle.commands.specs.State.{stateWith}
 use Rattle.line.specs.declared.characters.Frame.{Frame}
 use Rattle.line.specs.Line.{lineOf, Fits}
-use Rattle.image.specs.Image.{lowFirst, low4, flagByte, stateIn, stateBytes, frameIn, lineBytes, frameRow, frameBytes, PutsState, PutsFrame}
+use Rattle.image.specs.Image.{low4, flagByte, stateIn, stateBytes, frameIn, lineBytes, frameRow, frameBytes, PutsState, PutsFrame}
 
 first-place : (c : ℕ) (q : List ℕ) → arg (waiting c q) 0 ≡ c
 unfolding waiting
@@ -59,32 +60,31 @@ places f =
 joined : (n a b c r s t : ℕ) → a * 256 + r ≡ n → b * 256 + s ≡ a → c * 256 + t ≡ b → r + 0x100 * s + 0x10000 * t + 0x1000000 * c ≡ n
 joined n a b c r s t e f g = omega arith
 
-pub number-again : (n : ℕ) → n < 2 ^ 32 → lowFirst (n % 256) (n / 0x100 % 256) (n / 0x10000 % 256) (n / 0x1000000 % 256) ≡ n
-unfolding lowFirst
+pub number-again : (n : ℕ) → n < 2 ^ 32 → little (low4 n []) ≡ n
 number-again n h =
     let e : n / 0x10000 ≡ n / 0x100 / 256 = sym (div-div-eq-div-mul n 256 256) in
     let f : n / 0x1000000 ≡ n / 0x10000 / 256 = sym (div-div-eq-div-mul n 0x10000 256) in
     let low : n / 0x1000000 % 256 ≡ n / 0x1000000 = mod-eq-of-lt (omega arith) in
-    rw low
+    low-first (n % 256) (n / 0x100 % 256) (n / 0x10000 % 256) (n / 0x1000000 % 256) ∙ rw low
     (joined n (n / 0x100) (n / 0x10000) (n / 0x1000000) (n % 256) (n / 0x100 % 256) (n / 0x10000 % 256)
     (div-add-mod' n 256) (ap (λ (x : ℕ). x * 256 + n / 0x100 % 256) e ∙ div-add-mod' (n / 0x100) 256)
     (ap (λ (x : ℕ). x * 256 + n / 0x10000 % 256) f ∙ div-add-mod' (n / 0x10000) 256))
 
 module _ (a b c d : ℕ) (ha : a < 256) (hb : b < 256) (hc : c < 256) (hd : d < 256) where
-  pub byte-0 : lowFirst a b c d % 256 ≡ a
-  unfolding lowFirst
+  pub byte-0 : little (a ∷ b ∷ c ∷ d ∷ []) % 256 ≡ a
+  unfolding little
   byte-0 = omega arith
 
-  pub byte-1 : lowFirst a b c d / 0x100 % 256 ≡ b
-  unfolding lowFirst
+  pub byte-1 : little (a ∷ b ∷ c ∷ d ∷ []) / 0x100 % 256 ≡ b
+  unfolding little
   byte-1 = omega arith
 
-  pub byte-2 : lowFirst a b c d / 0x10000 % 256 ≡ c
-  unfolding lowFirst
+  pub byte-2 : little (a ∷ b ∷ c ∷ d ∷ []) / 0x10000 % 256 ≡ c
+  unfolding little
   byte-2 = omega arith
 
-  pub byte-3 : lowFirst a b c d / 0x1000000 % 256 ≡ d
-  unfolding lowFirst
+  pub byte-3 : little (a ∷ b ∷ c ∷ d ∷ []) / 0x1000000 % 256 ≡ d
+  unfolding little
   byte-3 = omega arith
 
 pub flag-again : (t : Bool) → eqb (flagByte t) 1 ≡ t
@@ -122,7 +122,7 @@ pub record Typed (s : State) : Type 0 where
   pub measured : s .measured < 2 ^ 32
 
 pub state-first : (s : State) (rest : List ℕ) (l : Line) → Typed s → stateIn (stateBytes (stateWith s l) ++ rest) ≡ s
-unfolding stateIn stateBytes
+unfolding stateIn stateBytes part
 state-first s rest l t =
     let q = places (s .faults) in
     rw (
@@ -163,7 +163,7 @@ unfolding frameIn frameRow
 frame-again f img h k =
     let row : List ℕ = flagByte (f .begun) ∷ flagByte (f .longer) ∷ flagByte (f .parity) ∷ low4 (f .last) (f .sum ∷ f .len ∷ []) in
     let at : (j : ℕ) → j < 9 → arg (put img 21 row) (21 + j) ≡ arg row j = λ j l. put-at img 21 row (omega arith) j l in
-    rw (at 0 (omega arith), at 1 (omega arith), at 2 (omega arith), at 3 (omega arith), at 4 (omega arith), at 5 (omega arith), at 6 (omega arith), at 7 (omega arith), at 8 (omega arith), flag-again (f .begun), flag-again (f .longer), flag-again (f .parity), number-again (f .last) k)
+    rw (little-at (put img 21 row) 24, at 0 (omega arith), at 1 (omega arith), at 2 (omega arith), at 3 (omega arith), at 4 (omega arith), at 5 (omega arith), at 6 (omega arith), at 7 (omega arith), at 8 (omega arith), flag-again (f .begun), flag-again (f .longer), flag-again (f .parity), number-again (f .last) k)
 
 pub line-row : (f : Frame) (kept : List ℕ) → Fits f kept
     → lineBytes (lineOf f kept) ≡ frameBytes f

@@ -1,11 +1,11 @@
 -- The state image: where its 165 bytes stand, the state that they hold, and the bytes of a state (01, "calls on numbers and byte slices"). Assumes nothing.
-use Prim.Native.Nat.{ℕ, _+_, _*_, _/_, _%_, _≤_}
+use Prim.Native.Nat.{ℕ, _/_, _%_}
 use mathlib.Core.Path.{_≡_}
 use mathlib.Core.Bool.{Bool, true, false}
 use mathlib.Core.List.{List, [], _∷_, _++_}
 use lib.Dec.{eqb, leb}
 use lib.ListN.{length, take, drop}
-use Rattle.meaning.specs.Bytes.{both, arg, put}
+use Rattle.meaning.specs.Bytes.{both, arg, part, put, little}
 use Rattle.meaning.specs.State as meaning
 use Rattle.commands.specs.declared.state.State.{State}
 use Rattle.commands.specs.State.{stateWith}
@@ -13,11 +13,8 @@ use Rattle.line.specs.declared.characters.Frame.{Frame}
 use Rattle.line.specs.Line.{lineOf}
 
 -- numbers stand low byte first
-unfoldable pub lowFirst : ℕ → ℕ → ℕ → ℕ → ℕ
-lowFirst a b c d = a + 0x100 * b + 0x10000 * c + 0x1000000 * d
-
 abbrev pub numberAt : List ℕ → ℕ → ℕ
-numberAt img i = lowFirst (arg img i) (arg img (i + 1)) (arg img (i + 2)) (arg img (i + 3))
+numberAt img i = little (part img i 4)
 
 abbrev pub low4 : ℕ → List ℕ → List ℕ
 low4 n rest = n % 256 ∷ n / 0x100 % 256 ∷ n / 0x10000 % 256 ∷ n / 0x1000000 % 256 ∷ rest
@@ -62,11 +59,11 @@ abbrev pub heldIn : List ℕ → meaning.State
 heldIn img = stateWith (stateIn img) (lineOf (frameIn img) (keptIn img))
 
 -- R1: another length, a flag that is neither 0 nor 1, or more than 135 kept bytes
-unfoldable pub flagsOk : ℕ → ℕ → ℕ → ℕ → Bool
-flagsOk a b c d = both (leb a 1) (both (leb b 1) (both (leb c 1) (leb d 1)))
+unfoldable pub flagsOk : List ℕ → Bool
+flagsOk img = both (leb (arg img 20) 1) (both (leb (arg img 21) 1) (both (leb (arg img 22) 1) (leb (arg img 23) 1)))
 
 unfoldable pub isImage : List ℕ → Bool
-isImage img = both (eqb (length img) 165) (both (flagsOk (arg img 20) (arg img 21) (arg img 22) (arg img 23)) (leb (arg img 29) 135))
+isImage img = both (eqb (length img) 165) (both (flagsOk img) (leb (arg img 29) 135))
 
 -- the 21 bytes of a state, but for its frame
 unfoldable pub stateBytes : meaning.State → List ℕ

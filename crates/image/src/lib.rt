@@ -11,7 +11,6 @@ pub use layout::OFFSET;
 pub use layout::WAITING;
 pub use read::frame_in;
 pub use read::is_image;
-pub use read::number_at;
 pub use read::state_in;
 pub use write::put_board;
 pub use write::put_frame;

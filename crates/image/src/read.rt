@@ -1,9 +1,9 @@
 // What an image holds: its state and its open frame's numbers. The kept bytes stay where they are and are lent on.
 ghost use mathlib.Core.Path.{_≡_};
-ghost use Prim.Native.Nat.{_+_, _≤_};
+ghost use Prim.Native.Nat.{_≤_};
 ghost use lib.Dec.{eqb};
 ghost use lib.ListN.{length};
-ghost use Rattle.image.specs.Image.{lowFirst, numberAt, stateIn, frameIn, isImage, flagsOk};
+ghost use Rattle.image.specs.Image.{stateIn, frameIn, isImage, flagsOk};
 use crate::layout::CODES;
 use crate::layout::COUNT;
 use crate::layout::COUNTER;
@@ -21,19 +21,6 @@ use commands::Faults;
 use commands::State;
 use line::Frame;
 
-fn low_first(a: u8, b: u8, c: u8, d: u8) -> u32
-    ensures { λ r. ⌜ r ≡ lowFirst a b c d ⌝ }
-{
-    a as u32 + 0x100 * (b as u32) + 0x10000 * (c as u32) + 0x1000000 * (d as u32)
-}
-
-pub fn number_at(image: &[u8], at: usize) -> u32
-    requires { ⌜ at + 4 ≤ length (now image) ⌝ }
-    ensures { λ r. ⌜ r ≡ numberAt (now (image .entry)) at ⌝ }
-{
-    low_first(image[at], image[at + 1], image[at + 2], image[at + 3])
-}
-
 fn is_one(byte: u8) -> bool
     ensures { λ r. ⌜ r ≡ eqb byte 1 ⌝ }
 {
@@ -41,10 +28,11 @@ fn is_one(byte: u8) -> bool
 }
 
 // 01, R1: a flag is 0 or 1. The four stand side by side and are tested as one word.
-fn flags_ok(locked: u8, begun: u8, longer: u8, parity: u8) -> bool
-    ensures { λ r. ⌜ r ≡ flagsOk locked begun longer parity ⌝ }
+fn flags_ok(image: &[u8]) -> bool
+    requires { ⌜ 165 ≤ length (now image) ⌝ }
+    ensures { λ r. ⌜ r ≡ flagsOk (now (image .entry)) ⌝ }
 {
-    if low_first(locked, begun, longer, parity) & 0xFEFEFEFE != 0 {
+    if frame::number_at(image, LOCKED) & 0xFEFEFEFE != 0 {
         return false;
     }
     true
@@ -57,7 +45,7 @@ pub fn is_image(image: &[u8]) -> bool
     if image.len() != LENGTH {
         return false;
     }
-    if !flags_ok(image[LOCKED], image[FRAME], image[LONGER], image[PARITY]) {
+    if !flags_ok(image) {
         return false;
     }
     if 135 < image[COUNT] {
@@ -85,9 +73,9 @@ pub fn state_in(image: &[u8]) -> State
     };
     State {
         codes: codes,
-        counter: number_at(image, COUNTER),
-        offset: number_at(image, OFFSET),
-        measured: number_at(image, MEASURED),
+        counter: frame::number_at(image, COUNTER),
+        offset: frame::number_at(image, OFFSET),
+        measured: frame::number_at(image, MEASURED),
         faults: faults,
     }
 }
@@ -98,7 +86,7 @@ pub fn frame_in(image: &[u8]) -> Frame
 {
     Frame {
         begun: is_one(image[FRAME]),
-        last: number_at(image, LAST),
+        last: frame::number_at(image, LAST),
         len: image[COUNT],
         sum: image[SUM],
         longer: is_one(image[LONGER]),

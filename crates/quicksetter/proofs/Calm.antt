@@ -11,15 +11,18 @@ use Rattle.meaning.specs.Bytes.{pick, arg}
 use Rattle.meaning.specs.State.{Plate, plateOk, stateOk, apart}
 use Rattle.meaning.specs.Fields.{imageLength}
 use Rattle.meaning.specs.Run.{Call, lends, refusedBy}
+use Rattle.frame.proofs.Numbers.{low-first, little-at}
 use Rattle.commands.specs.Queue.{waiting, queueOf}
-use Rattle.image.specs.Image.{lowFirst, numberAt, isImage, stateIn, frameIn, keptIn, heldIn}
+use Rattle.image.specs.Image.{numberAt, isImage, stateIn, frameIn, keptIn, heldIn}
 use Rattle.image.proofs.Parts.{kept-length}
 use Rattle.image.proofs.Round.{good}
 use Rattle.quicksetter.specs.Calls.{Unrefused}
 
 empty-queue : (img : List ℕ) → numberAt img 16 ≡ 0 → queueOf (stateIn img .faults) ≡ []
-unfolding queueOf waiting stateIn lowFirst
+unfolding queueOf waiting stateIn
 empty-queue img e =
+    let k : arg img 16 + 0x100 * arg img 17 + 0x10000 * arg img 18 + 0x1000000 * arg img 19 ≡ 0 =
+    sym (low-first (arg img 16) (arg img 17) (arg img 18) (arg img 19)) ∙ sym (little-at img 16) ∙ e in
     let a : arg img 16 ≡ 0 = omega arith in
     let b : arg img 17 ≡ 0 = omega arith in
     let c : arg img 18 ≡ 0 = omega arith in

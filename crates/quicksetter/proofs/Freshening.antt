@@ -8,7 +8,7 @@ use borrow.Author.Tests.{eq-eqb, ne-eqb}
 use lib.Dec.{eqb}
 use lib.ListN.{length, take, drop, length-replicate}
 use lib.Seq.{take-at, drop-at, length-take-le}
-use Rattle.meaning.specs.Bytes.{pick, put, zeros}
+use Rattle.meaning.specs.Bytes.{pick, part, put, zeros, little}
 use Rattle.meaning.specs.State as meaning
 use Rattle.meaning.specs.State.{Plate, none, plateOk, fresh}
 use Rattle.commands.specs.declared.state.State.{State}
@@ -17,7 +17,7 @@ use Rattle.commands.specs.Queue.{queueOf, waiting}
 use Rattle.commands.proofs.Answering.{put-nothing}
 use Rattle.line.specs.declared.characters.Frame.{Frame}
 use Rattle.line.specs.Line.{lineOf, noFrame}
-use Rattle.image.specs.Image.{lowFirst, flagByte, stateIn, frameIn, keptIn, heldIn, stateBytes, lineBytes, frameRow, frameBytes, imageOf, PutsBoard}
+use Rattle.image.specs.Image.{flagByte, stateIn, frameIn, keptIn, heldIn, stateBytes, lineBytes, frameRow, frameBytes, imageOf, PutsBoard}
 use Rattle.image.proofs.Standing.{part-filled, put-whole}
 use Rattle.image.proofs.Parts.{kept-length}
 use Rattle.quicksetter.specs.Calls.{freshOk, Freshens}
@@ -66,5 +66,5 @@ module _ (p : Plate) (img : List ℕ) where
 
 -- what it holds is the fresh state
 pub fresh-holds : (p : Plate) → heldIn (imageOf (fresh p) (zeros 135)) ≡ fresh p
-unfolding imageOf stateBytes lineBytes fresh none flagByte put stateIn frameIn lowFirst queueOf waiting
+unfolding imageOf stateBytes lineBytes fresh none flagByte put stateIn frameIn part little queueOf waiting
 fresh-holds p = refl

@@ -238,6 +238,6 @@ module _ (p : Plate) (img m w : List ℕ) (tick v : ℕ) {r : ℕ} {img′ m′ 
   as-kind kind e q = subst (λ (x : Call). Called p img m w x r img′ m′ w′) (e tick v) q
 
 -- the frame's test, of the state that the image holds
-pub not-over : (p : Plate) (img : List ℕ) (tick : ℕ) {f : Frame} {r : Bool} → f ≡ frameIn img
-    → ((s : meaning.State) (kept : List ℕ) → s .line ≡ lineOf f kept → r ≡ over p s tick) → r ≡ false → over p (heldIn img) tick ≡ false
-not-over p img tick {f} e o q = sym (o (heldIn img) (keptIn img) (ap (λ (x : Frame). lineOf x (keptIn img)) (sym e))) ∙ q
+pub over-in : (p : Plate) (img : List ℕ) (tick : ℕ) {f : Frame} {r : Bool} → f ≡ frameIn img
+    → ((s : meaning.State) (kept : List ℕ) → s .line ≡ lineOf f kept → r ≡ over p s tick) → r ≡ over p (heldIn img) tick
+over-in p img tick e o = o (heldIn img) (keptIn img) (ap (λ (x : Frame). lineOf x (keptIn img)) (sym e))

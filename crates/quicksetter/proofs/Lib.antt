@@ -4,3 +4,5 @@ mod Calm
 mod Finishing
 mod Freshening
 mod Judging
+pub mod Tight
+pub mod Theorems

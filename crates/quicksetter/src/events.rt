@@ -1,20 +1,23 @@
 // A character and a poll (01, "Characters become frames").
 ghost use mathlib.Core.Path.{_≡_};
 ghost use mathlib.Core.Bool.{true};
-ghost use Prim.Native.Nat.{ℕ};
+ghost use Prim.Native.Nat.{ℕ, _≤_};
+ghost use lib.ListN.{length};
 ghost use Rattle.meaning.specs.Bytes.{differ};
+ghost use Rattle.meaning.specs.Frames.{over};
 ghost use Rattle.meaning.specs.Run as run;
 ghost use Rattle.line.specs.Line.{plateOf};
+ghost use Rattle.image.specs.Image.{heldIn};
 ghost use Rattle.quicksetter.specs.Calls.{plateFrom, callOf, Called, Unrefused};
 use crate::answer::REFUSED;
 use crate::answer::finish;
+use crate::given::plate_from;
 use board::Board;
 use image::COUNTER;
 use image::KEPT;
 use image::LENGTH;
 use image::OFFSET;
 use image::WAITING;
-use line::Plate;
 
 // What came: a character, one with a parity fault, or a poll.
 const FAULTY: u8 = 1;
@@ -29,37 +32,49 @@ fn is_calm(
     address: u32,
     ticks: u32,
     pause: u32,
-    memory: usize,
-    room: usize,
+    memory: &[u8],
+    room: &[u8],
 ) -> bool
-    ensures { λ r. ⌜ (r ≡ true → Unrefused (plateOf (plateFrom total bits address ticks pause)) (now (image .entry)) memory room) ⌝ }
+    ensures { λ r. ⌜ (r ≡ true → Unrefused (plateOf (plateFrom total bits address ticks pause)) (now (image .entry)) (length (now (memory .entry))) (length (now (room .entry)))) ⌝ }
 {
     if !image::is_image(image) {
         return false;
     }
-    if image::number_at(image, WAITING) != 0 {
+    if frame::number_at(image, WAITING) != 0 {
         return false;
     }
-    if 0xFFFFFF < image::number_at(image, COUNTER) {
+    if 0xFFFFFF < frame::number_at(image, COUNTER) {
         return false;
     }
-    let plate = Plate {
-        total,
-        bits,
-        address,
-        ticks,
-        pause,
-    };
+    let plate = plate_from(total, bits, address, ticks, pause);
     if !plate.is_ok() {
         return false;
     }
-    if commands::size(bits) <= image::number_at(image, OFFSET) as u64 {
+    if commands::size(bits) <= frame::number_at(image, OFFSET) as u64 {
         return false;
     }
-    if memory as u64 != 16 * (total as u64) + total as u64 {
+    if memory.len() as u64 != 16 * (total as u64) + total as u64 {
         return false;
     }
-    134 <= room
+    134 <= room.len()
+}
+
+// Whether the image's open frame is over at that tick.
+fn is_over(
+    image: &[u8],
+    tick: u32,
+    total: u32,
+    bits: u32,
+    address: u32,
+    ticks: u32,
+    pause: u32,
+) -> bool
+    requires { ⌜ 165 ≤ length (now image) ⌝ }
+    ensures { λ r. ⌜ r ≡ over (plateOf (plateFrom total bits address ticks pause)) (heldIn (now (image .entry))) tick ⌝ }
+{
+    let plate = plate_from(total, bits, address, ticks, pause);
+    let frame = image::frame_in(image);
+    frame.is_over(plate, tick)
 }
 
 // Any character or poll, by the board. Its parameters are those of `qs_character`, so that handing them on costs nothing.
@@ -81,13 +96,7 @@ fn event(
     if !image::is_image(image) {
         return REFUSED + 1;
     }
-    let plate = Plate {
-        total,
-        bits,
-        address,
-        ticks,
-        pause,
-    };
+    let plate = plate_from(total, bits, address, ticks, pause);
     let state = image::state_in(image);
     let frame = image::frame_in(image);
     let before = Board { state, frame };
@@ -140,25 +149,8 @@ pub extern "C" fn qs_character(
     ensures { λ r. ⌜ Called (plateOf (plateFrom total bits address ticks pause)) (now (image .entry)) (now (memory .entry)) (now (room .entry)) (run.character tick value (differ parity 0)) r (now (image .exit)) (now (memory .exit)) (now (room .exit)) ⌝ }
 {
     let faulty = is_fault(parity);
-    if is_calm(
-        image,
-        total,
-        bits,
-        address,
-        ticks,
-        pause,
-        memory.len(),
-        room.len(),
-    ) {
-        let plate = Plate {
-            total,
-            bits,
-            address,
-            ticks,
-            pause,
-        };
-        let frame = image::frame_in(image);
-        if !frame.is_over(plate, tick) {
+    if is_calm(image, total, bits, address, ticks, pause, memory, room) {
+        if !is_over(image, tick, total, bits, address, ticks, pause) {
             image::take_character(tick, value, faulty, image);
             return 0;
         }
@@ -192,25 +184,8 @@ pub extern "C" fn qs_poll(
 ) -> usize
     ensures { λ r. ⌜ Called (plateOf (plateFrom total bits address ticks pause)) (now (image .entry)) (now (memory .entry)) (now (room .entry)) (run.poll tick) r (now (image .exit)) (now (memory .exit)) (now (room .exit)) ⌝ }
 {
-    if is_calm(
-        image,
-        total,
-        bits,
-        address,
-        ticks,
-        pause,
-        memory.len(),
-        room.len(),
-    ) {
-        let plate = Plate {
-            total,
-            bits,
-            address,
-            ticks,
-            pause,
-        };
-        let frame = image::frame_in(image);
-        if !frame.is_over(plate, tick) {
+    if is_calm(image, total, bits, address, ticks, pause, memory, room) {
+        if !is_over(image, tick, total, bits, address, ticks, pause) {
             return 0;
         }
     }

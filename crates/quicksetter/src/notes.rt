@@ -7,12 +7,12 @@ ghost use Rattle.line.specs.Line.{plateOf};
 ghost use Rattle.quicksetter.specs.Calls.{plateFrom, Called, Freshens};
 use crate::answer::REFUSED;
 use crate::answer::finish;
+use crate::given::plate_from;
 use board::Board;
 use commands::State;
 use image::KEPT;
 use image::LENGTH;
 use line::Frame;
-use line::Plate;
 
 // Every byte of the image is written, so what stood there before does not matter.
 #[no_mangle]
@@ -26,13 +26,7 @@ pub extern "C" fn qs_fresh(
 ) -> usize
     ensures { λ r. ⌜ Freshens (plateOf (plateFrom total bits address ticks pause)) (now (image .entry)) r (now (image .exit)) ⌝ }
 {
-    let plate = Plate {
-        total,
-        bits,
-        address,
-        ticks,
-        pause,
-    };
+    let plate = plate_from(total, bits, address, ticks, pause);
     if !plate.is_ok() {
         return REFUSED + 1;
     }
@@ -60,13 +54,7 @@ pub extern "C" fn qs_measured(
     if !image::is_image(image) {
         return REFUSED + 1;
     }
-    let plate = Plate {
-        total,
-        bits,
-        address,
-        ticks,
-        pause,
-    };
+    let plate = plate_from(total, bits, address, ticks, pause);
     let state = image::state_in(image);
     let frame = image::frame_in(image);
     let before = Board { state, frame };
@@ -88,13 +76,7 @@ pub extern "C" fn qs_fault(
     if !image::is_image(image) {
         return REFUSED + 1;
     }
-    let plate = Plate {
-        total,
-        bits,
-        address,
-        ticks,
-        pause,
-    };
+    let plate = plate_from(total, bits, address, ticks, pause);
     let state = image::state_in(image);
     let frame = image::frame_in(image);
     let before = Board { state, frame };
@@ -115,13 +97,7 @@ pub extern "C" fn qs_power_on(
     if !image::is_image(image) {
         return REFUSED + 1;
     }
-    let plate = Plate {
-        total,
-        bits,
-        address,
-        ticks,
-        pause,
-    };
+    let plate = plate_from(total, bits, address, ticks, pause);
     let state = image::state_in(image);
     let frame = image::frame_in(image);
     let before = Board { state, frame };

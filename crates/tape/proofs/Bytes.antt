@@ -7,8 +7,7 @@ use native.Mathlib.Nat.{add-assoc}
 use native.Mathlib.Omega.{arith}
 use lib.ListN.{length, getD, take, drop, length-take, length-drop}
 use lib.Seq.{drop-cons, drop-drop, getD-take, getD-drop, take-take}
-use Rattle.meaning.specs.Bytes.{part, arg}
-use Rattle.tape.specs.Records.{little}
+use Rattle.meaning.specs.Bytes.{part, arg, little}
 
 -- the first byte of a part, and the part behind it
 pub part-cons : (s : List ℕ) (at n : ℕ) → at < length s → part s at (suc n) ≡ getD s at 0 ∷ part s (at + 1) n
@@ -34,12 +33,3 @@ part-drop s at i n = rw (drop-drop i at s)
 pub little-two : (s : List ℕ) (at : ℕ) → at + 2 ≤ length s → little (part s at 2) ≡ getD s at 0 + 256 * getD s (at + 1) 0
 unfolding little part
 little-two s at h = rw (part-cons s at 1 (omega arith), part-cons s (at + 1) 0 (omega arith)) (omega arith)
-
-pub little-four : (s : List ℕ) (at : ℕ) → at + 4 ≤ length s
-    → little (part s at 4) ≡ getD s at 0 + 256 * getD s (at + 1) 0 + 65536 * getD s (at + 2) 0 + 16777216 * getD s (at + 3) 0
-unfolding little part
-little-four s at h =
-    let e₂ : at + 1 + 1 ≡ at + 2 = omega arith in
-    let e₃ : at + 2 + 1 ≡ at + 3 = omega arith in
-    rw (part-cons s at 3 (omega arith), part-cons s (at + 1) 2 (omega arith), e₂, part-cons s (at + 2) 1 (omega arith), e₃, part-cons s (at + 3) 0 (omega arith))
-    (omega arith)

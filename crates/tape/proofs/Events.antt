@@ -8,10 +8,9 @@ use native.Mathlib.Omega.{arith}
 use lib.ListN.{length, getD}
 use lib.Dec.{eqb, leb}
 use borrow.Author.Tests.{eq-eqb, ne-eqb, lt-leb, le-leb}
-use Rattle.meaning.specs.Bytes.{part, arg}
+use Rattle.meaning.specs.Bytes.{part, arg, little}
 use Rattle.meaning.specs.State.{Plate}
 use Rattle.meaning.specs.Run.{character, poll, measured, fault, power-on}
-use Rattle.tape.specs.Records.{little}
 use Rattle.tape.specs.Kinds.{Said, plate, call, unfit, plateIn, characterIn, sized}
 use Rattle.tape.proofs.Bytes.{length-part, part-byte, part-front}
 

@@ -71,12 +71,6 @@ length-hex [] = refl
 length-hex (b ∷ s) = let h = length-hex s in omega arith
 
 -- what is left of a text, from the place reached, comes to the whole: one byte more, and none left
-pub copy-next : (s room : List ℕ) (i to : ℕ) → i < length s → to + (length s - i) ≤ length room
-    → put (set room to (getD s i 0)) (to + 1) (drop (i + 1) s) ≡ put room to (drop i s)
-copy-next s room i to h k =
-    let d : drop i s ≡ getD s i 0 ∷ drop (i + 1) s = rw (add-one i) (drop-cons s i 0 h) in
-    put-next room to (getD s i 0) (drop (i + 1) s) (simp length-drop (omega arith)) ∙ ap (λ (l : List ℕ). put room to l) (sym d)
-
 pub hex-more : (s room : List ℕ) (i to : ℕ) → i < length s → to + 3 * (length s - i) ≤ length room
     → put (set (set (set room to 32) (to + 1) (digitOf (getD s i 0 / 16))) (to + 2) (digitOf (getD s i 0 % 16))) (to + 3) (hexOf (drop (i + 1) s))
     ≡ put room to (hexOf (drop i s))

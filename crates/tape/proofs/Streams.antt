@@ -9,9 +9,9 @@ use lib.ListN.{length, take, drop, length-append, length-take, length-drop}
 use lib.Seq.{take-append-le, drop-append-le, drop-drop}
 use lib.Dec.{ltb, leb, eqb}
 use borrow.Author.Tests.{ltb-true, ltb-false, leb-true, leb-false, le-leb, ne-eqb}
-use Rattle.meaning.specs.Bytes.{pick, both, part}
+use Rattle.meaning.specs.Bytes.{pick, both, part, little}
 use Rattle.meaning.specs.State.{Plate, State, plateOk}
-use Rattle.tape.specs.Records.{little, lengthAt, wholeLength, Found, whole, cut, recordAt}
+use Rattle.tape.specs.Records.{lengthAt, wholeLength, Found, whole, cut, recordAt}
 use Rattle.tape.specs.Kinds.{Said, plate, call, unfit, sized, callOf, saidBy}
 use Rattle.tape.specs.Text.{firstLine, badLine}
 use Rattle.tape.specs.Answers.{Stage, opening, running, ended, Turn, bad, turn, answersFrom, answersOf}

@@ -7,8 +7,8 @@ use native.Mathlib.Omega.{arith}
 use lib.ListN.{length, take, drop, length-drop}
 use lib.Dec.{ltb}
 use borrow.Author.Tests.{lt-ltb, le-ltb, ltb-false}
-use Rattle.meaning.specs.Bytes.{pick, part}
-use Rattle.tape.specs.Records.{little, lengthAt, wholeLength}
+use Rattle.meaning.specs.Bytes.{pick, part, little}
+use Rattle.tape.specs.Records.{lengthAt, wholeLength}
 use Rattle.tape.specs.Reader.{readAt}
 use Rattle.tape.specs.Passes.{longest, Heard, heardBy, heard}
 use Rattle.tape.specs.declared.record.Cursor.{Cursor}

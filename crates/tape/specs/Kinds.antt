@@ -3,10 +3,10 @@ use Prim.Native.Nat.{ℕ}
 use mathlib.Core.List.{List}
 use lib.ListN.{length, take}
 use lib.Dec.{eqb, leb}
-use Rattle.meaning.specs.Bytes.{pick, arg}
+use Rattle.meaning.specs.Bytes.{pick, arg, little}
 use Rattle.meaning.specs.State.{Plate}
 use Rattle.meaning.specs.Run.{Call, character, poll, measured, fault, power-on}
-use Rattle.tape.specs.Records.{little, Found, whole, cut}
+use Rattle.tape.specs.Records.{Found, whole, cut}
 
 -- 01, "fits none of this": an unknown kind, a body too short or too long, a parity byte over 1
 pub data Said : Type 0 where

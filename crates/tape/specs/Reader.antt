@@ -4,9 +4,9 @@ use mathlib.Core.Path.{_≡_}
 use mathlib.Core.List.{List}
 use lib.ListN.{length, drop}
 use lib.Dec.{ltb}
-use Rattle.meaning.specs.Bytes.{pick, part, put}
+use Rattle.meaning.specs.Bytes.{pick, part, put, little}
 use Rattle.meaning.specs.Run.{character, poll, measured, fault, power-on}
-use Rattle.tape.specs.Records.{little, lengthAt, wholeLength}
+use Rattle.tape.specs.Records.{lengthAt, wholeLength}
 use Rattle.tape.specs.Kinds.{Said, plate, call, unfit}
 use Rattle.tape.specs.declared.record.Read.{Read}
 use Rattle.tape.specs.declared.record.Read.the-variants.{Record, More, Bad}

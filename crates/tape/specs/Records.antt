@@ -1,14 +1,9 @@
 -- The record at the front of a tape (01, "records of length (2 bytes, little-endian, counting what follows), kind (2 bytes), body"). Assumes nothing.
-use Prim.Native.Nat.{ℕ, _+_, _-_, _*_}
-use mathlib.Core.List.{List, [], _∷_}
+use Prim.Native.Nat.{ℕ, _+_, _-_}
+use mathlib.Core.List.{List}
 use lib.ListN.{length, take}
 use lib.Dec.{leb}
-use Rattle.meaning.specs.Bytes.{pick, both, part}
-
--- 01, "Numbers little-endian"
-unfoldable pub little : List ℕ → ℕ
-little [] = 0
-little (b ∷ bs) = b + 256 * little bs
+use Rattle.meaning.specs.Bytes.{pick, both, part, little}
 
 -- 01, "length (2 bytes, little-endian, counting what follows)", and how many bytes the record takes with its length
 unfoldable pub lengthAt : List ℕ → ℕ

@@ -3,12 +3,10 @@ ghost use mathlib.Core.Path.{_≡_};
 ghost use Prim.Native.Nat.{_+_, _≤_};
 ghost use lib.ListN.{length};
 ghost use lib.Dec.{eqb};
-ghost use Rattle.meaning.specs.Bytes.{pick, part, arg};
+ghost use Rattle.meaning.specs.Bytes.{pick, part, arg, little};
 ghost use Rattle.meaning.specs.Run as run;
-ghost use Rattle.tape.specs.Records.{little};
 ghost use Rattle.tape.specs.Kinds.{plate, call, unfit, plateIn, characterIn, sized, callOf};
 ghost use Rattle.tape.specs.Reader.{saidOf};
-use crate::record::get32;
 
 // What a record says; Unfit where it fits no kind.
 pub enum Event {
@@ -62,7 +60,7 @@ fn character_in(s: &[u8], start: usize, n: usize) -> Event
     if n != 6 {
         return Event::Unfit;
     }
-    let tick = get32(s, start);
+    let tick = frame::number_at(s, start);
     let value = s[start + 4];
     let fault = s[start + 5];
     if 1 < fault {
@@ -83,7 +81,7 @@ fn poll_in(s: &[u8], start: usize, n: usize) -> Event
         return Event::Unfit;
     }
     Event::Poll {
-        tick: get32(s, start),
+        tick: frame::number_at(s, start),
     }
 }
 
@@ -95,7 +93,7 @@ fn measured_in(s: &[u8], start: usize, n: usize) -> Event
         return Event::Unfit;
     }
     Event::Measured {
-        position: get32(s, start),
+        position: frame::number_at(s, start),
     }
 }
 

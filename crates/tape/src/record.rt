@@ -2,8 +2,7 @@
 ghost use mathlib.Core.Path.{_≡_};
 ghost use Prim.Native.Nat.{_+_, _≤_, _<_};
 ghost use lib.ListN.{length, drop};
-ghost use Rattle.meaning.specs.Bytes.{part};
-ghost use Rattle.tape.specs.Records.{little};
+ghost use Rattle.meaning.specs.Bytes.{part, little};
 ghost use Rattle.tape.specs.Reader.{readAt};
 
 // The place of the next record in the part of the tape that is at hand.
@@ -32,12 +31,6 @@ fn wide16(b: u8) -> u16
     b as u16
 }
 
-fn wide32(b: u8) -> u32
-    ensures { λ r. ⌜ (r ≡ b) × (r < 256) ⌝ }
-{
-    b as u32
-}
-
 fn wide64(x: u16) -> usize
     ensures { λ r. ⌜ r ≡ x ⌝ }
 {
@@ -49,17 +42,6 @@ fn get16(s: &[u8], at: usize) -> u16
     ensures { λ r. ⌜ r ≡ little (part (now (s .entry)) at 2) ⌝ }
 {
     wide16(s[at]) + 256 * wide16(s[at + 1])
-}
-
-// A tick or a position.
-pub fn get32(s: &[u8], at: usize) -> u32
-    requires { ⌜ at + 4 ≤ length (now s) ⌝ }
-    ensures { λ r. ⌜ r ≡ little (part (now (s .entry)) at 4) ⌝ }
-{
-    wide32(s[at])
-        + 256 * wide32(s[at + 1])
-        + 65536 * wide32(s[at + 2])
-        + 16777216 * wide32(s[at + 3])
 }
 
 impl Cursor {

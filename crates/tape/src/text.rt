@@ -96,14 +96,8 @@ fn copy(s: &[u8], room: &mut [u8], at: usize) -> usize
     requires { ⌜ at + length (now s) ≤ length (now room) ⌝ }
     ensures { λ r. ⌜ Printed (now (s .entry)) (now (room .entry)) at r (now (room .exit)) ⌝ }
 {
-    let mut i = 0;
-    let mut to = at;
-    while i < s.len() {
-        room[to] = s[i];
-        i += 1;
-        to += 1;
-    }
-    to
+    frame::fill(s, &mut room[at..]);
+    at + s.len()
 }
 
 pub fn first_line(room: &mut [u8], at: usize) -> usize

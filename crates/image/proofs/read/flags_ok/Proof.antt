@@ -7,19 +7,19 @@ use Rattle.image.proofs.read.flags_ok.Statement.{statement}
 use Rattle.image.proofs.read.flags_ok.Tie as tie
 use Rattle.image.proofs.read.flags_ok.Reads as reads
 use Rattle.image.proofs.read.flags_ok.Lts as lts
-use Rattle.image.proofs.read.low_first.Reads as low-first-reads
+use Rattle.frame.proofs.number_at.Reads as number-at-reads
 
 -- src/read.rt:47:8
-low-first-requires : tie.Need-low-first-requires
-low-first-requires c κs = search needs
+number-at-requires : tie.Need-number-at-requires
+number-at-requires c κs = search needs
 
 -- src/read.rt:48:9
 returns : tie.Need-returns
-returns c = sym (flags-bad _ _ _ _ (search needs) (search needs) (search needs) (search needs) (λ z. c .if1 .taken (ap (λ (x : ℕ). bitAnd x 0xFEFEFEFE) (c .before .low-first .ensures) ∙ z)))
+returns c = sym (flags-bad _ (λ i. (c .before .before .shared-slice-known .given i) .fits) (λ z. c .if1 .taken (ap (λ (x : ℕ). bitAnd x 0xFEFEFEFE) (c .before .number-at .ensures) ∙ z)))
 
 -- src/read.rt:44:1
 returns-2 : tie.Need-returns-2
-returns-2 c = sym (flags-fine _ _ _ _ (search needs) (search needs) (search needs) (search needs) (ap (λ (x : ℕ). bitAnd x 0xFEFEFEFE) (sym (c .before .low-first .ensures)) ∙ c .if1 .left))
+returns-2 c = sym (flags-fine _ (λ i. (c .before .before .shared-slice-known .given i) .fits) (ap (λ (x : ℕ). bitAnd x 0xFEFEFEFE) (sym (c .before .number-at .ensures)) ∙ c .if1 .left))
 
 pub flags-ok-spec : {M : Type 1} → statement M
-flags-ok-spec = tie.close (tie.spec low-first-requires returns returns-2)
+flags-ok-spec = tie.close (tie.spec number-at-requires returns returns-2)

@@ -13,22 +13,6 @@ returns : tie.Need-returns
 unfolding isImage
 returns c = simp (ne-eqb _ _ (c .if1 .taken))
 
--- src/read.rt:69:18
-shared-slice-read-flags-ok : tie.Need-shared-slice-read-flags-ok
-shared-slice-read-flags-ok c = search needs
-
--- src/read.rt:69:33
-shared-slice-read-flags-ok-2 : tie.Need-shared-slice-read-flags-ok-2
-shared-slice-read-flags-ok-2 c = search needs
-
--- src/read.rt:69:47
-shared-slice-read-flags-ok-3 : tie.Need-shared-slice-read-flags-ok-3
-shared-slice-read-flags-ok-3 c = search needs
-
--- src/read.rt:69:62
-shared-slice-read-flags-ok-4 : tie.Need-shared-slice-read-flags-ok-4
-shared-slice-read-flags-ok-4 c = search needs
-
 -- src/read.rt:69:9
 flags-ok-requires : tie.Need-flags-ok-requires
 flags-ok-requires c κs = search needs
@@ -36,7 +20,7 @@ flags-ok-requires c κs = search needs
 -- src/read.rt:70:9
 returns-2 : tie.Need-returns-2
 unfolding isImage
-returns-2 c = simp (eq-eqb _ _ (c .before .before .before .before .before .before .if1 .left), sym (c .before .flags-ok .ensures) ∙ not-true _ (c .if2 .taken))
+returns-2 c = simp (eq-eqb _ _ (c .before .before .if1 .left), sym (c .before .flags-ok .ensures) ∙ not-true _ (c .if2 .taken))
 
 -- src/read.rt:72:14
 shared-slice-read-if3 : tie.Need-shared-slice-read-if3
@@ -45,22 +29,18 @@ shared-slice-read-if3 c = search needs
 -- src/read.rt:73:9
 returns-3 : tie.Need-returns-3
 unfolding isImage
-returns-3 c = simp (eq-eqb _ _ (c .before .before .before .before .before .before .before .before .if1 .left), sym (c .before .before .before .flags-ok .ensures) ∙ not-false _ (c .before .before .if2 .left), lt-leb _ _ (c .if3 .taken))
+returns-3 c = simp (eq-eqb _ _ (c .before .before .before .before .if1 .left), sym (c .before .before .before .flags-ok .ensures) ∙ not-false _ (c .before .before .if2 .left), lt-leb _ _ (c .if3 .taken))
 
 -- src/read.rt:63:1
 returns-4 : tie.Need-returns-4
 unfolding isImage
-returns-4 c = simp (eq-eqb _ _ (c .before .before .before .before .before .before .before .before .if1 .left), sym (c .before .before .before .flags-ok .ensures) ∙ not-false _ (c .before .before .if2 .left), le-leb _ _ (c .if3 .left))
+returns-4 c = simp (eq-eqb _ _ (c .before .before .before .before .if1 .left), sym (c .before .before .before .flags-ok .ensures) ∙ not-false _ (c .before .before .if2 .left), le-leb _ _ (c .if3 .left))
 
 pub is-image-spec : {M : Type 1} → statement M
 is-image-spec =
     tie.close
     (tie.spec
     returns
-    shared-slice-read-flags-ok
-    shared-slice-read-flags-ok-2
-    shared-slice-read-flags-ok-3
-    shared-slice-read-flags-ok-4
     flags-ok-requires
     returns-2
     shared-slice-read-if3

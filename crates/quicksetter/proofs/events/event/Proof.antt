@@ -18,105 +18,85 @@ use Rattle.image.proofs.frame_in.Reads as frame-in-reads
 use Rattle.image.proofs.is_image.Reads as is-image-reads
 use Rattle.image.proofs.state_in.Reads as state-in-reads
 use Rattle.quicksetter.proofs.answer.finish.Reads as finish-reads
+use Rattle.quicksetter.proofs.given.plate_from.Reads as plate-from-reads
 
 fine : (c : tie.Else1) → isImage (now (c .before .before .before .before .before .before .args .image)) ≡ true
 fine c = sym (c .before .is-image .ensures) ∙ not-false _ (c .if1 .left)
 
--- src/events.rt:81:9
 is-image-requires : tie.Need-is-image-requires
 is-image-requires c κs = search needs
 
--- src/events.rt:82:16
 add-result : tie.Need-add-result
 add-result c = search needs
 
--- src/events.rt:82:9
 same-length : tie.Need-same-length
 same-length c = search needs
 
--- src/events.rt:82:9
 returns : tie.Need-returns
 returns c = no-image _ _ _ _ _ (sym (c .before .is-image .ensures) ∙ not-true _ (c .if1 .taken))
 
--- src/events.rt:91:9
+plate-from-requires : tie.Need-plate-from-requires
+plate-from-requires c κs = search needs
+
 state-in-requires : tie.Need-state-in-requires
-state-in-requires c κs = omega (arith, good _ (fine (c .before)) .all)
+state-in-requires c κs = omega (arith, good _ (fine (c .before .before)) .all)
 
--- src/events.rt:92:9
 frame-in-requires : tie.Need-frame-in-requires
-frame-in-requires c κs = omega (arith, good _ (fine (c .before .before .before)) .all)
+frame-in-requires c κs = omega (arith, good _ (fine (c .before .before .before .before)) .all)
 
--- src/events.rt:95:55
 sub-poll : tie.Need-sub-poll
 sub-poll c = search needs
 
--- src/events.rt:95:55
 part-poll-start : tie.Need-part-poll-start
 part-poll-start c = search needs
 
--- src/events.rt:95:55
 part-poll-end : tie.Need-part-poll-end
-part-poll-end c = omega (arith, good _ (fine (c .before .before .before .before .before)) .all)
+part-poll-end c = omega (arith, good _ (fine (c .before .before .before .before .before .before)) .all)
 
--- src/events.rt:95:13
 poll-requires : tie.Need-poll-requires
 poll-requires c κs = search needs
 
--- src/events.rt:96:9
 finish-requires : tie.Need-finish-requires
-finish-requires c κs = same-len-mid 30 135 (now (c .before .before .before .before .before .before .before .before .before .before .before .before .before .before .before .before .before .before .before .before .before .before .args .image)) (c .before .before .before .before .before .before .before .poll .last .1 .1 .1 .0) (c .before .before .before .before .before .before .before .poll .kept .1 .1 .1 .0) ∙ (good _ (fine (c .before .before .before .before .before .before .before .before .before .before .before .before .before .before .before .before))) .all
+finish-requires c κs = same-len-mid 30 135 (now (c .before .before .before .before .before .before .before .before .before .before .before .before .before .before .before .before .before .before .before .before .before .before .before .args .image)) (c .before .before .before .before .before .before .before .poll .last .1 .1 .1 .0) (c .before .before .before .before .before .before .before .poll .kept .1 .1 .1 .0) ∙ (good _ (fine (c .before .before .before .before .before .before .before .before .before .before .before .before .before .before .before .before .before))) .all
 
--- src/events.rt:96:9
 same-length-2 : tie.Need-same-length-2
 same-length-2 c = search needs
 
--- src/events.rt:96:9
 same-length-3 : tie.Need-same-length-3
 same-length-3 c = search needs
 
--- src/events.rt:96:9
 same-length-4 : tie.Need-same-length-4
 same-length-4 c = search needs
 
--- src/events.rt:96:9
 returns-2 : tie.Need-returns-2
-returns-2 c = polled _ _ _ _ _ _ (c .before .before .before .before .before .before .before .before .before .before .before .before .before .before .if2 .taken) (finished _ (now (c .before .before .before .before .before .before .before .before .before .before .before .before .before .before .before .before .before .before .before .before .before .before .before .before .before .args .image)) _ _ _ (fine (c .before .before .before .before .before .before .before .before .before .before .before .before .before .before .before .before .before .before .before)) _ (c .before .before .before .before .before .before .before .before .before .before .before .before .before .before .before .before .before .state-in .ensures) (c .before .before .before .before .before .before .before .before .before .before .before .before .before .before .before .frame-in .ensures) (c .before .before .before .before .before .before .before .before .before .before .poll .ensures) refl (c .before .before .finish .ensures))
+returns-2 c = polled _ _ _ _ _ _ (c .before .before .before .before .before .before .before .before .before .before .before .before .before .before .if2 .taken) (finished _ (now (c .before .before .before .before .before .before .before .before .before .before .before .before .before .before .before .before .before .before .before .before .before .before .before .before .before .before .args .image)) _ _ _ (fine (c .before .before .before .before .before .before .before .before .before .before .before .before .before .before .before .before .before .before .before .before)) _ (c .before .before .before .before .before .before .before .before .before .before .before .before .before .before .before .before .before .state-in .ensures) (c .before .before .before .before .before .before .before .before .before .before .before .before .before .before .before .frame-in .ensures) (rw (c .before .before .before .before .before .before .before .before .before .before .before .before .before .before .before .before .before .before .before .plate-from .ensures) at (c .before .before .before .before .before .before .before .before .before .before .poll .ensures)) refl (c .before .before .finish .ensures))
 
--- src/events.rt:104:9
 sub-character : tie.Need-sub-character
 sub-character c = search needs
 
--- src/events.rt:104:9
 part-character-start : tie.Need-part-character-start
 part-character-start c = search needs
 
--- src/events.rt:104:9
 part-character-end : tie.Need-part-character-end
-part-character-end c = omega (arith, good _ (fine (c .before .before .before .before .before)) .all)
+part-character-end c = omega (arith, good _ (fine (c .before .before .before .before .before .before)) .all)
 
--- src/events.rt:98:9
 character-requires : tie.Need-character-requires
 character-requires c κs = search needs
 
--- src/events.rt:108:5
 finish-requires-2 : tie.Need-finish-requires-2
-finish-requires-2 c κs = same-len-mid 30 135 (now (c .before .before .before .before .before .before .before .before .before .before .before .before .before .before .before .before .before .before .before .before .before .before .args .image)) (c .before .before .before .before .before .before .before .character .last .1 .1 .1 .1 .1 .0) (c .before .before .before .before .before .before .before .character .kept .1 .1 .1 .1 .1 .0) ∙ (good _ (fine (c .before .before .before .before .before .before .before .before .before .before .before .before .before .before .before .before))) .all
+finish-requires-2 c κs = same-len-mid 30 135 (now (c .before .before .before .before .before .before .before .before .before .before .before .before .before .before .before .before .before .before .before .before .before .before .before .args .image)) (c .before .before .before .before .before .before .before .character .last .1 .1 .1 .1 .1 .0) (c .before .before .before .before .before .before .before .character .kept .1 .1 .1 .1 .1 .0) ∙ (good _ (fine (c .before .before .before .before .before .before .before .before .before .before .before .before .before .before .before .before .before))) .all
 
--- src/events.rt:66:1
 same-length-5 : tie.Need-same-length-5
 same-length-5 c = search needs
 
--- src/events.rt:66:1
 same-length-6 : tie.Need-same-length-6
 same-length-6 c = search needs
 
--- src/events.rt:66:1
 same-length-7 : tie.Need-same-length-7
 same-length-7 c = search needs
 
--- src/events.rt:66:1
 returns-3 : tie.Need-returns-3
-returns-3 c = stepped _ _ _ _ _ _ (c .before .before .before .before .before .before .before .before .before .before .before .before .before .before .if2 .left) (finished _ (now (c .before .before .before .before .before .before .before .before .before .before .before .before .before .before .before .before .before .before .before .before .before .before .before .before .before .args .image)) _ _ _ (fine (c .before .before .before .before .before .before .before .before .before .before .before .before .before .before .before .before .before .before .before)) _ (c .before .before .before .before .before .before .before .before .before .before .before .before .before .before .before .before .before .state-in .ensures) (c .before .before .before .before .before .before .before .before .before .before .before .before .before .before .before .frame-in .ensures) (c .before .before .before .before .before .before .before .before .before .before .character .ensures) refl (c .before .before .finish2 .ensures))
+returns-3 c = stepped _ _ _ _ _ _ (c .before .before .before .before .before .before .before .before .before .before .before .before .before .before .if2 .left) (finished _ (now (c .before .before .before .before .before .before .before .before .before .before .before .before .before .before .before .before .before .before .before .before .before .before .before .before .before .before .args .image)) _ _ _ (fine (c .before .before .before .before .before .before .before .before .before .before .before .before .before .before .before .before .before .before .before .before)) _ (c .before .before .before .before .before .before .before .before .before .before .before .before .before .before .before .before .before .state-in .ensures) (c .before .before .before .before .before .before .before .before .before .before .before .before .before .before .before .frame-in .ensures) (rw (c .before .before .before .before .before .before .before .before .before .before .before .before .before .before .before .before .before .before .before .plate-from .ensures) at (c .before .before .before .before .before .before .before .before .before .before .character .ensures)) refl (c .before .before .finish2 .ensures))
 
 pub event-spec : {M : Type 1} → statement M
 event-spec =
@@ -126,6 +106,7 @@ event-spec =
     add-result
     same-length
     returns
+    plate-from-requires
     state-in-requires
     frame-in-requires
     sub-poll

@@ -14,75 +14,63 @@ use Rattle.quicksetter.proofs.events.is_calm.Reads as reads
 use Rattle.quicksetter.proofs.events.is_calm.Lts as lts
 use Rattle.commands.proofs.size.Reads as size-reads
 use Rattle.image.proofs.is_image.Reads as is-image-reads
-use Rattle.image.proofs.number_at.Reads as number-at-reads
+use Rattle.frame.proofs.number_at.Reads as number-at-reads
 use Rattle.line.proofs.plate.Plate.is_ok.Reads as is-ok-reads
+use Rattle.quicksetter.proofs.given.plate_from.Reads as plate-from-reads
 
-fine : (c : tie.Else1) → isImage (now (c .before .before .before .args .image)) ≡ true
+fine : (c : tie.Else1) → isImage (now (c .before .before .before .before .before .args .image)) ≡ true
 fine c = sym (c .before .is-image .ensures) ∙ not-false _ (c .if1 .left)
 
--- src/events.rt:37:9
 is-image-requires : tie.Need-is-image-requires
 is-image-requires c κs = search needs
 
--- src/events.rt:38:9
 returns : tie.Need-returns
 returns c = no-claim
 
--- src/events.rt:40:8
 number-at-requires : tie.Need-number-at-requires
 number-at-requires c κs = omega (arith, good _ (fine c) .all)
 
--- src/events.rt:41:9
 returns-2 : tie.Need-returns-2
 returns-2 c = no-claim
 
--- src/events.rt:43:19
 number-at-requires-2 : tie.Need-number-at-requires-2
 number-at-requires-2 c κs = omega (arith, good _ (fine (c .before .before)) .all)
 
--- src/events.rt:44:9
 returns-3 : tie.Need-returns-3
 returns-3 c = no-claim
 
--- src/events.rt:53:9
+plate-from-requires : tie.Need-plate-from-requires
+plate-from-requires c κs = search needs
+
 is-ok-requires : tie.Need-is-ok-requires
 is-ok-requires c κs = search needs
 
--- src/events.rt:54:9
 returns-4 : tie.Need-returns-4
 returns-4 c = no-claim
 
--- src/events.rt:56:8
 size-requires : tie.Need-size-requires
-size-requires c κs = few-bits _ (sym (c .before .is-ok .ensures) ∙ not-false _ (c .if4 .left))
+size-requires c κs = few-bits _ (sym (rw (c .before .before .plate-from .ensures) at (c .before .is-ok .ensures)) ∙ not-false _ (c .if4 .left))
 
--- src/events.rt:56:32
 number-at-requires-3 : tie.Need-number-at-requires-3
-number-at-requires-3 c κs = omega (arith, good _ (fine (c .before .before .before .before .before .before .before)) .all)
+number-at-requires-3 c κs = omega (arith, good _ (fine (c .before .before .before .before .before .before .before .before)) .all)
 
--- src/events.rt:56:32
 cast-if5 : tie.Need-cast-if5
 cast-if5 c = search needs
 
--- src/events.rt:57:9
 returns-5 : tie.Need-returns-5
 returns-5 c = no-claim
 
--- src/events.rt:59:25
 mul-if6 : tie.Need-mul-if6
 mul-if6 c = search needs
 
--- src/events.rt:59:25
 add-if6 : tie.Need-add-if6
 add-if6 c = search needs
 
--- src/events.rt:60:9
 returns-6 : tie.Need-returns-6
 returns-6 c = no-claim
 
--- src/events.rt:25:1
 returns-7 : tie.Need-returns-7
-returns-7 c = λ e. unrefused _ _ _ _ (fine (c .before .before .before .before .before .before .before .before .before .before)) (sym (c .before .before .before .before .before .before .before .before .before .number-at .ensures) ∙ c .before .before .before .before .before .before .before .before .if2 .left) (rw (c .before .before .before .before .before .before .before .number-at2 .ensures) at (c .before .before .before .before .before .before .if3 .left)) (sym (c .before .before .before .before .before .is-ok .ensures) ∙ not-false _ (c .before .before .before .before .if4 .left)) (rw (c .before .before .before .size .ensures, c .before .before .number-at3 .ensures) at (c .before .if5 .left)) (c .if6 .left) (leb-true _ _ e)
+returns-7 c = λ e. unrefused _ _ _ _ (fine (c .before .before .before .before .before .before .before .before .before .before .before)) (sym (c .before .before .before .before .before .before .before .before .before .before .number-at .ensures) ∙ c .before .before .before .before .before .before .before .before .before .if2 .left) (rw (c .before .before .before .before .before .before .before .before .number-at2 .ensures) at (c .before .before .before .before .before .before .before .if3 .left)) (sym (rw (c .before .before .before .before .before .before .plate-from .ensures) at (c .before .before .before .before .before .is-ok .ensures)) ∙ not-false _ (c .before .before .before .before .if4 .left)) (rw (c .before .before .before .size .ensures, c .before .before .number-at3 .ensures) at (c .before .if5 .left)) (c .if6 .left) (leb-true _ _ e)
 
 pub is-calm-spec : {M : Type 1} → statement M
 is-calm-spec =
@@ -94,6 +82,7 @@ is-calm-spec =
     returns-2
     number-at-requires-2
     returns-3
+    plate-from-requires
     is-ok-requires
     returns-4
     size-requires

@@ -12,71 +12,61 @@ use Rattle.frame.proofs.fill.Reads as fill-reads
 use Rattle.image.proofs.put_board.Reads as put-board-reads
 use Rattle.line.proofs.characters.Frame.none.Reads as none-reads
 use Rattle.line.proofs.plate.Plate.is_ok.Reads as is-ok-reads
+use Rattle.quicksetter.proofs.given.plate_from.Reads as plate-from-reads
 
--- src/notes.rt:36:9
+plate-from-requires : tie.Need-plate-from-requires
+plate-from-requires c κs = search needs
+
 is-ok-requires : tie.Need-is-ok-requires
 is-ok-requires c κs = search needs
 
--- src/notes.rt:37:16
 add-result : tie.Need-add-result
 add-result c = search needs
 
--- src/notes.rt:37:9
 returns : tie.Need-returns
-returns c = no-plate _ _ (sym (c .before .is-ok .ensures) ∙ not-true _ (c .if1 .taken))
+returns c = no-plate _ _ (sym (rw (c .before .before .plate-from .ensures) at (c .before .is-ok .ensures)) ∙ not-true _ (c .if1 .taken))
 
--- src/notes.rt:40:16
 add-result-2 : tie.Need-add-result-2
 add-result-2 c = search needs
 
--- src/notes.rt:40:9
 returns-2 : tie.Need-returns-2
-returns-2 c = no-length _ _ (sym (c .before .before .is-ok .ensures) ∙ not-false _ (c .before .if1 .left)) (c .if2 .taken)
+returns-2 c = no-length _ _ (sym (rw (c .before .before .before .plate-from .ensures) at (c .before .before .is-ok .ensures)) ∙ not-false _ (c .before .if1 .left)) (c .if2 .taken)
 
--- src/notes.rt:43:17
 slice-aggregate-fill : tie.Need-slice-aggregate-fill
 slice-aggregate-fill c = search needs
 
--- src/notes.rt:43:26
 sub-fill : tie.Need-sub-fill
 sub-fill c = search needs
 
--- src/notes.rt:43:26
 part-fill-start : tie.Need-part-fill-start
 part-fill-start c = search needs
 
--- src/notes.rt:43:26
 part-fill-end : tie.Need-part-fill-end
 part-fill-end c = search needs
 
--- src/notes.rt:43:5
 fill-requires : tie.Need-fill-requires
 fill-requires c κs = search needs
 
--- src/notes.rt:44:22
 fresh-requires : tie.Need-fresh-requires
 fresh-requires c κs = search needs
 
--- src/notes.rt:44:38
 none-requires : tie.Need-none-requires
 none-requires c κs = search needs
 
--- src/notes.rt:44:5
 put-board-requires : tie.Need-put-board-requires
 put-board-requires c κs = search needs
 
--- src/notes.rt:18:1
 same-length : tie.Need-same-length
 same-length c = search needs
 
--- src/notes.rt:18:1
 returns-3 : tie.Need-returns-3
-returns-3 c = freshened _ (now (c .before .before .before .before .before .before .before .before .before .before .before .before .before .before .before .args .image)) (sym (c .before .before .before .before .before .before .before .before .before .before .before .before .before .is-ok .ensures) ∙ not-false _ (c .before .before .before .before .before .before .before .before .before .before .before .before .if1 .left)) (c .before .before .before .before .before .before .before .before .before .before .before .if2 .left) (c .before .before .before .before .before .before .before .before .fill .ensures) (c .before .before .before .before .before .fresh .ensures) (c .before .before .before .before .none .ensures) (c .before .before .put-board .ensures)
+returns-3 c = freshened _ (now (c .before .before .before .before .before .before .before .before .before .before .before .before .before .before .before .before .args .image)) (sym (rw (c .before .before .before .before .before .before .before .before .before .before .before .before .before .before .plate-from .ensures) at (c .before .before .before .before .before .before .before .before .before .before .before .before .before .is-ok .ensures)) ∙ not-false _ (c .before .before .before .before .before .before .before .before .before .before .before .before .if1 .left)) (c .before .before .before .before .before .before .before .before .before .before .before .if2 .left) (c .before .before .before .before .before .before .before .before .fill .ensures) (c .before .before .before .before .before .fresh .ensures) (c .before .before .before .before .none .ensures) (c .before .before .put-board .ensures)
 
 pub qs-fresh-spec : {M : Type 1} → statement M
 qs-fresh-spec =
     tie.close
     (tie.spec
+    plate-from-requires
     is-ok-requires
     add-result
     returns

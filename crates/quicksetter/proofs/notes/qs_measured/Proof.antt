@@ -16,49 +16,43 @@ use Rattle.image.proofs.frame_in.Reads as frame-in-reads
 use Rattle.image.proofs.is_image.Reads as is-image-reads
 use Rattle.image.proofs.state_in.Reads as state-in-reads
 use Rattle.quicksetter.proofs.answer.finish.Reads as finish-reads
+use Rattle.quicksetter.proofs.given.plate_from.Reads as plate-from-reads
 
 fine : (c : tie.Else1) → isImage (now (c .before .before .before .before .args .image)) ≡ true
 fine c = sym (c .before .is-image .ensures) ∙ not-false _ (c .if1 .left)
 
--- src/notes.rt:60:9
 is-image-requires : tie.Need-is-image-requires
 is-image-requires c κs = search needs
 
--- src/notes.rt:61:16
 add-result : tie.Need-add-result
 add-result c = search needs
 
--- src/notes.rt:61:9
 same-length : tie.Need-same-length
 same-length c = search needs
 
--- src/notes.rt:61:9
 returns : tie.Need-returns
 returns c = λ m w. no-image _ _ m w _ (sym (c .before .is-image .ensures) ∙ not-true _ (c .if1 .taken))
 
--- src/notes.rt:70:9
+plate-from-requires : tie.Need-plate-from-requires
+plate-from-requires c κs = search needs
+
 state-in-requires : tie.Need-state-in-requires
-state-in-requires c κs = omega (arith, good _ (fine (c .before)) .all)
+state-in-requires c κs = omega (arith, good _ (fine (c .before .before)) .all)
 
--- src/notes.rt:71:9
 frame-in-requires : tie.Need-frame-in-requires
-frame-in-requires c κs = omega (arith, good _ (fine (c .before .before .before)) .all)
+frame-in-requires c κs = omega (arith, good _ (fine (c .before .before .before .before)) .all)
 
--- src/notes.rt:73:12
 measured-requires : tie.Need-measured-requires
 measured-requires c κs = search needs
 
--- src/notes.rt:73:5
 finish-requires : tie.Need-finish-requires
-finish-requires c κs = good _ (fine (c .before .before .before .before .before .before)) .all
+finish-requires c κs = good _ (fine (c .before .before .before .before .before .before .before)) .all
 
--- src/notes.rt:48:1
 same-length-2 : tie.Need-same-length-2
 same-length-2 c = search needs
 
--- src/notes.rt:48:1
 returns-2 : tie.Need-returns-2
-returns-2 c = λ m w. finished-here _ (now (c .before .before .before .before .before .before .before .before .before .before .before .before .before .args .image)) m w _ (fine (c .before .before .before .before .before .before .before .before .before)) (c .before .before .before .before .before .before .before .state-in .ensures) (c .before .before .before .before .before .frame-in .ensures) (c .before .before .before .before .measured .ensures) (c .before .before .finish .ensures)
+returns-2 c = λ m w. finished-here _ (now (c .before .before .before .before .before .before .before .before .before .before .before .before .before .before .args .image)) m w _ (fine (c .before .before .before .before .before .before .before .before .before .before)) (c .before .before .before .before .before .before .before .state-in .ensures) (c .before .before .before .before .before .frame-in .ensures) (rw (c .before .before .before .before .before .before .before .before .before .plate-from .ensures) at (c .before .before .before .before .measured .ensures)) (c .before .before .finish .ensures)
 
 pub qs-measured-spec : {M : Type 1} → statement M
 qs-measured-spec =
@@ -68,6 +62,7 @@ qs-measured-spec =
     add-result
     same-length
     returns
+    plate-from-requires
     state-in-requires
     frame-in-requires
     measured-requires

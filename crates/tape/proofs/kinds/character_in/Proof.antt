@@ -6,13 +6,13 @@ use Rattle.tape.proofs.kinds.character_in.Statement.{statement}
 use Rattle.tape.proofs.kinds.character_in.Tie as tie
 use Rattle.tape.proofs.kinds.character_in.Reads as reads
 use Rattle.tape.proofs.kinds.character_in.Lts as lts
-use Rattle.tape.proofs.record.get32.Reads as get32-reads
+use Rattle.frame.proofs.number_at.Reads as number-at-reads
 
 returns : tie.Need-returns
 returns c = sym (unfitted _ _ _ (c .before .before .pre) 6 _ (c .if1 .taken))
 
-get32-requires : tie.Need-get32-requires
-get32-requires c κs = search needs
+number-at-requires : tie.Need-number-at-requires
+number-at-requires c κs = search needs
 
 add-value : tie.Need-add-value
 add-value c = search needs
@@ -30,14 +30,14 @@ returns-2 : tie.Need-returns-2
 returns-2 c = character-unfit _ _ _ (c .before .before .before .before .before .before .pre) (c .before .before .before .before .if1 .left) (c .if2 .taken)
 
 returns-3 : tie.Need-returns-3
-returns-3 c = character-said _ _ _ (c .before .before .before .before .before .before .pre) _ (c .before .before .before .before .if1 .left) (c .before .before .before .get32 .ensures) (c .if2 .left)
+returns-3 c = character-said _ _ _ (c .before .before .before .before .before .before .pre) _ (c .before .before .before .before .if1 .left) (c .before .before .before .number-at .ensures) (c .if2 .left)
 
 pub character-in-spec : {M : Type 1} → statement M
 character-in-spec =
     tie.close
     (tie.spec
     returns
-    get32-requires
+    number-at-requires
     add-value
     shared-slice-read-value
     add-fault

@@ -9,16 +9,16 @@ use Rattle.tape.proofs.kinds.measured_in.Statement.{statement}
 use Rattle.tape.proofs.kinds.measured_in.Tie as tie
 use Rattle.tape.proofs.kinds.measured_in.Reads as reads
 use Rattle.tape.proofs.kinds.measured_in.Lts as lts
-use Rattle.tape.proofs.record.get32.Reads as get32-reads
+use Rattle.frame.proofs.number_at.Reads as number-at-reads
 
 returns : tie.Need-returns
 returns c = sym (unfitted _ _ _ (c .before .before .pre) 4 _ (c .if1 .taken))
 
-get32-requires : tie.Need-get32-requires
-get32-requires c κs = search needs
+number-at-requires : tie.Need-number-at-requires
+number-at-requires c κs = search needs
 
 returns-2 : tie.Need-returns-2
-returns-2 c = number-said _ _ _ (c .before .before .before .pre) _ (λ (k : ℕ). call (measured k)) (c .before .if1 .left) (c .get32 .ensures)
+returns-2 c = number-said _ _ _ (c .before .before .before .pre) _ (λ (k : ℕ). call (measured k)) (c .before .if1 .left) (c .number-at .ensures)
 
 pub measured-in-spec : {M : Type 1} → statement M
-measured-in-spec = tie.close (tie.spec returns get32-requires returns-2)
+measured-in-spec = tie.close (tie.spec returns number-at-requires returns-2)

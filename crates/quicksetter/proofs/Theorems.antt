@@ -1,0 +1,62 @@
+-- The calls from C do the meaning's step, and a refused one changes nothing. Assumes nothing.
+use Prim.Native.Nat.{ℕ}
+use mathlib.Core.Path.{_≡_, refl, ap, _∙_}
+use mathlib.Core.Bool.{Bool, true, false, not}
+use mathlib.Core.List.{List}
+use lib.Dec.{T, eqb}
+use lib.ListN.{length}
+use Rattle.meaning.specs.State.{Plate}
+use Rattle.meaning.specs.Run.{Call, Held, called, refusedBy}
+use Rattle.meaning.proofs.Calls as calls
+use Rattle.image.specs.Image.{isImage, heldIn}
+use Rattle.quicksetter.specs.Calls.{calledBy, numberOf, imageAfter, Called}
+use Rattle.quicksetter.specs.Promises.{QsSteps, Untouched, RefusedUntouched, NoImageUntouched}
+
+on-image : (p : Plate) (img m w : List ℕ) (g : Call) → isImage img ≡ true → calledBy p img m w g ≡ called p (heldIn img) m w g
+unfolding calledBy
+on-image p img m w g e = rw e
+
+count-told : (h : Held) → h .refusal ≡ 0 → numberOf h ≡ h .count
+unfolding numberOf
+count-told h e = rw e
+
+pub qs-steps : QsSteps
+qs-steps p img m w g r img′ m′ w′ c e free =
+    let k = on-image p img m w g e in
+    let s = calls.served-otherwise p (heldIn img) m w g free in
+    let n : r ≡ (called p (heldIn img) m w g) .count = c .answer ∙ ap numberOf k ∙ count-told (called p (heldIn img) m w g) (s .unrefused) in
+    let q : w′ ≡ (called p (heldIn img) m w g) .room = c .room ∙ ap (λ (h : Held). h .room) k in
+    record {
+      unrefused = refl;
+      after = c .state ∙ ap (λ (h : Held). h .state) k ∙ s .after;
+      kept = c .memory ∙ ap (λ (h : Held). h .memory) k ∙ s .kept;
+      length-told = n ∙ s .length-told;
+      front = rw (n, q) (s .front);
+      rest = rw (n, q) (s .rest);
+    }
+
+-- a refusal by its number: nothing is done
+module _ (p : Plate) (img m w : List ℕ) (g : Call) {r : ℕ} {img′ m′ w′ : List ℕ} (c : Called p img m w g r img′ m′ w′) where
+  nothing-done : (n : ℕ) → eqb n 0 ≡ false → calledBy p img m w g ≡ (record { refusal = n; count = 0; state = heldIn img; memory = m; room = w })
+      → Untouched n img m w r img′ m′ w′
+  unfolding numberOf imageAfter
+  nothing-done n z k =
+      record {
+        number = c .answer ∙ rw (k, z);
+        image = c .image ∙ rw (k, z);
+        memory = c .memory ∙ ap (λ (h : Held). h .memory) k;
+        room = c .room ∙ ap (λ (h : Held). h .room) k;
+      }
+
+is-not : (b : Bool) → T (not b) → b ≡ false
+is-not true h = absurd h
+is-not false h = refl
+
+pub refused-untouched : RefusedUntouched
+refused-untouched p img m w g r img′ m′ w′ c e h =
+    let n = refusedBy p (heldIn img) m (length w) g in
+    nothing-done p img m w g c n (is-not (eqb n 0) h) (on-image p img m w g e ∙ calls.refused-untouched p (heldIn img) m w g h)
+
+pub no-image-untouched : NoImageUntouched
+unfolding calledBy
+no-image-untouched p img m w g r img′ m′ w′ c e = nothing-done p img m w g c 1 refl (rw e)

@@ -1,0 +1,46 @@
+-- No two differing outcomes satisfy the contract of a call from C (01, "How tightly the contracts bind"). Assumes nothing.
+use mathlib.Core.Path.{_≡_, sym, _∙_}
+use mathlib.Core.List.{List, []}
+use Prim.Native.Nat.{ℕ}
+use Rattle.meaning.specs.State.{Plate}
+use Rattle.meaning.specs.Run.{Call}
+use Rattle.meaning.specs.Bench as meaning
+use Rattle.frame.proofs.Tight.{same-outcome}
+use Rattle.quicksetter.specs.declared.replies.Piece.{Piece}
+use Rattle.quicksetter.specs.Calls.{Called, Freshens}
+use Rattle.quicksetter.specs.Verdicts.{Writes, verdictNumber, pieceFrom}
+
+-- what a call's outcome is made of
+pub record Alike (r t : ℕ) (img′ img″ m′ m″ w′ w″ : List ℕ) : Type 0 where
+  pub number : r ≡ t
+  pub image : img′ ≡ img″
+  pub memory : m′ ≡ m″
+  pub room : w′ ≡ w″
+
+module _ (p : Plate) (img : List ℕ) (g : Call) {r t : ℕ} {img′ img″ : List ℕ} where
+  -- a character, a poll
+  pub called-tight : (m w : List ℕ) {m′ m″ w′ w″ : List ℕ} → Called p img m w g r img′ m′ w′ → Called p img m w g t img″ m″ w″
+      → Alike r t img′ img″ m′ m″ w′ w″
+  called-tight m w x y =
+      record {
+        number = x .answer ∙ sym (y .answer);
+        image = x .image ∙ sym (y .image);
+        memory = x .memory ∙ sym (y .memory);
+        room = x .room ∙ sym (y .room);
+      }
+
+  -- a measured position, a fault code, power-on: neither memory nor room is lent
+  pub note-tight : ((m w : List ℕ) → Called p img m w g r img′ m w) → ((m w : List ℕ) → Called p img m w g t img″ m w) → (r ≡ t) × (img′ ≡ img″)
+  note-tight x y = let z = called-tight [] [] (x [] []) (y [] []) in (z .number, z .image)
+
+pub fresh-tight : (p : Plate) (img : List ℕ) {r t : ℕ} {img′ img″ : List ℕ} → Freshens p img r img′ → Freshens p img t img″ → (r ≡ t) × (img′ ≡ img″)
+fresh-tight p img x y = (x .answer ∙ sym (y .answer), x .image ∙ sym (y .image))
+
+pub request-tight : (w : meaning.Written) {r t : ℕ} {room′ room″ : List ℕ} → Writes w r room′ → Writes w t room″ → (r ≡ t) × (room′ ≡ room″)
+request-tight w x y = (x .answer ∙ sym (y .answer), x .room ∙ sym (y .room))
+
+pub judge-tight : (q a : List ℕ) (r t : ℕ) → r ≡ verdictNumber (meaning.judge q a) → t ≡ verdictNumber (meaning.judge q a) → r ≡ t
+judge-tight q a = same-outcome (verdictNumber (meaning.judge q a))
+
+pub data-part-tight : (q a : List ℕ) (r t : Piece) → r ≡ pieceFrom (meaning.handed q a) → t ≡ pieceFrom (meaning.handed q a) → r ≡ t
+data-part-tight q a = same-outcome (pieceFrom (meaning.handed q a))

@@ -1,0 +1,24 @@
+use Rattle.quicksetter.proofs.Leaving.{over-in}
+use borrow.Author.Needs.{needs}
+use Rattle.quicksetter.proofs.events.is_over.Statement.{statement}
+use Rattle.quicksetter.proofs.events.is_over.Tie as tie
+use Rattle.quicksetter.proofs.events.is_over.Reads as reads
+use Rattle.quicksetter.proofs.events.is_over.Lts as lts
+use Rattle.image.proofs.frame_in.Reads as frame-in-reads
+use Rattle.line.proofs.characters.Frame.is_over.Reads as is-over-reads
+use Rattle.quicksetter.proofs.given.plate_from.Reads as plate-from-reads
+
+plate-from-requires : tie.Need-plate-from-requires
+plate-from-requires c κs = search needs
+
+frame-in-requires : tie.Need-frame-in-requires
+frame-in-requires c κs = search needs
+
+is-over-requires : tie.Need-is-over-requires
+is-over-requires c κs = search needs
+
+returns : tie.Need-returns
+returns c = over-in _ _ _ (c .before .frame-in .ensures) (rw (c .before .before .plate-from .ensures) at (c .is-over .ensures))
+
+pub is-over-spec : {M : Type 1} → statement M
+is-over-spec = tie.close (tie.spec plate-from-requires frame-in-requires is-over-requires returns)

@@ -1,0 +1,36 @@
+-- What the calls from C promise: each does the meaning's step on the state that the image holds, and a refused one changes nothing. Assumes nothing.
+use Prim.Native.Nat.{ℕ, _+_}
+use mathlib.Core.Path.{_≡_}
+use mathlib.Core.Bool.{true, false, not}
+use mathlib.Core.List.{List}
+use lib.Dec.{T, eqb}
+use lib.ListN.{length}
+use Rattle.meaning.specs.State.{Plate}
+use Rattle.meaning.specs.Run.{Call, refusedBy}
+use Rattle.meaning.specs.Demands.{Served}
+use Rattle.image.specs.Image.{isImage, heldIn}
+use Rattle.quicksetter.specs.Calls.{Called}
+
+-- 01, "Characters become frames", "Faults": where nothing is refused, any of the five calls does the meaning's step on the state that the image holds: the number is the
+-- reply's length, the image then holds the step's state, the memory is the step's, the reply fills the front of the room and the rest is what it was
+abbrev pub QsSteps : Type 0
+QsSteps = (p : Plate) (img m w : List ℕ) (g : Call) (r : ℕ) (img′ m′ w′ : List ℕ) → Called p img m w g r img′ m′ w′
+    → isImage img ≡ true → T (eqb (refusedBy p (heldIn img) m (length w) g) 0)
+    → Served p (heldIn img) m w g (record { refusal = 0; count = r; state = heldIn img′; memory = m′; room = w′ })
+
+-- 256 + n comes back; image, memory and room are what they were
+pub record Untouched (n : ℕ) (img m w : List ℕ) (r : ℕ) (img′ m′ w′ : List ℕ) : Type 0 where
+  pub number : r ≡ 256 + n
+  pub image : img′ ≡ img
+  pub memory : m′ ≡ m
+  pub room : w′ ≡ w
+
+-- 01, "Named refusals": a refused call touches nothing and tells its number
+abbrev pub RefusedUntouched : Type 0
+RefusedUntouched = (p : Plate) (img m w : List ℕ) (g : Call) (r : ℕ) (img′ m′ w′ : List ℕ) → Called p img m w g r img′ m′ w′
+    → isImage img ≡ true → T (not (eqb (refusedBy p (heldIn img) m (length w) g) 0)) → Untouched (refusedBy p (heldIn img) m (length w) g) img m w r img′ m′ w′
+
+-- 01, R1: what is no image, an impossible state
+abbrev pub NoImageUntouched : Type 0
+NoImageUntouched = (p : Plate) (img m w : List ℕ) (g : Call) (r : ℕ) (img′ m′ w′ : List ℕ) → Called p img m w g r img′ m′ w′
+    → isImage img ≡ false → Untouched 1 img m w r img′ m′ w′
