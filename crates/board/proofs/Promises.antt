@@ -29,15 +29,9 @@ use Rattle.board.specs.Board.{stateOf, fitsIn, refusalOn, calledOn, outc
 use Rattle.board.specs.declared.closing.Closed.{Closed}
 use Rattle.board.specs.Work.{Closes}
 use Rattle.board.specs.Promises.{DoesStep, Within, Reached, start, next}
+use Rattle.meaning.proofs.Choices.{told-true, true-told, pick-same}
 use Rattle.board.proofs.Bounding.{lends-poll}
 use Rattle.board.proofs.Stepping.{held-on}
-
-holds : (b : Bool) → T b → b ≡ true
-holds true h = refl
-holds false h = absurd h
-
-held : (b : Bool) → b ≡ true → T b
-held b e = rw e tt
 
 -- where nothing is refused, the call does the meaning's step
 module _ (p : Plate) (b : Board) (k m w : List ℕ) {r : Stepped} {k′ m′ w′ : List ℕ} where
@@ -69,11 +63,7 @@ pub unrefused : (p : Plate) (b : Board) (k m : List ℕ) (n : ℕ) (g : Call) �
 unfolding refusalOn refusedBy fitsIn
 unrefused p b k m n g h wide =
     rw (le-leb (b .frame .len) 135 (h .few), eq-eqb (length k) 135 (h .places), h .plate, h .state, eq-eqb (length m) (imageLength (p .total)) (h .size), le-ltb n 134 wide)
-    (either-way (lends g))
-  where
-    either-way : (t : Bool) → _≡_ {A = ℕ} (pick t 0 0) 0
-    either-way true = refl
-    either-way false = refl
+    (pick-same (lends g) 0)
 
 -- and an unrefused call stays within
 pub stays-within : (p : Plate) (b : Board) (k m w : List ℕ) (g : Call) {r : Stepped} {k′ m′ w′ : List ℕ} → Within p b k m → 134 ≤ length w
@@ -88,7 +78,7 @@ stays-within p b k m w g {r} {k′} h wide s =
     let low : length (ln .kept) ≤ 135 = rw (← same) (omega (arith, length-take (r .board .frame .len) k′, s .few q)) in
     record {
       plate = h .plate;
-      state = rw (d .state) (holds (stateOk p ((step p (stateOf b k) m g) .state)) (keeps-limits p (stateOf b k) m g (held (stateOk p (stateOf b k)) (h .state))));
+      state = rw (d .state) (told-true (stateOk p ((step p (stateOf b k) m g) .state)) (keeps-limits p (stateOf b k) m g (true-told (stateOk p (stateOf b k)) (h .state))));
       few = s .few q;
       places = rw kk (length-put k 0 (ln .kept) (omega (arith, h .places)) ∙ h .places);
       size = rw (d .memory) (keeps-size p (stateOf b k) m g (h .size));
@@ -97,7 +87,7 @@ stays-within p b k m w g {r} {k′} h wide s =
 -- so a host that only calls, from fresh, never meets a refusal
 pub reached-within : (p : Plate) {b : Board} {k m : List ℕ} → Reached p b k m → Within p b k m
 reached-within p (start b k m i j l n e) =
-    record { plate = i; state = rw e (holds (stateOk p (fresh p)) (fresh-within p)); few = n; places = j; size = l }
+    record { plate = i; state = rw e (told-true (stateOk p (fresh p)) (fresh-within p)); few = n; places = j; size = l }
 reached-within p (next b k m w g r k′ m′ w′ h wide s) = stays-within p b k m w g (reached-within p h) wide s
 
 pub never-refused : (p : Plate) (b : Board) (k m : List ℕ) (n : ℕ) (g : Call) → Reached p b k m → 134 ≤ n → refusalOn p b k m n g ≡ 0

@@ -9,6 +9,18 @@ pub pick-true {ℓ} : {A : Type ℓ} (b : Bool) (x y : A) → T b → pick b x y
 pick-true true x y h = refl
 pick-true false x y h = absurd h
 
+pub told-true : (b : Bool) → T b → b ≡ true
+told-true true h = refl
+told-true false h = absurd h
+
+pub true-told : (b : Bool) → b ≡ true → T b
+true-told b e = rw e tt
+
+-- a choice between one thing twice
+pub pick-same {ℓ} : {A : Type ℓ} (b : Bool) (x : A) → pick b x x ≡ x
+pick-same true x = refl
+pick-same false x = refl
+
 pub both-intro : (a b : Bool) → T a → T b → T (both a b)
 both-intro true b x y = y
 both-intro false b x y = x

@@ -11,6 +11,7 @@ use Rattle.meaning.specs.Bytes.{pick, arg}
 use Rattle.meaning.specs.State.{Plate, plateOk, stateOk, apart}
 use Rattle.meaning.specs.Fields.{imageLength}
 use Rattle.meaning.specs.Run.{Call, lends, refusedBy}
+use Rattle.meaning.proofs.Choices.{pick-same}
 use Rattle.frame.proofs.Numbers.{low-first, little-at}
 use Rattle.commands.specs.Queue.{waiting, queueOf}
 use Rattle.image.specs.Image.{numberAt, isImage, stateIn, frameIn, keptIn, heldIn}
@@ -28,10 +29,6 @@ empty-queue img e =
     let c : arg img 18 ≡ 0 = omega arith in
     let d : arg img 19 ≡ 0 = omega arith in
     rw (d, c, b, a)
-
-either-way : (t : Bool) → _≡_ {A = ℕ} (pick t 0 0) 0
-either-way true = refl
-either-way false = refl
 
 -- no : where the test says no, nothing is claimed
 pub no-claim : {p : Plate} {img : List ℕ} {memory room : ℕ} → false ≡ true → Unrefused p img memory room
@@ -52,5 +49,5 @@ module _ (p : Plate) (img : List ℕ) (memory room : ℕ) (e : isImage img ≡ t
         image = e;
         within = λ m g l.
             let z : eqb (length m) (imageLength (p .total)) ≡ true = eq-eqb _ _ (l ∙ size) in
-            rw (ok, within-limits, z, le-ltb room 134 wide) (either-way (lends g));
+            rw (ok, within-limits, z, le-ltb room 134 wide) (pick-same (lends g) 0);
       }

@@ -6,3 +6,4 @@ mod Freshening
 mod Judging
 pub mod Tight
 pub mod Theorems
+pub mod Staying

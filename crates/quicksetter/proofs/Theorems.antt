@@ -12,7 +12,7 @@ use Rattle.image.specs.Image.{isImage, heldIn}
 use Rattle.quicksetter.specs.Calls.{calledBy, numberOf, imageAfter, Called}
 use Rattle.quicksetter.specs.Promises.{QsSteps, Untouched, RefusedUntouched, NoImageUntouched}
 
-on-image : (p : Plate) (img m w : List ℕ) (g : Call) → isImage img ≡ true → calledBy p img m w g ≡ called p (heldIn img) m w g
+pub on-image : (p : Plate) (img m w : List ℕ) (g : Call) → isImage img ≡ true → calledBy p img m w g ≡ called p (heldIn img) m w g
 unfolding calledBy
 on-image p img m w g e = rw e
 

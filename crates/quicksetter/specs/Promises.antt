@@ -1,15 +1,16 @@
 -- What the calls from C promise: each does the meaning's step on the state that the image holds, and a refused one changes nothing. Assumes nothing.
-use Prim.Native.Nat.{ℕ, _+_}
+use Prim.Native.Nat.{ℕ, _+_, _≤_}
 use mathlib.Core.Path.{_≡_}
 use mathlib.Core.Bool.{true, false, not}
 use mathlib.Core.List.{List}
 use lib.Dec.{T, eqb}
 use lib.ListN.{length}
 use Rattle.meaning.specs.State.{Plate}
+use Rattle.meaning.specs.Fields.{imageLength}
 use Rattle.meaning.specs.Run.{Call, refusedBy}
 use Rattle.meaning.specs.Demands.{Served}
 use Rattle.image.specs.Image.{isImage, heldIn}
-use Rattle.quicksetter.specs.Calls.{Called}
+use Rattle.quicksetter.specs.Calls.{Called, Freshens}
 
 -- 01, "Characters become frames", "Faults": where nothing is refused, any of the five calls does the meaning's step on the state that the image holds: the number is the
 -- reply's length, the image then holds the step's state, the memory is the step's, the reply fills the front of the room and the rest is what it was
@@ -34,3 +35,12 @@ RefusedUntouched = (p : Plate) (img m w : List ℕ) (g : Call) (r : ℕ) (img′
 abbrev pub NoImageUntouched : Type 0
 NoImageUntouched = (p : Plate) (img m w : List ℕ) (g : Call) (r : ℕ) (img′ m′ w′ : List ℕ) → Called p img m w g r img′ m′ w′
     → isImage img ≡ false → Untouched 1 img m w r img′ m′ w′
+
+-- Demand 1: what a host holds that starts with a fresh image and a memory of the right size, and then only calls, with room enough
+pub data Reached (p : Plate) : List ℕ → List ℕ → Type 0 where
+  start : (old img m : List ℕ) → Freshens p old 0 img → length m ≡ imageLength (p .total) → Reached p img m
+  next : (img m w : List ℕ) (g : Call) (r : ℕ) (img′ m′ w′ : List ℕ) → Reached p img m → 134 ≤ length w → Called p img m w g r img′ m′ w′ → Reached p img′ m′
+
+-- Demand 1: no such call is ever refused: what comes back is the length of a reply
+abbrev pub NeverRefused : Type 0
+NeverRefused = (p : Plate) (img m w : List ℕ) (g : Call) (r : ℕ) (img′ m′ w′ : List ℕ) → Reached p img m → 134 ≤ length w → Called p img m w g r img′ m′ w′ → r ≤ 134
