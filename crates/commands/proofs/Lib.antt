@@ -1,6 +1,6 @@
 -- What the proofs of several functions use, and the laws that callers cite.
 mod Places
-pub mod States
+mod States
 mod Turns
 pub mod Answering
 mod Ways

@@ -1,4 +1,4 @@
--- An image within the limits: nothing is refused. Assumes nothing.
+-- An image with no code waiting, within the limits: nothing is refused. Assumes nothing.
 use Prim.Native.Nat.{ℕ, _+_, _*_, _<_, _≤_, _^_}
 use native.Mathlib.Omega.{arith}
 use mathlib.Core.Path.{_≡_, refl, sym, ap, _∙_}
@@ -14,7 +14,6 @@ use Rattle.meaning.specs.Run.{Call, lends, refusedBy}
 use Rattle.meaning.proofs.Choices.{pick-same}
 use Rattle.frame.proofs.Numbers.{low-first, little-at}
 use Rattle.commands.specs.Queue.{waiting, queueOf}
-use Rattle.commands.proofs.States.{at-most-four}
 use Rattle.image.specs.Image.{numberAt, isImage, stateIn, frameIn, keptIn, heldIn}
 use Rattle.image.proofs.Parts.{kept-length}
 use Rattle.image.proofs.Round.{good}
@@ -31,21 +30,17 @@ empty-queue img e =
     let d : arg img 19 ≡ 0 = omega arith in
     rw (d, c, b, a)
 
-pub none-waits : (img : List ℕ) → numberAt img 16 ≡ 0 → true ≡ apart (queueOf (stateIn img .faults))
-unfolding apart
-none-waits img e = rw (empty-queue img e)
-
 -- no : where the test says no, nothing is claimed
 pub no-claim : {p : Plate} {img : List ℕ} {memory room : ℕ} → false ≡ true → Unrefused p img memory room
 no-claim e = absurd (false≢true e)
 
-module _ (p : Plate) (img : List ℕ) (memory room : ℕ) (e : isImage img ≡ true) (q : apart (queueOf (stateIn img .faults)) ≡ true) (n : numberAt img 4 ≤ 0xFFFFFF)
+module _ (p : Plate) (img : List ℕ) (memory room : ℕ) (e : isImage img ≡ true) (q : numberAt img 16 ≡ 0) (n : numberAt img 4 ≤ 0xFFFFFF)
     (ok : plateOk p ≡ true) (o : numberAt img 8 < 2 ^ p .bits) (size : memory ≡ 16 * p .total + p .total) (wide : 134 ≤ room) where
   within-limits : stateOk p (heldIn img) ≡ true
-  unfolding stateOk frameIn stateIn
+  unfolding stateOk stateIn frameIn apart
   within-limits =
       let k : length (take (arg img 29) (keptIn img)) ≤ 135 = rw length-take (omega (arith, kept-length img ((good img e) .all))) in
-      rw (le-leb (numberAt img 4) 0xFFFFFF n, lt-ltb (numberAt img 8) (2 ^ p .bits) o, q, le-leb _ 4 (at-most-four (stateIn img .faults)), le-leb _ 135 k)
+      rw (le-leb (numberAt img 4) 0xFFFFFF n, lt-ltb (numberAt img 8) (2 ^ p .bits) o, empty-queue img q, le-leb _ 135 k)
 
   pub unrefused : Unrefused p img memory room
   unfolding refusedBy

@@ -4,12 +4,10 @@ ghost use mathlib.Core.Bool.{true};
 ghost use Prim.Native.Nat.{ℕ, _≤_};
 ghost use lib.ListN.{length};
 ghost use Rattle.meaning.specs.Bytes.{differ};
-ghost use Rattle.meaning.specs.State.{apart};
 ghost use Rattle.meaning.specs.Frames.{over};
 ghost use Rattle.meaning.specs.Run as run;
 ghost use Rattle.line.specs.Line.{plateOf};
-ghost use Rattle.commands.specs.Queue.{queueOf};
-ghost use Rattle.image.specs.Image.{stateIn, heldIn};
+ghost use Rattle.image.specs.Image.{heldIn};
 ghost use Rattle.quicksetter.specs.Calls.{plateFrom, callOf, Called, Unrefused};
 use crate::answer::REFUSED;
 use crate::answer::finish;
@@ -26,20 +24,7 @@ const FAULTY: u8 = 1;
 
 const POLL: u8 = 2;
 
-// 01, "State limits", of the waiting codes. Mostly none waits.
-fn queue_ok(image: &[u8]) -> bool
-    requires { ⌜ 165 ≤ length (now image) ⌝ }
-    ensures { λ r. ⌜ r ≡ apart (queueOf (stateIn (now (image .entry)) .faults)) ⌝ }
-{
-    if frame::number_at(image, WAITING) == 0 {
-        return true;
-    }
-    let state = image::state_in(image);
-    let faults = state.faults;
-    faults.is_sound()
-}
-
-// What nearly every call meets: R1 to R3 do not apply. Where it says no, `event` decides.
+// What nearly every call meets: no code waits, and R1 to R3 do not apply. Where it says no, `event` decides.
 fn is_calm(
     image: &[u8],
     total: u32,
@@ -55,7 +40,7 @@ fn is_calm(
     if !image::is_image(image) {
         return false;
     }
-    if !queue_ok(image) {
+    if frame::number_at(image, WAITING) != 0 {
         return false;
     }
     if 0xFFFFFF < frame::number_at(image, COUNTER) {

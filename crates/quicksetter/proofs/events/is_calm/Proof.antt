@@ -16,7 +16,6 @@ use Rattle.commands.proofs.size.Reads as size-reads
 use Rattle.image.proofs.is_image.Reads as is-image-reads
 use Rattle.frame.proofs.number_at.Reads as number-at-reads
 use Rattle.line.proofs.plate.Plate.is_ok.Reads as is-ok-reads
-use Rattle.quicksetter.proofs.events.queue_ok.Reads as queue-ok-reads
 use Rattle.quicksetter.proofs.given.plate_from.Reads as plate-from-reads
 
 fine : (c : tie.Else1) → isImage (now (c .before .before .before .before .before .args .image)) ≡ true
@@ -28,14 +27,14 @@ is-image-requires c κs = search needs
 returns : tie.Need-returns
 returns c = no-claim
 
-queue-ok-requires : tie.Need-queue-ok-requires
-queue-ok-requires c κs = omega (arith, good _ (fine c) .all)
+number-at-requires : tie.Need-number-at-requires
+number-at-requires c κs = omega (arith, good _ (fine c) .all)
 
 returns-2 : tie.Need-returns-2
 returns-2 c = no-claim
 
-number-at-requires : tie.Need-number-at-requires
-number-at-requires c κs = omega (arith, good _ (fine (c .before .before)) .all)
+number-at-requires-2 : tie.Need-number-at-requires-2
+number-at-requires-2 c κs = omega (arith, good _ (fine (c .before .before)) .all)
 
 returns-3 : tie.Need-returns-3
 returns-3 c = no-claim
@@ -52,8 +51,8 @@ returns-4 c = no-claim
 size-requires : tie.Need-size-requires
 size-requires c κs = few-bits _ (sym (rw (c .before .before .plate-from .ensures) at (c .before .is-ok .ensures)) ∙ not-false _ (c .if4 .left))
 
-number-at-requires-2 : tie.Need-number-at-requires-2
-number-at-requires-2 c κs = omega (arith, good _ (fine (c .before .before .before .before .before .before .before .before)) .all)
+number-at-requires-3 : tie.Need-number-at-requires-3
+number-at-requires-3 c κs = omega (arith, good _ (fine (c .before .before .before .before .before .before .before .before)) .all)
 
 cast-if5 : tie.Need-cast-if5
 cast-if5 c = search needs
@@ -71,7 +70,7 @@ returns-6 : tie.Need-returns-6
 returns-6 c = no-claim
 
 returns-7 : tie.Need-returns-7
-returns-7 c = λ e. unrefused _ _ _ _ (fine (c .before .before .before .before .before .before .before .before .before .before .before)) (sym (c .before .before .before .before .before .before .before .before .before .before .queue-ok .ensures) ∙ not-false _ (c .before .before .before .before .before .before .before .before .before .if2 .left)) (rw (c .before .before .before .before .before .before .before .before .number-at .ensures) at (c .before .before .before .before .before .before .before .if3 .left)) (sym (rw (c .before .before .before .before .before .before .plate-from .ensures) at (c .before .before .before .before .before .is-ok .ensures)) ∙ not-false _ (c .before .before .before .before .if4 .left)) (rw (c .before .before .before .size .ensures, c .before .before .number-at2 .ensures) at (c .before .if5 .left)) (c .if6 .left) (leb-true _ _ e)
+returns-7 c = λ e. unrefused _ _ _ _ (fine (c .before .before .before .before .before .before .before .before .before .before .before)) (sym (c .before .before .before .before .before .before .before .before .before .before .number-at .ensures) ∙ c .before .before .before .before .before .before .before .before .before .if2 .left) (rw (c .before .before .before .before .before .before .before .before .number-at2 .ensures) at (c .before .before .before .before .before .before .before .if3 .left)) (sym (rw (c .before .before .before .before .before .before .plate-from .ensures) at (c .before .before .before .before .before .is-ok .ensures)) ∙ not-false _ (c .before .before .before .before .if4 .left)) (rw (c .before .before .before .size .ensures, c .before .before .number-at3 .ensures) at (c .before .if5 .left)) (c .if6 .left) (leb-true _ _ e)
 
 pub is-calm-spec : {M : Type 1} → statement M
 is-calm-spec =
@@ -79,15 +78,15 @@ is-calm-spec =
     (tie.spec
     is-image-requires
     returns
-    queue-ok-requires
-    returns-2
     number-at-requires
+    returns-2
+    number-at-requires-2
     returns-3
     plate-from-requires
     is-ok-requires
     returns-4
     size-requires
-    number-at-requires-2
+    number-at-requires-3
     cast-if5
     returns-5
     mul-if6
