@@ -28,6 +28,12 @@ static size_t kept_characters(long number) {
     return replies;
 }
 
+/* The same while a fault code waits. */
+static size_t warned_characters(long number) {
+    size_t refused = CALL(fault)(image, sizeof image, 0x1E, TOTAL, BITS, ADDRESS, TICKS, PAUSE);
+    return refused + kept_characters(number);
+}
+
 /* One endless frame. */
 static size_t endless_characters(long number) {
     size_t replies = 0;
@@ -74,8 +80,8 @@ static const struct {
     const char *name;
     size_t (*run)(long number);
 } KINDS[] = {
-    {"kept", kept_characters}, {"endless", endless_characters}, {"requests", requests},
-    {"idle", idle_polls},      {"early", early_polls},          {"closing", closing_polls},
+    {"kept", kept_characters}, {"warned", warned_characters}, {"endless", endless_characters}, {"requests", requests},
+    {"idle", idle_polls},      {"early", early_polls},        {"closing", closing_polls},
 };
 
 int main(int count, char **words) {
@@ -87,6 +93,6 @@ int main(int count, char **words) {
             }
         }
     }
-    fprintf(stderr, "calls kept|endless|requests|idle|early|closing NUMBER\n");
+    fprintf(stderr, "calls kept|warned|endless|requests|idle|early|closing NUMBER\n");
     return 2;
 }

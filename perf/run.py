@@ -225,7 +225,7 @@ def inside_entry(program: str, kind: str, entry: str) -> float:
 
 def entry_costs(program: str, board: str) -> Dict[str, float]:
     character, poll = f"{board}_character", f"{board}_poll"
-    costs = {kind: inside_entry(program, kind, character) for kind in ("kept", "endless", "requests")}
+    costs = {kind: inside_entry(program, kind, character) for kind in ("kept", "warned", "endless", "requests")}
     costs.update({kind: inside_entry(program, kind, poll) for kind in ("idle", "early", "closing")})
     # A request is three characters; the first closes the one before, the other two are kept.
     costs["closing character"] = 3 * costs["requests"] - 2 * costs["kept"]
@@ -259,6 +259,7 @@ def nanoseconds_an_event(programs: Dict[str, str], tape: Written) -> Dict[str, f
 
 ENTRY_ROWS = (
     ("kept", "character that is kept"),
+    ("warned", "character that is kept while a fault code waits"),
     ("endless", "character past the 135th"),
     ("closing character", "character that closes a 46h request"),
     ("idle", "poll, no frame open"),
