@@ -1,131 +1,110 @@
 // The frames of the bench sheet (01) and the worked example of 002, run; what comes back is compared with the stored output.
-use trial::counting;
-use trial::say;
-use trial::send;
-use trial::sheet_plate;
-use trial::timed;
+use trial::play_8;
+use trial::play_112;
 
-// 01: "40 4E 0E", broadcast, and another board's address.
-fn memory_status() {
-    let plate = sheet_plate(112, 24);
-    let mut board = board::fresh(plate);
-    let mut memory = [0u8; 1904];
-    board = send(plate, board, b"\x40\x4E\x0E", &mut memory);
-    board = send(plate, board, b"\xFF\x4E\xB1", &mut memory);
-    send(plate, board, b"\x41\x4E\x0F", &mut memory);
+fn frames() {
+    play_112(
+        b"T112 P24 Node0 Unit4 Gap55 fresh
+=memory status
+# 01: \"40 4E 0E\": 70h blocks free, no field.
+40 4E 0E .
+# Broadcast: the reply carries the board's own address.
+FF 4E B1 .
+# Another board's address: silence.
+41 4E 0F .
+fresh
+=two fields
+# 01: field C9 of 002.
+40 4D 00 C9 55 91 .
+# 002's misprint in field E0: a wrong checksum, 0Ah.
+40 4D 01 E0 55 69 .
+# The same with its own checksum.
+40 4D 01 E0 55 B9 .
+",
+    );
 }
 
-// 01: fields C9 and E0 of 002; the third frame is 002's misprint.
-fn two_fields() {
-    let plate = sheet_plate(112, 24);
-    let mut board = board::fresh(plate);
-    let mut memory = [0u8; 1904];
-    board = send(plate, board, b"\x40\x4D\x00\xC9\x55\x91", &mut memory);
-    board = send(plate, board, b"\x40\x4D\x01\xE0\x55\x69", &mut memory);
-    send(plate, board, b"\x40\x4D\x01\xE0\x55\xB9", &mut memory);
-}
-
-// 01: eight blocks granted, six given back, six asked and refused, five granted.
 fn eight_blocks() {
-    let plate = sheet_plate(8, 24);
-    let mut board = board::fresh(plate);
-    let mut memory = [0u8; 136];
-    board = send(plate, board, b"\x40\x4D\x00\xC7\x55\x9F", &mut memory);
-    board = send(plate, board, b"\x40\x4E\x0E", &mut memory);
-    board = send(plate, board, b"\x40\x4D\x00\xC1\x55\x99", &mut memory);
-    board = send(plate, board, b"\x40\x4E\x0E", &mut memory);
-    board = send(plate, board, b"\x40\x4D\x01\xC6\x55\x9F", &mut memory);
-    send(plate, board, b"\x40\x4D\x01\xC5\x55\x9C", &mut memory);
-}
-
-// 01: a wrong checksum, an unknown command.
-fn faulty() {
-    let plate = sheet_plate(112, 24);
-    let mut board = board::fresh(plate);
-    let mut memory = [0u8; 1904];
-    board = send(plate, board, b"\x40\x4E\x0F", &mut memory);
-    send(plate, board, b"\x40\x44\x04", &mut memory);
-}
-
-// 01: the counter at FFFFFFh.
-fn counter_wraps() {
-    let plate = sheet_plate(112, 24);
-    let mut memory = [0u8; 1904];
-    let board = send(
-        plate,
-        counting(plate, 0xFFFFFF),
-        b"\x40\x47\x07",
-        &mut memory,
+    play_8(
+        b"T8 P24 Node0 Unit4 Gap55 fresh
+=eight blocks
+# 01: all eight blocks granted; none free, one field.
+40 4D 00 C7 55 9F .
+40 4E 0E .
+# Six given back.
+40 4D 00 C1 55 99 .
+40 4E 0E .
+# Seven asked: 10h.
+40 4D 01 C6 55 9F .
+# Six granted.
+40 4D 01 C5 55 9C .
+",
     );
-    send(plate, board, b"\x40\x50\x10", &mut memory);
 }
 
-// 01: measured 5, position set to 2; measured 9, position read.
-fn position_set() {
-    let plate = sheet_plate(112, 24);
-    let mut memory = [0u8; 1904];
-    let first = board::measured(plate, board::fresh(plate), 5);
-    let set = send(
-        plate,
-        first.board,
-        b"\x40\x43\x00\x00\x00\x02\x55\x54",
-        &mut memory,
+fn numbers() {
+    play_112(
+        b"T112 P24 Node0 Unit4 Gap55 fresh
+=faulty
+# 01: a wrong checksum, 0Ah.
+40 4E 0F .
+# An unknown command, 0Bh.
+40 44 04 .
+=counter
+# 01: the counter at FFFFFFh, stepped: it wraps, and 08h waits, so the reply warns.
+counterFFFFFF given
+40 47 07 .
+# The code is fetched.
+40 50 10 .
+=position
+# 01: measured 5, position set to 2.
+fresh measured5
+40 43 00 00 00 02 55 54 .
+# Measured 9: position 6.
+measured9
+40 42 02 .
+",
     );
-    let second = board::measured(plate, set, 9);
-    send(plate, second.board, b"\x40\x42\x02", &mut memory);
 }
 
-// 002, "Example: Data Field Definition", with the checksum of its third request mended.
 fn worked_example() {
-    let plate = sheet_plate(8, 24);
-    let mut board = board::fresh(plate);
-    let mut memory = [0u8; 136];
-    board = send(plate, board, b"\x40\x4E\x0E", &mut memory);
-    board = send(plate, board, b"\x40\x4D\x00\xC9\x55\x91", &mut memory);
-    board = send(plate, board, b"\x40\x4D\x01\xE0\x55\xB9", &mut memory);
-    board = send(plate, board, b"\x40\x4F\x02\x55\x66\x3E", &mut memory);
-    send(
-        plate,
-        board,
-        b"\x40\x4B\x01\x05\x02\x66\x08\x15\x76",
-        &mut memory,
+    play_8(
+        b"T8 P24 Node0 Unit4 Gap55 fresh
+=example of 002
+# 002, \"Example: Data Field Definition\": eight blocks free, no field.
+40 4E 0E .
+# Field 0: ten bytes wide, status C9.
+40 4D 00 C9 55 91 .
+# Field 1, status E0, with the checksum of 002's third request mended.
+40 4D 01 E0 55 B9 .
+# Code 2 set from 55h to 66h.
+40 4F 02 55 66 3E .
+# Two bytes stored in field 1 from byte 5 on, under code 2.
+40 4B 01 05 02 66 08 15 76 .
+# The bytes of field 1, behind the two blocks of field 0.
+s20 s21 s22 s23 s24 s25 s26 s27 s28 s29 s2A s2B s2C s2D s2E s2F /
+",
     );
-    trial::show(&memory[32..48]);
-    say(b"\n");
 }
 
-// 01: a gap of 219 ticks keeps the frame open, 220 closes it.
 fn gaps() {
-    let plate = sheet_plate(112, 24);
-    let mut memory = [0u8; 1904];
-    let ticks = [0u32, 219, 438];
-    timed(
-        plate,
-        board::fresh(plate),
-        &ticks,
-        b"\x40\x4E\x0E",
-        9,
-        657,
-        658,
-        &mut memory,
+    play_112(
+        b"T112 P24 Node0 Unit4 Gap55 fresh
+=gaps
+# 01: gaps of 219 ticks keep the frame open.
+@0 40 @219 4E @438 0E
+# So does 219 after the last character.
+@657 ? /
+# 220 close it.
+@658 ? /
+",
     );
 }
 
 fn main() {
-    say(b"memory status\n");
-    memory_status();
-    say(b"two fields\n");
-    two_fields();
-    say(b"eight blocks\n");
+    frames();
     eight_blocks();
-    say(b"faulty\n");
-    faulty();
-    say(b"counter\n");
-    counter_wraps();
-    say(b"position\n");
-    position_set();
-    say(b"example of 002\n");
+    numbers();
     worked_example();
-    say(b"gaps\n");
     gaps();
 }

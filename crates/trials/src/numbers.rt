@@ -1,164 +1,100 @@
 // Position, codes, counter and queue: rows 42h, 43h, 46h, 47h, 49h, 4Fh, 50h, 53h, and P = 1 and P = 32.
-use board::Board;
-use line::Plate;
-use trial::play;
-use trial::say;
-use trial::sheet_plate;
+use trial::play_112;
 
-// 01, row 43h: 02h, 0Fh, 0Dh in this order; 22h locks until power-on.
-fn position_checks() {
-    let plate = sheet_plate(112, 24);
-    let mut memory = [0u8; 1904];
-    let mut board = board::fault(plate, board::fresh(plate), 0x22).board;
-    board = play(
-        plate,
-        board,
-        b"\x42\x01\x00\x00\x00\x00\x00\x00\x42\x00\x00\x00\x00\x00\x00\x00\x43\x05\x01\x00\x00\x00\x00\x00",
-        &mut memory,
-    );
-    let on = board::power_on(plate, board);
-    board = on.board;
-    play(
-        plate,
-        board,
-        b"\x43\x05\x01\x00\x00\x00\x00\x00\x43\x05\x01\x00\x00\x00\x55\x00\x43\x05\x00\xFF\xFF\xFF\x55\x00\x42\x00\x00\x00\x00\x00\x00\x00",
-        &mut memory,
+fn position_and_codes() {
+    play_112(
+        b"T112 P24 Node0 Unit4 Gap55 fresh
+=position
+# 22h locks until power-on. A wrong length before the lock: 0Ch; then 02h, in 43h before the code.
+note22
+40 42 00 + .
+40 42 + .
+40 43 01 00 00 00 00 + .
+# Power-on unlocks. 01, row 43h: the code before the position: 0Fh; 2^24 is too much: 0Dh; 2^24 - 1 is set.
+up
+40 43 01 00 00 00 00 + .
+40 43 01 00 00 00 55 + .
+40 43 00 FF FF FF 55 + .
+40 42 + .
+=codes and counter
+fresh
+# 01, row 4Fh: a number over 3 before the old code: 0Dh; the old code differs: 0Fh; code 0 set to 01h.
+40 4F 04 00 01 + .
+40 4F 03 00 01 + .
+40 4F 00 55 01 + .
+# 01, row 49h: 0Fh unless Code0; the counter, stepped to 1, is 0 again.
+40 49 55 + .
+40 47 + .
+40 46 + .
+40 49 01 + .
+40 46 + .
+# 01, row 53h: silence; with data 0Ch.
+40 53 + .
+40 53 01 + .
+",
     );
 }
 
-// 01, rows 4Fh, 49h, 47h, 46h, 53h.
-fn codes_and_counter() {
-    let plate = sheet_plate(112, 24);
-    let mut memory = [0u8; 1904];
-    let mut board = board::fresh(plate);
-    board = play(
-        plate,
-        board,
-        b"\x4F\x03\x04\x00\x01\x00\x00\x00\x4F\x03\x03\x00\x01\x00\x00\x00\x4F\x03\x00\x55\x01\x00\x00\x00\x49\x01\x55\x00\x00\x00\x00\x00",
-        &mut memory,
-    );
-    board = play(
-        plate,
-        board,
-        b"\x47\x00\x00\x00\x00\x00\x00\x00\x46\x00\x00\x00\x00\x00\x00\x00\x49\x01\x01\x00\x00\x00\x00\x00\x46\x00\x00\x00\x00\x00\x00\x00",
-        &mut memory,
-    );
-    play(
-        plate,
-        board,
-        b"\x53\x00\x00\x00\x00\x00\x00\x00\x53\x01\x01\x00\x00\x00\x00\x00",
-        &mut memory,
-    );
-}
-
-// A board whose counter is at FFFFFFh, with these codes waiting.
-fn at_last_count(plate: Plate, first: u8, second: u8, third: u8, fourth: u8) -> Board {
-    let board = trial::counting(plate, 0xFFFFFF);
-    let one = board::fault(plate, board, first);
-    let two = board::fault(plate, one.board, second);
-    let three = board::fault(plate, two.board, third);
-    let four = board::fault(plate, three.board, fourth);
-    four.board
-}
-
-// 01, "a fifth, is dropped": 08h with four waiting.
-fn counter_queue_full() {
-    let plate = sheet_plate(112, 24);
-    let mut memory = [0u8; 1904];
-    let mut board = at_last_count(plate, 1, 2, 3, 4);
-    board = play(
-        plate,
-        board,
-        b"\x47\x00\x00\x00\x00\x00\x00\x00\x46\x00\x00\x00\x00\x00\x00\x00\x50\x00\x00\x00\x00\x00\x00\x00\x50\x00\x00\x00\x00\x00\x00\x00",
-        &mut memory,
-    );
-    play(
-        plate,
-        board,
-        b"\x50\x00\x00\x00\x00\x00\x00\x00\x50\x00\x00\x00\x00\x00\x00\x00\x50\x00\x00\x00\x00\x00\x00\x00",
-        &mut memory,
+fn counter() {
+    play_112(
+        b"T112 P24 Node0 Unit4 Gap55 fresh
+=counter at FFFFFFh, queue full
+# 01, \"a fifth, is dropped\": 08h with four waiting.
+counterFFFFFF given
+note01 note02 note03 note04
+40 47 + .
+40 46 + .
+# The four, oldest first; then none.
+40 50 + .
+40 50 + .
+40 50 + .
+40 50 + .
+40 50 + .
+=counter at FFFFFFh, 08h waiting
+# 01, \"one already waiting\": 08h keeps its place; 00h never waits.
+counterFFFFFF given
+note08 note05 note00 note00
+40 47 + .
+# An error reply warns too.
+40 44 + .
+40 50 + .
+40 50 + .
+40 50 + .
+",
     );
 }
 
-// 01, "one already waiting": 08h keeps its place; an error reply warns too.
-fn counter_08_waiting() {
-    let plate = sheet_plate(112, 24);
-    let mut memory = [0u8; 1904];
-    let mut board = at_last_count(plate, 8, 5, 0, 0);
-    board = play(
-        plate,
-        board,
-        b"\x47\x00\x00\x00\x00\x00\x00\x00\x44\x00\x00\x00\x00\x00\x00\x00\x50\x00\x00\x00\x00\x00\x00\x00\x50\x00\x00\x00\x00\x00\x00\x00",
-        &mut memory,
-    );
-    play(
-        plate,
-        board,
-        b"\x50\x00\x00\x00\x00\x00\x00\x00",
-        &mut memory,
-    );
-}
-
-// 01, "position bits P 1".
-fn one_position_bit() {
-    let plate = sheet_plate(112, 1);
-    let mut memory = [0u8; 1904];
-    let mut board = board::fresh(plate);
-    board = board::measured(plate, board, 0xFFFFFFFF).board;
-    board = play(
-        plate,
-        board,
-        b"\x43\x05\x00\x00\x00\x02\x55\x00\x42\x00\x00\x00\x00\x00\x00\x00\x43\x05\x00\x00\x00\x00\x55\x00\x42\x00\x00\x00\x00\x00\x00\x00",
-        &mut memory,
-    );
-    board = board::measured(plate, board, 2).board;
-    play(
-        plate,
-        board,
-        b"\x42\x00\x00\x00\x00\x00\x00\x00",
-        &mut memory,
-    );
-}
-
-// 01, "position bits P 32".
-fn all_position_bits() {
-    let plate = sheet_plate(112, 32);
-    let mut memory = [0u8; 1904];
-    let mut board = board::fresh(plate);
-    board = board::measured(plate, board, 7).board;
-    board = play(
-        plate,
-        board,
-        b"\x43\x05\xFF\xFF\xFF\xFF\x55\x00\x42\x00\x00\x00\x00\x00\x00\x00",
-        &mut memory,
-    );
-    board = board::measured(plate, board, 8).board;
-    board = play(
-        plate,
-        board,
-        b"\x42\x00\x00\x00\x00\x00\x00\x00",
-        &mut memory,
-    );
-    board = board::measured(plate, board, 0xFFFFFFFF).board;
-    play(
-        plate,
-        board,
-        b"\x42\x00\x00\x00\x00\x00\x00\x00",
-        &mut memory,
+fn position_bits() {
+    play_112(
+        b"T112 P1 Node0 Unit4 Gap55 fresh
+=P = 1
+# 01, \"position bits P 1\": measured odd; 2 is too much; position 1.
+measuredFFFFFFFF
+40 43 00 00 00 02 55 + .
+40 42 + .
+# Set to 0; measured even, the other position.
+40 43 00 00 00 00 55 + .
+40 42 + .
+measured2
+40 42 + .
+=P = 32
+# 01, \"position bits P 32\": measured 7, position set to FFFFFFFFh.
+P32 fresh
+measured7
+40 43 FF FF FF FF 55 + .
+40 42 + .
+# One on: 0.
+measured8
+40 42 + .
+# Measured FFFFFFFFh: FFFFFFF7h.
+measuredFFFFFFFF
+40 42 + .
+",
     );
 }
 
 pub fn run() {
-    say(b"position\n");
-    position_checks();
-    say(b"codes and counter\n");
-    codes_and_counter();
-    say(b"counter at FFFFFFh, queue full\n");
-    counter_queue_full();
-    say(b"counter at FFFFFFh, 08h waiting\n");
-    counter_08_waiting();
-    say(b"P = 1\n");
-    one_position_bit();
-    say(b"P = 32\n");
-    all_position_bits();
+    position_and_codes();
+    counter();
+    position_bits();
 }

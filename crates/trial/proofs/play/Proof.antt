@@ -1,63 +1,99 @@
 -- `trial::play` meets its contract. Assumes nothing.
-use Prim.Native.Nat.{_≤_}
-use mathlib.Core.Path.{_≡_}
-use lib.ListN.{length}
 use borrow.Author.Needs.{needs}
+use lib.ListN.{length}
+use mathlib.Core.Path.{_≡_}
 use Rattle.trial.proofs.play.Statement.{statement}
 use Rattle.trial.proofs.play.Tie as tie
 use Rattle.trial.proofs.play.Reads as reads
 use Rattle.trial.proofs.play.Lts as lts
-use Rattle.trial.proofs.scripted.Reads as scripted-reads
+use Rattle.desk.proofs.fresh.Reads as fresh-reads
+use Rattle.script.proofs.words.Script.next.Reads as next-reads
+use Rattle.script.proofs.words.Script.start.Reads as start-reads
+use Rattle.trial.proofs.turn.Reads as turn-reads
 
 abbrev Inv-loop : tie.InvT-loop
-Inv-loop plate script memory₀ now₀ left₀ memory now left = (left ≤ 64) × (length memory ≡ length memory₀)
+Inv-loop text kept₀ memory₀ room₀ script₀ numbers₀ board₀ left₀ kept memory room script numbers board left =
+    (length kept ≡ length kept₀) × (length memory ≡ length memory₀) × (length room ≡ length room₀)
 
 abbrev μ-loop : tie.MeasureT-loop
-μ-loop plate script memory₀ now₀ left₀ memory now left = left
+μ-loop text kept₀ memory₀ room₀ script₀ numbers₀ board₀ left₀ kept memory room script numbers board left =
+    left
 
--- src/lib.rt:362:5
+-- src/lib.rt:23:9
+start-requires : tie.Need-start-requires Inv-loop μ-loop
+start-requires c κs = search needs
+
+-- src/lib.rt:25:9
+fresh-requires : tie.Need-fresh-requires Inv-loop μ-loop
+fresh-requires c κs = search needs
+
+-- src/lib.rt:27:5
 loop-holds : tie.Need-loop-holds Inv-loop μ-loop
 loop-holds c = search needs
 
--- src/lib.rt:363:9
+-- src/lib.rt:28:9
 sub-left : tie.Need-sub-left Inv-loop μ-loop
 sub-left c = search needs
 
--- src/lib.rt:364:23
-sub-at : tie.Need-sub-at Inv-loop μ-loop
-sub-at c = search needs
-
--- src/lib.rt:364:18
-mul-at : tie.Need-mul-at Inv-loop μ-loop
-mul-at c = search needs
-
--- src/lib.rt:366:13
-scripted-requires : tie.Need-scripted-requires Inv-loop μ-loop
-scripted-requires c κs = search needs
-
--- src/lib.rt:362:5
-loop-less : tie.Need-loop-less Inv-loop μ-loop
-loop-less c = search needs
-
--- src/lib.rt:362:5
-loop-again : tie.Need-loop-again Inv-loop μ-loop
-loop-again c = search needs
-
--- src/lib.rt:362:5
-loop-less-2 : tie.Need-loop-less-2 Inv-loop μ-loop
-loop-less-2 c = search needs
-
--- src/lib.rt:362:5
-loop-again-2 : tie.Need-loop-again-2 Inv-loop μ-loop
-loop-again-2 c = search needs
-
--- src/lib.rt:359:1
+-- src/lib.rt:30:13
 same-length : tie.Need-same-length Inv-loop μ-loop
 same-length c = search needs
 
--- src/lib.rt:359:1
+-- src/lib.rt:30:13
+same-length-2 : tie.Need-same-length-2 Inv-loop μ-loop
+same-length-2 c = search needs
+
+-- src/lib.rt:30:13
+same-length-3 : tie.Need-same-length-3 Inv-loop μ-loop
+same-length-3 c = search needs
+
+-- src/lib.rt:30:13
 returns : tie.Need-returns Inv-loop μ-loop
 returns c = search needs
+
+-- src/lib.rt:32:9
+next-requires : tie.Need-next-requires Inv-loop μ-loop
+next-requires c κs = search needs
+
+-- src/lib.rt:33:17
+cast-numbers : tie.Need-cast-numbers Inv-loop μ-loop
+cast-numbers c = search needs
+
+-- src/lib.rt:33:9
+mul-numbers : tie.Need-mul-numbers Inv-loop μ-loop
+mul-numbers c = search needs
+
+-- src/lib.rt:33:9
+array-write-numbers : tie.Need-array-write-numbers Inv-loop μ-loop
+array-write-numbers c = search needs
+
+-- src/lib.rt:34:9
+turn-requires : tie.Need-turn-requires Inv-loop μ-loop
+turn-requires c κs = search needs
+
+-- src/lib.rt:27:5
+loop-less : tie.Need-loop-less Inv-loop μ-loop
+loop-less c = search needs
+
+-- src/lib.rt:27:5
+loop-again : tie.Need-loop-again Inv-loop μ-loop
+loop-again c = search needs
+
+-- src/lib.rt:22:1
+same-length-4 : tie.Need-same-length-4 Inv-loop μ-loop
+same-length-4 c = search needs
+
+-- src/lib.rt:22:1
+same-length-5 : tie.Need-same-length-5 Inv-loop μ-loop
+same-length-5 c = search needs
+
+-- src/lib.rt:22:1
+same-length-6 : tie.Need-same-length-6 Inv-loop μ-loop
+same-length-6 c = search needs
+
+-- src/lib.rt:22:1
+returns-2 : tie.Need-returns-2 Inv-loop μ-loop
+returns-2 c = search needs
 
 pub play-spec : {M : Type 1} → statement M
 play-spec =
@@ -65,14 +101,22 @@ play-spec =
     (tie.spec
     Inv-loop
     μ-loop
+    start-requires
+    fresh-requires
     loop-holds
     sub-left
-    sub-at
-    mul-at
-    scripted-requires
+    same-length
+    same-length-2
+    same-length-3
+    returns
+    next-requires
+    cast-numbers
+    mul-numbers
+    array-write-numbers
+    turn-requires
     loop-less
     loop-again
-    loop-less-2
-    loop-again-2
-    same-length
-    returns)
+    same-length-4
+    same-length-5
+    same-length-6
+    returns-2)
