@@ -29,9 +29,9 @@ use Rattle.tape.specs.Passes as passes
 use Rattle.tape.specs.Passes.{Pass, pass, stopped, after, heard, nothing, said, longestLine}
 use Rattle.tape.specs.Reader.{Printed}
 use Rattle.tape.proofs.Streams.{pass-enough}
-use Rattle.answers.specs.Turns.{Sound}
+use Rattle.turns.specs.Turns.{Sound}
 use Rattle.answers.specs.Sessions.{largestImage, stageFrom, stageOf, stopTold, phaseAfter, Plays, Steady, Ready, passOver, Eats, Playable, passFrom, GoesOn, Refuses}
-use Rattle.answers.specs.Openings.{Begins, Fails}
+use Rattle.turns.specs.Openings.{Begins, Fails}
 use Rattle.answers.specs.declared.session.Phase.{Phase}
 use Rattle.answers.specs.declared.session.Phase.the-variants.{Opening, Running, Ended}
 use Rattle.answers.specs.declared.session.Session.{Session}

@@ -23,11 +23,12 @@ use Rattle.tape.specs.Passes as passes
 use Rattle.tape.specs.Passes.{Pass, pass, stopped, after, hearing, heard, nothing, said, longestLine}
 use Rattle.tape.specs.Reader.{Printed}
 use Rattle.tape.proofs.Texts.{same-room, joined}
-use Rattle.answers.specs.Turns.{Sound, runs, Past, Quiet, Turns, stageAfter}
+use Rattle.turns.specs.Hearing.{Past}
+use Rattle.turns.specs.Turns.{Sound, runs, Quiet, Turns, stageAfter}
 use Rattle.answers.specs.Sessions.{Plays, stopTold, stageFrom, phaseAfter}
 use Rattle.answers.proofs.Closings.{no-text}
 use Rattle.answers.specs.declared.passes.Played.{Played}
-use Rattle.answers.specs.declared.turns.Turned.{Turned}
+use Rattle.turns.specs.declared.answering.Turned.{Turned}
 use Rattle.answers.specs.declared.session.Stop.the-variants.{More, Full, Over}
 use Rattle.answers.specs.declared.session.Phase.the-variants.{Running}
 

@@ -1,4 +1,2 @@
 pub mod Sessions
-pub mod Turns
-pub mod Openings
 pub mod Runs

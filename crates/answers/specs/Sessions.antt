@@ -14,7 +14,7 @@ use Rattle.tape.specs.Passes as passes
 use Rattle.tape.specs.Passes.{Pass, pass, longestLine}
 use Rattle.tape.specs.Text.{badLine}
 use Rattle.tape.specs.Reader.{Printed}
-use Rattle.answers.specs.Turns.{Sound}
+use Rattle.turns.specs.Turns.{Sound}
 use Rattle.answers.specs.declared.session.Phase.{Phase}
 use Rattle.answers.specs.declared.session.Phase.the-variants.{Opening, Running, Ended}
 use Rattle.answers.specs.declared.session.Session.{Session}

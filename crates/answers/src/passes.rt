@@ -9,22 +9,22 @@ ghost use Rattle.board.specs.Board.{stateOf};
 ghost use Rattle.tape.specs.Answers.{running};
 ghost use Rattle.tape.specs.Passes.{pass, closing};
 ghost use Rattle.tape.specs.Reader.{Printed};
-ghost use Rattle.answers.specs.Turns.{Sound};
+ghost use Rattle.turns.specs.Turns.{Sound};
 ghost use Rattle.answers.specs.Sessions.{stageOf, phaseAfter, Plays, Playable, GoesOn, Refuses, Ready, Eats};
-use crate::opening::Opened;
-use crate::opening::open;
 use crate::session::Phase;
 use crate::session::Session;
 use crate::session::Stop;
-use crate::turns::Heard;
-use crate::turns::Pace;
-use crate::turns::hear;
-use crate::turns::quick;
-use crate::turns::turn;
 use board::Board;
 use commands::State;
 use line::Frame;
 use line::Plate;
+use turns::Heard;
+use turns::Opened;
+use turns::Pace;
+use turns::hear;
+use turns::open;
+use turns::quick;
+use turns::turn;
 
 // A running board after a pass: how far the window was read, how much of the room is used.
 pub struct Played {

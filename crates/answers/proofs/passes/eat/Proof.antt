@@ -1,5 +1,6 @@
 -- `answers::passes::eat` meets its contract. Assumes nothing.
 use mathlib.Core.Path.{_≡_, sym, _∙_}
+use Rattle.turns.proofs.Beginning.{opens-as}
 use Rattle.answers.proofs.Eating.{at-work, playable, eats-on, eats-full, eats-more, eats-bad, fresh-playable, eats-plate}
 -- `answers::passes::eat` meets its contract. Assumes nothing.
 use borrow.Author.Needs.{needs}
@@ -7,7 +8,7 @@ use Rattle.answers.proofs.passes.eat.Statement.{statement}
 use Rattle.answers.proofs.passes.eat.Tie as tie
 use Rattle.answers.proofs.passes.eat.Reads as reads
 use Rattle.answers.proofs.passes.eat.Lts as lts
-use Rattle.answers.proofs.opening.open.Reads as open-reads
+use Rattle.turns.proofs.open.Reads as open-reads
 use Rattle.answers.proofs.passes.go_on.Reads as go-on-reads
 use Rattle.answers.proofs.passes.refuse.Reads as refuse-reads
 use Rattle.answers.proofs.passes.stopped.Reads as stopped-reads
@@ -70,17 +71,17 @@ fresh-requires c κs = search needs
 
 go-on-requires-2 : tie.Need-go-on-requires-2
 go-on-requires-2 c κs =
-    let o = rw (c .before .before .before .before .before .before .plate .given .1) at (c .before .before .before .before .before .before .before .before .open .ensures) in
+    let o = opens-as _ _ _ (c .before .before .before .before .before .before .before .before .open .ensures) (c .before .before .before .before .before .before .plate .given .1) in
     fresh-playable _ _ _ _ _ _ _ (c .before .before .before .before .before .before .before .before .before .before .before .before .before .before .before .before .before .before .pre) (c .before .before .before .before .before .before .before .before .before .before .enum-told .given .1) _ _ _ (o .1) _ (c .before .before .before .before .fresh .ensures)
 
 returns-3 : tie.Need-returns-3
-returns-3 c = eats-more _ _ _ _ _ _ _ (c .before .before .before .before .before .before .before .before .before .before .before .before .before .pre) _ (c .before .before .before .before .if1 .left) (rw (c .before .enum-told2 .given .1) at (c .before .before .before .open .ensures)) (c .stopped2 .ensures)
+returns-3 c = eats-more _ _ _ _ _ _ _ (c .before .before .before .before .before .before .before .before .before .before .before .before .before .pre) _ (c .before .before .before .before .if1 .left) (opens-as _ _ _ (c .before .before .before .open .ensures) (c .before .enum-told2 .given .1)) (c .stopped2 .ensures)
 
 same-length-5 : tie.Need-same-length-5
 same-length-5 c = search needs
 
 returns-4 : tie.Need-returns-4
-returns-4 c = eats-bad _ _ _ _ _ _ _ (c .before .before .before .before .before .before .before .before .before .before .before .before .before .before .before .before .pre) (c .before .before .before .before .before .before .before .before .enum-told .given .1) (c .before .before .before .before .before .before .before .if1 .left) _ _ (rw (c .before .before .before .before .enum-told3 .given .1) at (c .before .before .before .before .before .before .open .ensures)) (c .before .before .refuse .ensures)
+returns-4 c = eats-bad _ _ _ _ _ _ _ (c .before .before .before .before .before .before .before .before .before .before .before .before .before .before .before .before .pre) (c .before .before .before .before .before .before .before .before .enum-told .given .1) (c .before .before .before .before .before .before .before .if1 .left) _ _ (opens-as _ _ _ (c .before .before .before .before .before .before .open .ensures) (c .before .before .before .before .enum-told3 .given .1)) (c .before .before .refuse .ensures)
 
 same-length-6 : tie.Need-same-length-6
 same-length-6 c = search needs
@@ -96,7 +97,7 @@ same-length-9 c = search needs
 
 returns-5 : tie.Need-returns-5
 returns-5 c =
-    let o = rw (c .before .before .before .before .before .before .before .before .before .before .before .before .before .before .before .plate .given .1) at (c .before .before .before .before .before .before .before .before .before .before .before .before .before .before .before .before .before .open .ensures) in
+    let o = opens-as _ _ _ (c .before .before .before .before .before .before .before .before .before .before .before .before .before .before .before .before .before .open .ensures) (c .before .before .before .before .before .before .before .before .before .before .before .before .before .before .before .plate .given .1) in
     eats-plate _ _ _ _ _ _ _ (c .before .before .before .before .before .before .before .before .before .before .before .before .before .before .before .before .before .before .before .before .before .before .before .before .before .before .before .pre) (c .before .before .before .before .before .before .before .before .before .before .before .before .before .before .before .before .before .before .before .enum-told .given .1) _ _ _ (o .1) _ (c .before .before .before .before .before .before .before .before .before .before .before .before .before .fresh .ensures) _ _ _ _ _ (c .before .before .before .before .before .before .before .before .before .before .before .before .before .before .before .before .before .before .if1 .left) (c .before .before .before .before .before .before .before .before .go-on2 .ensures)
 
 pub eat-spec : {M : Type 1} → statement M

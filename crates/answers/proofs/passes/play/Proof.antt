@@ -7,9 +7,10 @@ use lib.ListN.{length}
 use Rattle.line.specs.declared.plate.Plate.{Plate}
 use Rattle.line.specs.declared.characters.Frame.{Frame}
 use Rattle.tape.specs.Kinds.{Said}
-use Rattle.answers.specs.Turns.{heardOf, Quiet, Quickens}
-use Rattle.answers.specs.declared.turns.Pace.{Pace}
-use Rattle.answers.specs.declared.turns.Pace.the-variants.{Went, Slow}
+use Rattle.turns.specs.Turns.{Quiet, Quickens}
+use Rattle.turns.proofs.Hearing.{hears-as}
+use Rattle.turns.specs.declared.answering.Pace.{Pace}
+use Rattle.turns.specs.declared.answering.Pace.the-variants.{Went, Slow}
 use Rattle.answers.proofs.Playing.{Going, begins, halts-full, halts-more, breaks, quiet-goes, turn-ends, turn-goes}
 use borrow.Author.Needs.{needs}
 use Rattle.answers.proofs.passes.play.Statement.{statement}
@@ -17,9 +18,9 @@ use Rattle.answers.proofs.passes.play.Tie as tie
 use Rattle.answers.proofs.passes.play.Reads as reads
 use Rattle.answers.proofs.passes.play.Lts as lts
 use Rattle.answers.proofs.passes.halt.Reads as halt-reads
-use Rattle.answers.proofs.turns.hear.Reads as hear-reads
-use Rattle.answers.proofs.turns.quick.Reads as quick-reads
-use Rattle.answers.proofs.turns.turn.Reads as turn-reads
+use Rattle.turns.proofs.hear.Reads as hear-reads
+use Rattle.turns.proofs.quick.Reads as quick-reads
+use Rattle.turns.proofs.turn.Reads as turn-reads
 use Rattle.tape.proofs.bad_line.Reads as bad-line-reads
 
 abbrev Inv-loop : tie.InvT-loop
@@ -82,7 +83,7 @@ same-length-8 c = search needs
 
 returns-2 : tie.Need-returns-2 Inv-loop μ-loop
 returns-2 c =
-    halts-more (c .before .before .before .before .before .loop .inv .4) _ (c .before .before .before .before .if1 .left) (sym (c .before .before .before .hear .ensures .heard) ∙ ap heardOf (c .before .enum-told .given .1)) (c .halt2 .ensures)
+    halts-more (c .before .before .before .before .before .loop .inv .4) _ (c .before .before .before .before .if1 .left) (sym (hears-as _ _ _ _ (c .before .before .before .hear .ensures) (c .before .enum-told .given .1) .heard)) (c .halt2 .ensures)
 
 enum-told-2 : tie.Need-enum-told-2 Inv-loop μ-loop
 enum-told-2 c = search needs
@@ -111,7 +112,7 @@ same-length-12 c = search needs
 
 returns-3 : tie.Need-returns-3 Inv-loop μ-loop
 returns-3 c =
-    breaks (c .before .before .before .before .before .before .before .before .before .loop .inv .4) _ _ (c .before .before .before .before .before .before .before .before .if1 .left) (sym (c .before .before .before .before .before .before .before .hear .ensures .heard) ∙ ap heardOf (c .before .before .before .before .before .enum-told2 .given .1)) (c .before .before .before .bad-line .ensures) (c .halt3 .ensures)
+    breaks (c .before .before .before .before .before .before .before .before .before .loop .inv .4) _ _ (c .before .before .before .before .before .before .before .before .if1 .left) (sym (hears-as _ _ _ _ (c .before .before .before .before .before .before .before .hear .ensures) (c .before .before .before .before .before .enum-told2 .given .1) .heard)) (c .before .before .before .bad-line .ensures) (c .halt3 .ensures)
 
 enum-known-event : tie.Need-enum-known-event Inv-loop μ-loop
 enum-known-event c = search needs
@@ -155,25 +156,25 @@ same-length-16 c =
 
 returns-4 : tie.Need-returns-4 Inv-loop μ-loop
 returns-4 c =
-    turn-ends (c .before .before .before .before .before .before .before .before .before .before .before .before .before .before .before .before .before .before .before .before .before .before .before .before .before .before .before .before .before .loop .inv .4) _ _ (rw (c .before .before .before .before .before .before .before .before .before .before .before .before .before .before .before .before .before .before .enum-told3 .given .1) at (c .before .before .before .before .before .before .before .before .before .before .before .before .before .before .before .before .before .before .before .before .before .before .quick .ensures)) (c .before .before .before .before .before .before .before .before .before .before .before .before .before .before .before .before .before .before .before .before .before .before .before .before .before .before .before .before .if1 .left) (sym (c .before .before .before .before .before .before .before .before .before .before .before .before .before .before .before .before .before .before .before .before .before .before .before .before .before .before .before .hear .ensures .heard) ∙ ap heardOf (c .before .before .before .before .before .before .before .before .before .before .before .before .before .before .before .before .before .before .before .before .before .before .before .before .before .event .given .1)) (c .before .before .before .before .before .before .before .before .before .before .before .before .before .turn .ensures) _ (c .before .if2 .taken) (c .halt4 .ensures)
+    turn-ends (c .before .before .before .before .before .before .before .before .before .before .before .before .before .before .before .before .before .before .before .before .before .before .before .before .before .before .before .before .before .loop .inv .4) _ _ (rw (c .before .before .before .before .before .before .before .before .before .before .before .before .before .before .before .before .before .before .enum-told3 .given .1) at (c .before .before .before .before .before .before .before .before .before .before .before .before .before .before .before .before .before .before .before .before .before .before .quick .ensures)) (c .before .before .before .before .before .before .before .before .before .before .before .before .before .before .before .before .before .before .before .before .before .before .before .before .before .before .before .before .if1 .left) (sym (hears-as _ _ _ _ (c .before .before .before .before .before .before .before .before .before .before .before .before .before .before .before .before .before .before .before .before .before .before .before .before .before .before .before .hear .ensures) (c .before .before .before .before .before .before .before .before .before .before .before .before .before .before .before .before .before .before .before .before .before .before .before .before .before .event .given .1) .heard)) (c .before .before .before .before .before .before .before .before .before .before .before .before .before .turn .ensures) _ (c .before .if2 .taken) (c .halt4 .ensures)
 
 loop-less : tie.Need-loop-less Inv-loop μ-loop
 loop-less c =
-    let n = rw (c .before .before .before .before .before .before .before .before .event .given .1) at (c .before .before .before .before .before .before .before .before .before .before .hear .ensures .next) in omega (arith, n .onward, n .inside)
+    let n = hears-as _ _ _ _ (c .before .before .before .before .before .before .before .before .before .before .hear .ensures) (c .before .before .before .before .before .before .before .before .event .given .1) .next in omega (arith, n .onward, n .inside)
 
 loop-again : tie.Need-loop-again Inv-loop μ-loop
 loop-again c =
-    let g = quiet-goes (c .before .before .before .before .before .before .before .before .before .before .before .before .loop .inv .4) _ _ (c .before .before .before .before .before .before .before .before .before .before .before .if1 .left) (sym (c .before .before .before .before .before .before .before .before .before .before .hear .ensures .heard) ∙ ap heardOf (c .before .before .before .before .before .before .before .before .event .given .1)) (rw (c .before .more .given .1) at (c .before .before .before .before .before .quick .ensures)) (rw (c .before .before .before .before .before .before .before .before .event .given .1) at (c .before .before .before .before .before .before .before .before .before .before .hear .ensures .next)) in
+    let g = quiet-goes (c .before .before .before .before .before .before .before .before .before .before .before .before .loop .inv .4) _ _ (c .before .before .before .before .before .before .before .before .before .before .before .if1 .left) (sym (hears-as _ _ _ _ (c .before .before .before .before .before .before .before .before .before .before .hear .ensures) (c .before .before .before .before .before .before .before .before .event .given .1) .heard)) (rw (c .before .more .given .1) at (c .before .before .before .before .before .quick .ensures)) (hears-as _ _ _ _ (c .before .before .before .before .before .before .before .before .before .before .hear .ensures) (c .before .before .before .before .before .before .before .before .event .given .1) .next) in
     let v = c .before .before .before .before .before .before .before .before .before .before .before .before .loop .inv in
     (c .before .before .before .before .before .quick .kept .1 .1 .1 .0 ∙ v .0, v .1, v .2, v .3, g)
 
 loop-less-2 : tie.Need-loop-less-2 Inv-loop μ-loop
 loop-less-2 c =
-    let n = rw (c .before .before .before .before .before .before .before .before .before .before .before .before .before .before .before .before .before .before .before .before .before .before .before .before .event .given .1) at (c .before .before .before .before .before .before .before .before .before .before .before .before .before .before .before .before .before .before .before .before .before .before .before .before .before .before .hear .ensures .next) in omega (arith, n .onward, n .inside)
+    let n = hears-as _ _ _ _ (c .before .before .before .before .before .before .before .before .before .before .before .before .before .before .before .before .before .before .before .before .before .before .before .before .before .before .hear .ensures) (c .before .before .before .before .before .before .before .before .before .before .before .before .before .before .before .before .before .before .before .before .before .before .before .before .event .given .1) .next in omega (arith, n .onward, n .inside)
 
 loop-again-2 : tie.Need-loop-again-2 Inv-loop μ-loop
 loop-again-2 c =
-    let g = turn-goes (c .before .before .before .before .before .before .before .before .before .before .before .before .before .before .before .before .before .before .before .before .before .before .before .before .before .before .before .before .loop .inv .4) _ _ (rw (c .before .before .before .before .before .before .before .before .before .before .before .before .before .before .before .before .before .enum-told3 .given .1) at (c .before .before .before .before .before .before .before .before .before .before .before .before .before .before .before .before .before .before .before .before .before .quick .ensures)) (c .before .before .before .before .before .before .before .before .before .before .before .before .before .before .before .before .before .before .before .before .before .before .before .before .before .before .before .if1 .left) (sym (c .before .before .before .before .before .before .before .before .before .before .before .before .before .before .before .before .before .before .before .before .before .before .before .before .before .before .hear .ensures .heard) ∙ ap heardOf (c .before .before .before .before .before .before .before .before .before .before .before .before .before .before .before .before .before .before .before .before .before .before .before .before .event .given .1)) (c .before .before .before .before .before .before .before .before .before .before .before .before .turn .ensures) _ (c .if2 .left) (rw (c .before .before .before .before .before .before .before .before .before .before .before .before .before .before .before .before .before .before .before .before .before .before .before .before .event .given .1) at (c .before .before .before .before .before .before .before .before .before .before .before .before .before .before .before .before .before .before .before .before .before .before .before .before .before .before .hear .ensures .next)) in
+    let g = turn-goes (c .before .before .before .before .before .before .before .before .before .before .before .before .before .before .before .before .before .before .before .before .before .before .before .before .before .before .before .before .loop .inv .4) _ _ (rw (c .before .before .before .before .before .before .before .before .before .before .before .before .before .before .before .before .before .enum-told3 .given .1) at (c .before .before .before .before .before .before .before .before .before .before .before .before .before .before .before .before .before .before .before .before .before .quick .ensures)) (c .before .before .before .before .before .before .before .before .before .before .before .before .before .before .before .before .before .before .before .before .before .before .before .before .before .before .before .if1 .left) (sym (hears-as _ _ _ _ (c .before .before .before .before .before .before .before .before .before .before .before .before .before .before .before .before .before .before .before .before .before .before .before .before .before .before .hear .ensures) (c .before .before .before .before .before .before .before .before .before .before .before .before .before .before .before .before .before .before .before .before .before .before .before .before .event .given .1) .heard)) (c .before .before .before .before .before .before .before .before .before .before .before .before .turn .ensures) _ (c .if2 .left) (hears-as _ _ _ _ (c .before .before .before .before .before .before .before .before .before .before .before .before .before .before .before .before .before .before .before .before .before .before .before .before .before .before .hear .ensures) (c .before .before .before .before .before .before .before .before .before .before .before .before .before .before .before .before .before .before .before .before .before .before .before .before .event .given .1) .next) in
     let v = c .before .before .before .before .before .before .before .before .before .before .before .before .before .before .before .before .before .before .before .before .before .before .before .before .before .before .before .before .loop .inv in
     let w = c .before .before .before .before .before .before .before .before .before .before .before .before .turn .kept in
     (w .1 .1 .1 .1 .0 ∙ c .before .before .before .before .before .before .before .before .before .before .before .before .before .before .before .before .before .before .before .before .before .quick .kept .1 .1 .1 .0 ∙ v .0, w .1 .1 .1 .1 .1 .0 ∙ v .1, w .1 .1 .1 .1 .1 .1 .0 ∙ v .2, w .1 .1 .1 .1 .1 .1 .1 .0 ∙ v .3, g)

@@ -1,17 +1,17 @@
--- `answers::turns::answered` meets its contract. Assumes nothing.
+-- `turns::answering::answered` meets its contract. Assumes nothing.
 use lib.ListN.{length}
 use Prim.Native.Nat.{_≤_}
 use mathlib.Core.Path.{sym, _∙_}
 use lib.Seq.{length-take-le}
 use native.Mathlib.Omega.{arith}
-use Rattle.answers.proofs.Turning.{no-line, a-line}
+use Rattle.turns.proofs.Turning.{no-line, a-line}
 use borrow.Author.Needs.{needs}
-use Rattle.answers.proofs.turns.answered.Statement.{statement}
-use Rattle.answers.proofs.turns.answered.Tie as tie
-use Rattle.answers.proofs.turns.answered.Reads as reads
-use Rattle.answers.proofs.turns.answered.Lts as lts
-use Rattle.answers.proofs.turns.after.Reads as after-reads
-use Rattle.answers.proofs.turns.sent.Reads as sent-reads
+use Rattle.turns.proofs.answering.answered.Statement.{statement}
+use Rattle.turns.proofs.answering.answered.Tie as tie
+use Rattle.turns.proofs.answering.answered.Reads as reads
+use Rattle.turns.proofs.answering.answered.Lts as lts
+use Rattle.turns.proofs.answering.after.Reads as after-reads
+use Rattle.turns.proofs.answering.sent.Reads as sent-reads
 use Rattle.tape.proofs.reply_line.Reads as reply-line-reads
 
 -- the reply lies in its room

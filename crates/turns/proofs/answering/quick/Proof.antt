@@ -1,11 +1,11 @@
--- `answers::turns::quick` meets its contract. Assumes nothing.
+-- `turns::answering::quick` meets its contract. Assumes nothing.
 use mathlib.Core.Path.{refl, sym, _∙_}
-use Rattle.answers.proofs.Turning.{quiet-character, quiet-poll}
+use Rattle.turns.proofs.Turning.{quiet-character, quiet-poll}
 use borrow.Author.Needs.{needs}
-use Rattle.answers.proofs.turns.quick.Statement.{statement}
-use Rattle.answers.proofs.turns.quick.Tie as tie
-use Rattle.answers.proofs.turns.quick.Reads as reads
-use Rattle.answers.proofs.turns.quick.Lts as lts
+use Rattle.turns.proofs.answering.quick.Statement.{statement}
+use Rattle.turns.proofs.answering.quick.Tie as tie
+use Rattle.turns.proofs.answering.quick.Reads as reads
+use Rattle.turns.proofs.answering.quick.Lts as lts
 use Rattle.line.proofs.characters.Frame.is_over.Reads as is-over-reads
 use Rattle.line.proofs.characters.Frame.with_character.Reads as with-character-reads
 

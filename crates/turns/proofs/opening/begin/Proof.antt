@@ -1,12 +1,13 @@
--- `answers::opening::begin` meets its contract. Assumes nothing.
+-- `turns::opening::begin` meets its contract. Assumes nothing.
 use borrow.Author.Tests.{not-true, not-false}
+use Rattle.turns.specs.Openings.{checked}
 use mathlib.Core.Path.{sym, _∙_}
-use Rattle.answers.proofs.Beginning.{not-plate, unchecked, in-order}
+use Rattle.turns.proofs.Beginning.{not-plate}
 use borrow.Author.Needs.{needs}
-use Rattle.answers.proofs.opening.begin.Statement.{statement}
-use Rattle.answers.proofs.opening.begin.Tie as tie
-use Rattle.answers.proofs.opening.begin.Reads as reads
-use Rattle.answers.proofs.opening.begin.Lts as lts
+use Rattle.turns.proofs.opening.begin.Statement.{statement}
+use Rattle.turns.proofs.opening.begin.Tie as tie
+use Rattle.turns.proofs.opening.begin.Reads as reads
+use Rattle.turns.proofs.opening.begin.Lts as lts
 use Rattle.line.proofs.plate.Plate.is_ok.Reads as is-ok-reads
 
 enum-known-event : tie.Need-enum-known-event
@@ -34,10 +35,12 @@ is-ok-requires : tie.Need-is-ok-requires
 is-ok-requires c κs = search needs
 
 returns-2 : tie.Need-returns-2
-returns-2 c = rw (c .before .before .before .event .given .1) (unchecked _ _ (sym (c .before .is-ok .ensures) ∙ not-true _ (c .if1 .taken)))
+unfolding checked
+returns-2 c = rw (c .before .before .before .event .given .1, sym (c .before .is-ok .ensures) ∙ not-true _ (c .if1 .taken))
 
 returns-3 : tie.Need-returns-3
-returns-3 c = rw (c .before .before .before .event .given .1) (in-order _ _ (sym (c .before .is-ok .ensures) ∙ not-false _ (c .if1 .left)))
+unfolding checked
+returns-3 c = rw (c .before .before .before .event .given .1, sym (c .before .is-ok .ensures) ∙ not-false _ (c .if1 .left))
 
 pub begin-spec : {M : Type 1} → statement M
 begin-spec =

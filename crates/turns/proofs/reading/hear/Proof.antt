@@ -1,11 +1,12 @@
--- `answers::turns::hear` meets its contract. Assumes nothing.
-use mathlib.Core.Path.{sym, _∙_}
-use Rattle.answers.proofs.Hearing.{not-yet, none-there, body-inside, past-it, said-there}
+-- `turns::reading::hear` meets its contract. Assumes nothing.
+use mathlib.Core.Path.{sym, ap, _∙_}
+use Rattle.turns.specs.Hearing.{toldBy}
+use Rattle.turns.proofs.Hearing.{body-inside, told-record}
 use borrow.Author.Needs.{needs}
-use Rattle.answers.proofs.turns.hear.Statement.{statement}
-use Rattle.answers.proofs.turns.hear.Tie as tie
-use Rattle.answers.proofs.turns.hear.Reads as reads
-use Rattle.answers.proofs.turns.hear.Lts as lts
+use Rattle.turns.proofs.reading.hear.Statement.{statement}
+use Rattle.turns.proofs.reading.hear.Tie as tie
+use Rattle.turns.proofs.reading.hear.Reads as reads
+use Rattle.turns.proofs.reading.hear.Lts as lts
 use Rattle.tape.proofs.event_of.Reads as event-of-reads
 use Rattle.tape.proofs.record.Cursor.read.Reads as read-reads
 
@@ -25,15 +26,15 @@ event-of-requires : tie.Need-event-of-requires
 event-of-requires c κs = body-inside _ _ _ _ _ _ (sym (c .before .before .before .read .ensures) ∙ c .before .kind .given .1)
 
 returns : tie.Need-returns
-returns c = not-yet _ _ (sym (c .before .before .read .ensures) ∙ c .enum-told .given .1)
+unfolding toldBy
+returns c = sym (ap (toldBy _) (sym (c .before .before .read .ensures) ∙ c .enum-told .given .1))
 
 returns-2 : tie.Need-returns-2
-returns-2 c = none-there _ _ (sym (c .before .before .read .ensures) ∙ c .enum-told2 .given .1)
+unfolding toldBy
+returns-2 c = sym (ap (toldBy _) (sym (c .before .before .read .ensures) ∙ c .enum-told2 .given .1))
 
 returns-3 : tie.Need-returns-3
-returns-3 c =
-    let e = sym (c .before .before .before .before .read .ensures) ∙ c .before .before .kind .given .1 in
-    record { heard = said-there _ _ _ _ _ _ e (c .event-of .ensures); next = past-it _ _ _ _ _ _ e }
+returns-3 c = told-record _ _ _ _ _ (sym (c .before .before .before .before .read .ensures) ∙ c .before .before .kind .given .1) (c .event-of .ensures)
 
 pub hear-spec : {M : Type 1} → statement M
 hear-spec =

@@ -1,17 +1,17 @@
--- `answers::turns::turn` meets its contract: each call of the board is the meaning's step. Assumes nothing.
+-- `turns::answering::turn` meets its contract: each call of the board is the meaning's step. Assumes nothing.
 use mathlib.Core.Path.{refl, sym, _∙_}
 use native.Mathlib.Omega.{arith}
 use Rattle.meaning.specs.Run.{closes}
-use Rattle.answers.proofs.Turning.{fitting, turns-answered, turns-silent, turns-bad, as-poll}
--- `answers::turns::turn` meets its contract: each call of the board is the meaning's step. Assumes nothing.
+use Rattle.turns.proofs.Turning.{fitting, turns-answered, turns-silent, turns-bad, as-poll}
+-- `turns::answering::turn` meets its contract: each call of the board is the meaning's step. Assumes nothing.
 use borrow.Author.Needs.{needs}
-use Rattle.answers.proofs.turns.turn.Statement.{statement}
-use Rattle.answers.proofs.turns.turn.Tie as tie
-use Rattle.answers.proofs.turns.turn.Reads as reads
-use Rattle.answers.proofs.turns.turn.Lts as lts
-use Rattle.answers.proofs.turns.after.Reads as after-reads
-use Rattle.answers.proofs.turns.answered.Reads as answered-reads
-use Rattle.answers.proofs.turns.silent.Reads as silent-reads
+use Rattle.turns.proofs.answering.turn.Statement.{statement}
+use Rattle.turns.proofs.answering.turn.Tie as tie
+use Rattle.turns.proofs.answering.turn.Reads as reads
+use Rattle.turns.proofs.answering.turn.Lts as lts
+use Rattle.turns.proofs.answering.after.Reads as after-reads
+use Rattle.turns.proofs.answering.answered.Reads as answered-reads
+use Rattle.turns.proofs.answering.silent.Reads as silent-reads
 use Rattle.board.proofs.character.Reads as character-reads
 use Rattle.board.proofs.fault.Reads as fault-reads
 use Rattle.board.proofs.measured.Reads as measured-reads

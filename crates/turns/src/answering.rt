@@ -1,4 +1,4 @@
-// One record of a running board: what it says, what the board answers, what is printed.
+// One record of a running board: what the board answers, what is printed.
 ghost use mathlib.Core.Path.{_≡_};
 ghost use mathlib.Core.Bool.{true, false};
 ghost use Prim.Native.Nat.{_+_, _≤_};
@@ -6,22 +6,13 @@ ghost use lib.ListN.{length};
 ghost use Rattle.line.specs.Line.{Fits};
 ghost use Rattle.tape.specs.Reader.{saidOf, Printed};
 ghost use Rattle.tape.specs.Passes.{longestLine};
-ghost use Rattle.answers.specs.Turns.{Hears, Sound, Quickens, Turns, sentOf, Fitting, Answered};
+ghost use Rattle.turns.specs.Turns.{Sound, Quickens, Turns, sentOf, Fitting, Answered};
 use board::Board;
 use board::Outcome;
 use board::Stepped;
 use line::Frame;
 use line::Plate;
-use tape::Cursor;
 use tape::Event;
-use tape::Read;
-
-// What stands at a place of the window: not yet a whole record; no record; what a record says, and the place past it.
-pub enum Heard {
-    Nothing,
-    Broken,
-    Said { event: Event, next: usize },
-}
 
 // A record that closes no frame went into the frame's numbers; any other is slow.
 pub enum Pace {
@@ -34,29 +25,6 @@ pub struct Turned {
     pub board: Board,
     pub used: usize,
     pub over: bool,
-}
-
-// The longest record of the kinds, a character's, counts 8 bytes.
-pub fn hear(window: &[u8], at: usize) -> Heard
-    ensures { λ r. ⌜ Hears at (now (window .entry)) r ⌝ }
-{
-    let cursor = Cursor { at };
-    match cursor.read(window, 8) {
-        Read::More => Heard::Nothing,
-        Read::Bad => Heard::Broken,
-        Read::Record {
-            kind,
-            start,
-            length,
-            next,
-        } => {
-            let event = tape::event_of(kind, window, start, length);
-            Heard::Said {
-                event,
-                next: next.at,
-            }
-        }
-    }
 }
 
 // Most records are characters inside a frame: they touch the frame's numbers and a kept byte, and no refusal has to be tried.

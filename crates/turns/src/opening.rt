@@ -1,12 +1,12 @@
 // The first record: the plate (01, "plate .., first and once").
 ghost use mathlib.Core.Path.{_≡_};
-ghost use Prim.Native.Nat.{_<_};
 ghost use Rattle.tape.specs.Reader.{saidOf};
-ghost use Rattle.answers.specs.Openings.{Opens, begunOf};
+ghost use Rattle.turns.specs.Hearing.{toldAt};
+ghost use Rattle.turns.specs.Openings.{begunBy, openedBy};
+use crate::reading::Heard;
+use crate::reading::hear;
 use line::Plate;
-use tape::Cursor;
 use tape::Event;
-use tape::Read;
 
 // A plate within its limits, and the place past it; not yet a whole record; anything else.
 pub enum Opened {
@@ -16,7 +16,7 @@ pub enum Opened {
 }
 
 fn begin(event: Event, next: usize) -> Opened
-    ensures { λ r. ⌜ r ≡ begunOf event next ⌝ }
+    ensures { λ r. ⌜ r ≡ begunBy (saidOf event) next ⌝ }
 {
     let Event::Plate {
         total,
@@ -42,20 +42,11 @@ fn begin(event: Event, next: usize) -> Opened
 }
 
 pub fn open(window: &[u8]) -> Opened
-    ensures { λ r. ⌜ Opens (now (window .entry)) r ⌝ }
+    ensures { λ r. ⌜ r ≡ openedBy (toldAt 0 (now (window .entry))) ⌝ }
 {
-    let cursor = Cursor { at: 0 };
-    match cursor.read(window, 8) {
-        Read::More => Opened::More,
-        Read::Bad => Opened::Bad,
-        Read::Record {
-            kind,
-            start,
-            length,
-            next,
-        } => {
-            let event = tape::event_of(kind, window, start, length);
-            begin(event, next.at)
-        }
+    match hear(window, 0) {
+        Heard::Nothing => Opened::More,
+        Heard::Broken => Opened::Bad,
+        Heard::Said { event, next } => begin(event, next),
     }
 }

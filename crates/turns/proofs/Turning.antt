@@ -40,8 +40,8 @@ use Rattle.tape.specs.Reader.{saidOf, Printed}
 use Rattle.tape.specs.Passes.{longestLine}
 use Rattle.tape.proofs.Rooms.{put-nil}
 use Rattle.tape.proofs.kinds.Event.{the-type}
-use Rattle.answers.specs.Turns.{Sound, runs, Quiet, stageAfter, Turns, sentOf, Fitting, Answered}
-use Rattle.answers.specs.declared.turns.Turned.{Turned}
+use Rattle.turns.specs.Turns.{Sound, runs, Quiet, stageAfter, Turns, sentOf, Fitting, Answered}
+use Rattle.turns.specs.declared.answering.Turned.{Turned}
 
 yes-it-is : (b : Bool) → T b → b ≡ true
 yes-it-is true h = refl

@@ -16,39 +16,13 @@ use Rattle.board.specs.declared.limits.Outcome.the-variants.{Refused, Still, Ov
 use Rattle.board.specs.declared.limits.Stepped.{Stepped}
 use Rattle.board.specs.Board.{stateOf}
 use Rattle.board.specs.Promises.{Within}
-use Rattle.tape.specs.declared.kinds.Event.{Event}
-use Rattle.tape.specs.Records.{wholeLength}
 use Rattle.tape.specs.Kinds.{Said, unfit}
 use Rattle.tape.specs.Answers.{Stage, running, ended, Turn, turn, printedOf}
 use Rattle.tape.specs.Reader.{saidOf, Printed}
-use Rattle.tape.specs.Passes as passes
 use Rattle.tape.specs.Passes.{longestLine}
-use Rattle.answers.specs.declared.turns.Heard.{Heard}
-use Rattle.answers.specs.declared.turns.Heard.the-variants.{Nothing, Broken, Said as Tells}
-use Rattle.answers.specs.declared.turns.Pace.{Pace}
-use Rattle.answers.specs.declared.turns.Pace.the-variants.{Went, Slow}
-use Rattle.answers.specs.declared.turns.Turned.{Turned}
-
--- what the code heard
-abbrev pub heardOf : Heard → passes.Heard
-heardOf Nothing = passes.nothing
-heardOf Broken = passes.said unfit
-heardOf (Tells e n) = passes.said (saidOf e)
-
--- the place past a whole record
-pub record Past (at : ℕ) (window : List ℕ) (next : ℕ) : Type 0 where
-  pub whole : next ≡ at + wholeLength (drop at window)
-  pub onward : at < next
-  pub inside : next ≤ length window
-
-abbrev pub Onward : ℕ → List ℕ → Heard → Type 0
-Onward at window Nothing = Unit
-Onward at window Broken = Unit
-Onward at window (Tells e n) = Past at window n
-
-pub record Hears (at : ℕ) (window : List ℕ) (r : Heard) : Type 0 where
-  pub heard : heardOf r ≡ passes.heard (drop at window)
-  pub next : Onward at window r
+use Rattle.turns.specs.declared.answering.Pace.{Pace}
+use Rattle.turns.specs.declared.answering.Pace.the-variants.{Went, Slow}
+use Rattle.turns.specs.declared.answering.Turned.{Turned}
 
 -- R1 to R3 do not apply
 pub record Sound (p : Plate) (b : Board) (kept m w : List ℕ) : Type 0 where

@@ -1,35 +1,36 @@
--- The first record of a tape. Assumes nothing.
-use Prim.Native.Nat.{ℕ, _+_, _≤_, _<_}
+-- The first record of a tape (01, "plate .., first and once"). Assumes nothing.
+use Prim.Native.Nat.{ℕ, _≤_}
 use mathlib.Core.Path.{_≡_}
-use mathlib.Core.Bool.{Bool, true, false}
+use mathlib.Core.Bool.{true}
 use mathlib.Core.List.{List, []}
 use lib.ListN.{length}
 use Rattle.meaning.specs.Bytes.{pick, zeros}
+use Rattle.meaning.specs.State as meaning
 use Rattle.meaning.specs.State.{plateOk, fresh}
 use Rattle.meaning.specs.Fields.{imageLength}
 use Rattle.line.specs.declared.plate.Plate.{Plate}
 use Rattle.line.specs.Line.{plateOf}
-use Rattle.tape.specs.declared.kinds.Event.{Event}
-use Rattle.tape.specs.declared.kinds.Event.the-variants as event
 use Rattle.tape.specs.Records.{wholeLength}
-use Rattle.tape.specs.Kinds.{Said}
+use Rattle.tape.specs.Kinds.{Said, plate, call, unfit}
 use Rattle.tape.specs.Answers.{opening, running, bad, turn}
-use Rattle.tape.specs.Reader.{saidOf}
 use Rattle.tape.specs.Passes as passes
-use Rattle.answers.specs.declared.opening.Opened.{Opened}
-use Rattle.answers.specs.declared.opening.Opened.the-variants as opened
+use Rattle.turns.specs.Hearing.{Told, not-yet, broken, tells}
+use Rattle.turns.specs.declared.opening.Opened.{Opened}
+use Rattle.turns.specs.declared.opening.Opened.the-variants as opened
 
-unfoldable pub checked : Plate → ℕ → Opened
-checked p next = pick (plateOk (plateOf p)) (opened.Plate p next) opened.Bad
+unfoldable pub checked : meaning.Plate → ℕ → Opened
+checked p next =
+    pick (plateOk p) (opened.Plate (record { total = p .total; bits = p .bits; address = p .address; ticks = p .ticks; pause = p .pause }) next) opened.Bad
 
-abbrev pub begunOf : Event → ℕ → Opened
-begunOf (event.Plate t p a b u) next = checked (record { total = t; bits = p; address = a; ticks = b; pause = u }) next
-begunOf (event.Character t v f) next = opened.Bad
-begunOf (event.Poll t) next = opened.Bad
-begunOf (event.Measured n) next = opened.Bad
-begunOf (event.Fault c) next = opened.Bad
-begunOf event.PowerOn next = opened.Bad
-begunOf event.Unfit next = opened.Bad
+abbrev pub begunBy : Said → ℕ → Opened
+begunBy (plate p) next = checked p next
+begunBy (call g) next = opened.Bad
+begunBy unfit next = opened.Bad
+
+abbrev pub openedBy : Told → Opened
+openedBy not-yet = opened.More
+openedBy broken = opened.Bad
+openedBy (tells x next) = begunBy x next
 
 -- the window begins with a good plate
 pub record Begins (window : List ℕ) (p : Plate) (next : ℕ) (x : Said) : Type 0 where
