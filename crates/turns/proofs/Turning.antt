@@ -1,11 +1,11 @@
 -- What one record does to a running board. Assumes nothing.
 use Prim.Native.Nat.{ℕ, _+_, _-_, _≤_, _<_}
 use mathlib.Core.Path.{_≡_, refl, sym, ap, _∙_}
-use mathlib.Core.Bool.{Bool, true, false}
+use mathlib.Core.Bool.{Bool, true, false, not}
 use mathlib.Core.List.{List, [], _∷_}
 use native.Mathlib.Omega.{arith}
 use native.Mathlib.Nat.{add-zero}
-use lib.ListN.{length, take, drop}
+use lib.ListN.{length, take, drop, take-append-drop}
 use lib.Seq.{length-take-le, take-append-seam}
 use lib.Dec.{T}
 use types.Run.{OneOf, miss}
@@ -20,7 +20,7 @@ use Rattle.meaning.proofs.Puts.{length-put}
 use Rattle.meaning.proofs.Calls.{put-front}
 use Rattle.line.specs.declared.plate.Plate.{Plate}
 use Rattle.line.specs.declared.characters.Frame.{Frame}
-use Rattle.line.specs.Line.{plateOf, lineOf, Extends}
+use Rattle.line.specs.Line.{plateOf, lineOf, Extends, Fits}
 use Rattle.commands.specs.declared.state.State.{State}
 use Rattle.commands.specs.State.{stateWith}
 use Rattle.board.specs.declared.limits.Board.{Board}
@@ -28,24 +28,34 @@ use Rattle.board.specs.declared.limits.Outcome.the-variants.{Over, Still}
 use Rattle.board.specs.declared.limits.Stepped.{Stepped}
 use Rattle.board.specs.Board.{stateOf, Steps}
 use Rattle.board.specs.Promises.{DoesStep, Within}
+use Rattle.board.proofs.Stepping.{held-on}
 use Rattle.board.proofs.Promises.{does-step, unrefused, stays-within}
 use Rattle.tape.specs.declared.kinds.Event.{Event}
 use Rattle.tape.specs.declared.kinds.Event.the-variants as event
-use Rattle.tape.specs.Kinds.{Said, call}
+use Rattle.tape.specs.Kinds.{Said, plate, call, unfit}
 use Rattle.tape.specs.Text as text
 use Rattle.tape.specs.Text.{badLine}
 use Rattle.tape.specs.Answers as answers
-use Rattle.tape.specs.Answers.{running, Turn, turn, stepped, printedOf}
+use Rattle.tape.specs.Answers.{Stage, running, turn, stepped, printedOf}
 use Rattle.tape.specs.Reader.{saidOf, Printed}
 use Rattle.tape.specs.Passes.{longestLine}
 use Rattle.tape.proofs.Rooms.{put-nil}
 use Rattle.tape.proofs.kinds.Event.{the-type}
-use Rattle.turns.specs.Turns.{Sound, runs, Quiet, stageAfter, Turns, sentOf, Fitting, Answered}
+use Rattle.turns.specs.Turns.{Sound, quickly, Quiet, Turns, sentOf, Fitting, Answered}
 use Rattle.turns.specs.declared.answering.Turned.{Turned}
 
 yes-it-is : (b : Bool) → T b → b ≡ true
 yes-it-is true h = refl
 yes-it-is false h = absurd h
+
+-- a call that closes nothing brings no reply
+silent-still : (p : meaning.Plate) (s : meaning.State) (m : List ℕ) (g : Call) → closes p s g ≡ false → (step p s m g) .reply ≡ []
+unfolding step closes upTo still
+silent-still p s m (character t v bad) e = rw e
+silent-still p s m (poll t) e = rw e
+silent-still p s m (measured n) e = refl
+silent-still p s m (fault c) e = refl
+silent-still p s m power-on e = refl
 
 -- a character that closes no frame
 module _ (p : Plate) (f g : Frame) (kept kept′ : List ℕ) (t v : ℕ) (bad : Bool)
@@ -57,9 +67,13 @@ module _ (p : Plate) (f g : Frame) (kept kept′ : List ℕ) (t v : ℕ) (bad : 
   grows s m = rw (stays s, grown .line)
 
   pub quiet-character : Quiet p f kept (call (character t v bad)) g kept′
-  unfolding turn stepped printedOf step upTo still taken withLine
+  unfolding turn stepped printedOf step upTo still taken withLine closes
   quiet-character = record {
+    quick = λ s. ap not (stays s);
     turned = λ s m place. rw (stays s, grown .line);
+    silent = λ s m. silent-still (plateOf p) (stateWith s (lineOf f kept)) m (character t v bad) (stays s);
+    bytes = grown .bytes ∙ ap (λ (l : meaning.Line). put kept 0 (l .kept)) (sym (grown .line));
+    few = grown .few;
     within = λ s m h. record {
       plate = h .plate;
       state = rw (← grows s m)
@@ -70,10 +84,31 @@ module _ (p : Plate) (f g : Frame) (kept kept′ : List ℕ) (t v : ℕ) (bad : 
     };
   }
 
-module _ (p : Plate) (f : Frame) (kept : List ℕ) (t : ℕ) (stays : (s : State) → over (plateOf p) (stateWith s (lineOf f kept)) t ≡ false) where
+-- the front of a list put where it stands
+front-stays : (n : ℕ) (l : List ℕ) → n ≤ length l → l ≡ put l 0 (take n l)
+front-stays n l h = rw (put-front l (take n l), length-take-le n l h) (sym (take-append-drop n l))
+
+module _ (p : Plate) (f : Frame) (kept : List ℕ) (t : ℕ) (fits : Fits f kept) (stays : (s : State) → over (plateOf p) (stateWith s (lineOf f kept)) t ≡ false) where
   pub quiet-poll : Quiet p f kept (call (poll t)) f kept
-  unfolding turn stepped printedOf step upTo still
-  quiet-poll = record { turned = λ s m place. rw (stays s); within = λ s m h. h }
+  unfolding turn stepped printedOf step upTo still closes
+  quiet-poll = record {
+    quick = λ s. ap not (stays s);
+    turned = λ s m place. rw (stays s);
+    silent = λ s m. silent-still (plateOf p) (stateWith s (lineOf f kept)) m (poll t) (stays s);
+    bytes = front-stays (f .len) kept (omega (arith, fits .few, fits .all));
+    few = fits .few;
+    within = λ s m h. h;
+  }
+
+-- a record of another kind
+pub other-kind : (e : Event) (p : meaning.Plate) (s : meaning.State) → OneOf (0 ∷ 3 ∷ 4 ∷ 5 ∷ 6 ∷ []) (tagOf the-type e) → quickly p s (saidOf e) ≡ false
+other-kind (event.Plate t q a b u) p s k = refl
+other-kind (event.Character t v f) p s k = absurd (miss (0 ∷ 3 ∷ 4 ∷ 5 ∷ 6 ∷ []) 1 tt k)
+other-kind (event.Poll t) p s k = absurd (miss (0 ∷ 3 ∷ 4 ∷ 5 ∷ 6 ∷ []) 2 tt k)
+other-kind (event.Measured n) p s k = refl
+other-kind (event.Fault c) p s k = refl
+other-kind event.PowerOn p s k = refl
+other-kind event.Unfit p s k = refl
 
 printed-line : (tick : ℕ) (l : List ℕ) → 0 < length l → printedOf (poll tick) l ≡ text.lineOf tick l
 unfolding printedOf
@@ -101,15 +136,6 @@ module _ (tick : ℕ) (st : Stepped) (w out : List ℕ) (used n : ℕ) (r : Turn
         over = ap (λ (x : Turned). x .over) e;
         printed = rw (k, e) p;
       }
-
--- a call that closes nothing brings no reply
-silent-still : (p : meaning.Plate) (s : meaning.State) (m : List ℕ) (g : Call) → closes p s g ≡ false → (step p s m g) .reply ≡ []
-unfolding step closes upTo still
-silent-still p s m (character t v bad) e = rw e
-silent-still p s m (poll t) e = rw e
-silent-still p s m (measured n) e = refl
-silent-still p s m (fault c) e = refl
-silent-still p s m power-on e = refl
 
 -- a call of the board, unrefused
 module _ (p : Plate) (b : Board) (kept m w : List ℕ) (g : Call) (r : Stepped) (kept′ m′ w′ : List ℕ)
@@ -150,49 +176,64 @@ module _ (p : Plate) (b : Board) (kept m w : List ℕ) (g : Call) (r : Stepped) 
     space = h;
   }
 
-  stage-is : (q : Turned) (place : ℕ) → q .board ≡ r .board → q .over ≡ false
-      → stageAfter (q .over) (running (plateOf p) (stateOf (q .board) kept′) m′) ≡ (turn (running (plateOf p) (stateOf b kept) m) place (call g)) .stage
+  -- what is kept of the frame stands in front of its places, the rest is untouched
+  kept-is : kept′ ≡ put kept 0 ((step (plateOf p) (stateOf b kept) m g) .state .line .kept)
+  kept-is =
+      let h = held-on (plateOf p) b kept m w g (unrefused (plateOf p) b kept m (length w) g (sound .within) (sound .room)) in rw h at (steps .bytes)
+
+  abbrev here : Stage
+  here = running (plateOf p) (stateOf b kept) m
+
+  turned-so : {q : Turned} {out out′ : List ℕ} {used : ℕ} (place : ℕ) → q .board ≡ r .board → q .over ≡ false → Printed (printedOf g reply) out used (q .used) out′
+      → Turns p here place (call g) kept w out used q kept′ m′ w′ out′
   unfolding turn stepped
-  stage-is q place e o = rw (o, e, done .state, done .memory)
+  turned-so {q} place e o printed = record {
+    printed = printed;
+    over = o;
+    stage = rw (e, done .state, done .memory);
+    bytes = kept-is;
+    room = done .room;
+    sound = rw e still-sound;
+  }
 
   -- a character or a poll, and what is printed of it
   pub turns-answered : {q : Turned} {out out′ : List ℕ} {used : ℕ} (tick place : ℕ) → ((l : List ℕ) → printedOf (poll tick) l ≡ printedOf g l) → Answered tick r w′ out used q out′
-      → Turns p b place (call g) kept m out used q kept′ m′ w′ out′
-  unfolding turn stepped
-  turns-answered {q} tick place same a = record {
-    printed = rw (heard-reply, same) at (a .printed);
-    stage = stage-is q place (a .board) (a .over);
-    sound = rw (a .board) still-sound;
-  }
+      → Turns p here place (call g) kept w out used q kept′ m′ w′ out′
+  turns-answered tick place same a = turned-so place (a .board) (a .over) (rw (heard-reply, same) at (a .printed))
 
   -- another call: nothing is printed
   pub turns-silent : {q : Turned} {out : List ℕ} {used : ℕ} (place : ℕ) → closes (plateOf p) (stateOf b kept) g ≡ false → q ≡ record { board = r .board; used = used; over = false } → used ≤ length out
-      → Turns p b place (call g) kept m out used q kept′ m′ w′ out
-  unfolding turn stepped printedOf
-  turns-silent {q} {out} {used} place e k h = record {
-    printed = rw (silent-still (plateOf p) (stateOf b kept) m g e, k) (record { next = sym (add-zero used); bytes = sym (put-nil out used); within = h });
-    stage = stage-is q place (ap (λ (x : Turned). x .board) k) (ap (λ (x : Turned). x .over) k);
-    sound = rw k still-sound;
-  }
+      → Turns p here place (call g) kept w out used q kept′ m′ w′ out
+  unfolding printedOf
+  turns-silent {q} {out} {used} place e k h =
+      turned-so place (ap (λ (x : Turned). x .board) k) (ap (λ (x : Turned). x .over) k)
+      (rw (silent-still (plateOf p) (stateOf b kept) m g e, k) (record { next = sym (add-zero used); bytes = sym (put-nil out used); within = h }))
 
 -- a second plate, or a record that fits nothing
-turn-bad : (e : Event) (p : meaning.Plate) (s : meaning.State) (m : List ℕ) (place : ℕ) → OneOf (0 ∷ 6 ∷ []) (tagOf the-type e) → turn (running p s m) place (saidOf e) ≡ answers.bad place
-unfolding turn
-turn-bad (event.Plate t p a b u) q s m place k = refl
-turn-bad (event.Character t v f) q s m place k = absurd (miss (0 ∷ 6 ∷ []) 1 tt k)
-turn-bad (event.Poll t) q s m place k = absurd (miss (0 ∷ 6 ∷ []) 2 tt k)
-turn-bad (event.Measured n) q s m place k = absurd (miss (0 ∷ 6 ∷ []) 3 tt k)
-turn-bad (event.Fault c) q s m place k = absurd (miss (0 ∷ 6 ∷ []) 4 tt k)
-turn-bad event.PowerOn q s m place k = absurd (miss (0 ∷ 6 ∷ []) 5 tt k)
-turn-bad event.Unfit q s m place k = refl
+bad-kind : (P : Said → Type 0) → ((q : meaning.Plate) → P (plate q)) → P unfit → (e : Event) → OneOf (0 ∷ 6 ∷ []) (tagOf the-type e) → P (saidOf e)
+bad-kind P i j (event.Plate t p a b u) k = i _
+bad-kind P i j (event.Character t v f) k = absurd (miss (0 ∷ 6 ∷ []) 1 tt k)
+bad-kind P i j (event.Poll t) k = absurd (miss (0 ∷ 6 ∷ []) 2 tt k)
+bad-kind P i j (event.Measured n) k = absurd (miss (0 ∷ 6 ∷ []) 3 tt k)
+bad-kind P i j (event.Fault c) k = absurd (miss (0 ∷ 6 ∷ []) 4 tt k)
+bad-kind P i j event.PowerOn k = absurd (miss (0 ∷ 6 ∷ []) 5 tt k)
+bad-kind P i j event.Unfit k = j
 
-pub turns-bad : (p : Plate) (b : Board) (kept m w out out′ : List ℕ) (used end place : ℕ) (e : Event) (q : Turned) → OneOf (0 ∷ 6 ∷ []) (tagOf the-type e)
-    → Sound p b kept m w → Printed (badLine place) out used end out′ → q ≡ record { board = b; used = end; over = true }
-    → Turns p b place (saidOf e) kept m out used q kept m w out′
-unfolding answers.bad
-turns-bad p b kept m w out out′ used end place e q k sound printed d =
-    let t = turn-bad e (plateOf p) (stateOf b kept) m place k in
-    record { printed = rw (t, d) printed; stage = rw (t, d); sound = rw d sound }
+module _ (p : Plate) (b : Board) (kept m w out out′ : List ℕ) (used end place : ℕ) (q : Turned)
+    (sound : Sound p b kept m w) (printed : Printed (badLine place) out used end out′) (d : q ≡ record { board = b; used = end; over = true }) where
+  abbrev Bad : Said → Type 0
+  Bad x = Turns p (running (plateOf p) (stateOf b kept) m) place x kept w out used q kept m w out′
+
+  bad-plate : (x : meaning.Plate) → Bad (plate x)
+  unfolding turn answers.bad
+  bad-plate x = rw d (record { printed = printed; over = refl; stage = refl; bytes = sym (put-nil kept 0); room = sym (put-nil w 0); sound = sound })
+
+  bad-unfit : Bad unfit
+  unfolding turn answers.bad
+  bad-unfit = rw d (record { printed = printed; over = refl; stage = refl; bytes = sym (put-nil kept 0); room = sym (put-nil w 0); sound = sound })
+
+  pub turns-bad : (e : Event) → OneOf (0 ∷ 6 ∷ []) (tagOf the-type e) → Bad (saidOf e)
+  turns-bad e k = bad-kind Bad bad-plate bad-unfit e k
 
 -- the line of a character is that of a poll at its tick
 pub as-poll : (tick v : ℕ) (bad : Bool) (l : List ℕ) → printedOf (poll tick) l ≡ printedOf (character tick v bad) l

@@ -3,7 +3,9 @@ ghost use mathlib.Core.Path.{_≡_};
 ghost use mathlib.Core.Bool.{true, false};
 ghost use Prim.Native.Nat.{_+_, _≤_};
 ghost use lib.ListN.{length};
-ghost use Rattle.line.specs.Line.{Fits};
+ghost use Rattle.line.specs.Line.{plateOf, Fits};
+ghost use Rattle.board.specs.Board.{stateOf};
+ghost use Rattle.tape.specs.Answers.{running};
 ghost use Rattle.tape.specs.Reader.{saidOf, Printed};
 ghost use Rattle.tape.specs.Passes.{longestLine};
 ghost use Rattle.turns.specs.Turns.{Sound, Quickens, Turns, sentOf, Fitting, Answered};
@@ -106,7 +108,7 @@ pub fn turn(
 ) -> Turned
     requires { ⌜ Sound plate board (now kept) (now memory) (now reply) ⌝ }
     requires { ⌜ used + longestLine ≤ length (now out) ⌝ }
-    ensures { λ r. ⌜ Turns plate board place (saidOf event) (now (kept .entry)) (now (memory .entry)) (now (out .entry)) used r (now (kept .exit)) (now (memory .exit)) (now (reply .exit)) (now (out .exit)) ⌝ }
+    ensures { λ r. ⌜ Turns plate (running (plateOf plate) (stateOf board (now (kept .entry))) (now (memory .entry))) place (saidOf event) (now (kept .entry)) (now (reply .entry)) (now (out .entry)) used r (now (kept .exit)) (now (memory .exit)) (now (reply .exit)) (now (out .exit)) ⌝ }
 {
     match event {
         Event::Character {

@@ -3,7 +3,6 @@ use mathlib.Core.Path.{refl, sym, _∙_}
 use native.Mathlib.Omega.{arith}
 use Rattle.meaning.specs.Run.{closes}
 use Rattle.turns.proofs.Turning.{fitting, turns-answered, turns-silent, turns-bad, as-poll}
--- `turns::answering::turn` meets its contract: each call of the board is the meaning's step. Assumes nothing.
 use borrow.Author.Needs.{needs}
 use Rattle.turns.proofs.answering.turn.Statement.{statement}
 use Rattle.turns.proofs.answering.turn.Tie as tie
@@ -122,7 +121,7 @@ same-length-9 : tie.Need-same-length-9
 same-length-9 c = search needs
 
 returns-6 : tie.Need-returns-6
-returns-6 c = turns-bad _ _ _ _ _ _ _ _ _ _ (c .before .before .before .before .before .before .before .before .before .before .args .event) _ (c .before .before .before .before .before .match .keys6) (c .before .before .before .before .before .before .before .before .before .before .pre .0) (c .before .before .before .bad-line .ensures) (c .after .ensures)
+returns-6 c = turns-bad _ _ _ _ _ _ _ _ _ _ _ (c .before .before .before .before .before .before .before .before .before .before .pre .0) (c .before .before .before .bad-line .ensures) (c .after .ensures) (c .before .before .before .before .before .before .before .before .before .before .args .event) (c .before .before .before .before .before .match .keys6)
 
 pub turn-spec : {M : Type 1} → statement M
 turn-spec =
