@@ -2,3 +2,4 @@
 pub mod Hearing
 pub mod Beginning
 mod Turning
+pub mod Tight
