@@ -10,6 +10,7 @@ ghost use Rattle.tape.specs.Answers.{running};
 ghost use Rattle.tape.specs.Passes.{pass, closing};
 ghost use Rattle.tape.specs.Reader.{Printed};
 ghost use Rattle.turns.specs.Turns.{Sound};
+ghost use Rattle.answers.specs.Holding.{holds, heldBy};
 ghost use Rattle.answers.specs.Sessions.{stageOf, phaseAfter, Plays, Playable, GoesOn, Refuses, Ready, Eats};
 use crate::session::Phase;
 use crate::session::Session;
@@ -68,7 +69,7 @@ fn play(
 ) -> Played
     requires { ⌜ Sound plate first (now kept) (now memory) (now reply) ⌝ }
     requires { ⌜ (from ≤ length (now window)) × (start ≤ length (now out)) × (place + length (now window) < 2 ^ 64) ⌝ }
-    ensures { λ r. ⌜ Plays plate (pass (suc (length (now (window .entry)))) (length (now (out .entry)) - start) (running (plateOf plate) (stateOf first (now (kept .entry))) (now (memory .entry))) (place + from) (drop from (now (window .entry)))) from (now (window .entry)) (now (out .entry)) start r (now (kept .exit)) (now (memory .exit)) (now (reply .exit)) (now (out .exit)) ⌝ }
+    ensures { λ r. ⌜ Plays plate (pass (suc (length (now (window .entry)))) (length (now (out .entry)) - start) (running (plateOf plate) (stateOf first (now (kept .entry))) (now (memory .entry))) (place + from) (drop from (now (window .entry)))) (heldBy (suc (length (now (window .entry)))) (length (now (out .entry)) - start) (place + from) (drop from (now (window .entry))) (holds (running (plateOf plate) (stateOf first (now (kept .entry))) (now (memory .entry))) (now (kept .entry)) (now (reply .entry)))) from (now (window .entry)) (now (out .entry)) start r (now (kept .exit)) (now (memory .exit)) (now (reply .exit)) (now (out .exit)) ⌝ }
 {
     let mut state = first.state;
     let mut frame = first.frame;
@@ -164,7 +165,7 @@ fn go_on(
     used: usize,
 ) -> Eaten
     requires { ⌜ Playable plate board place (now window) from (now kept) (now memory) (now reply) (now out) used ⌝ }
-    ensures { λ r. ⌜ GoesOn plate board place (now (window .entry)) from (now (kept .entry)) (now (memory .entry)) (now (out .entry)) used r (now (kept .exit)) (now (memory .exit)) (now (reply .exit)) (now (out .exit)) ⌝ }
+    ensures { λ r. ⌜ GoesOn plate board place (now (window .entry)) from (now (kept .entry)) (now (memory .entry)) (now (reply .entry)) (now (out .entry)) used r (now (kept .exit)) (now (memory .exit)) (now (reply .exit)) (now (out .exit)) ⌝ }
 {
     let size = image_length(plate.total);
     let end = play(
@@ -224,7 +225,7 @@ pub fn eat(
     used: usize,
 ) -> Eaten
     requires { ⌜ Ready session (now window) (now kept) (now memory) (now reply) (now out) used ⌝ }
-    ensures { λ r. ⌜ Eats session (now (window .entry)) (now (kept .entry)) (now (memory .entry)) (now (out .entry)) used r (now (kept .exit)) (now (memory .exit)) (now (reply .exit)) (now (out .exit)) ⌝ }
+    ensures { λ r. ⌜ Eats session (now (window .entry)) (now (kept .entry)) (now (memory .entry)) (now (reply .entry)) (now (out .entry)) used r (now (kept .exit)) (now (memory .exit)) (now (reply .exit)) (now (out .exit)) ⌝ }
 {
     let phase = session.phase;
     let place = session.place;

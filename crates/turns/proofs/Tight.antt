@@ -54,7 +54,7 @@ stateIn s opening = s
 stateIn s (running p t m) = t
 stateIn s ended = s
 
-not-both : true ≡ false → ⊥
+pub not-both : true ≡ false → ⊥
 not-both e = subst (λ (b : Bool). T b) e tt
 
 module _ (p : Plate) (f : Frame) (kept : List ℕ) (x : Said) (s : State) (all : length kept ≡ 135) where

@@ -2,7 +2,6 @@
 use mathlib.Core.Path.{_≡_, sym, _∙_}
 use Rattle.turns.proofs.Beginning.{opens-as}
 use Rattle.answers.proofs.Eating.{at-work, playable, eats-on, eats-full, eats-more, eats-bad, fresh-playable, eats-plate}
--- `answers::passes::eat` meets its contract. Assumes nothing.
 use borrow.Author.Needs.{needs}
 use Rattle.answers.proofs.passes.eat.Statement.{statement}
 use Rattle.answers.proofs.passes.eat.Tie as tie
@@ -46,7 +45,7 @@ stopped-requires : tie.Need-stopped-requires
 stopped-requires c κs = search needs
 
 returns-2 : tie.Need-returns-2
-returns-2 c = eats-full _ _ _ _ _ _ _ (c .before .before .before .before .before .before .before .before .before .before .pre) _ (c .before .if1 .taken) (c .stopped .ensures)
+returns-2 c = eats-full _ _ _ _ _ _ _ (c .before .before .before .before .before .before .before .before .before .before .pre) (c .before .before .enum-told .given .1) _ (c .before .if1 .taken) (c .stopped .ensures)
 
 open-requires : tie.Need-open-requires
 open-requires c κs = search needs
@@ -75,7 +74,7 @@ go-on-requires-2 c κs =
     fresh-playable _ _ _ _ _ _ _ (c .before .before .before .before .before .before .before .before .before .before .before .before .before .before .before .before .before .before .pre) (c .before .before .before .before .before .before .before .before .before .before .enum-told .given .1) _ _ _ (o .1) _ (c .before .before .before .before .fresh .ensures)
 
 returns-3 : tie.Need-returns-3
-returns-3 c = eats-more _ _ _ _ _ _ _ (c .before .before .before .before .before .before .before .before .before .before .before .before .before .pre) _ (c .before .before .before .before .if1 .left) (opens-as _ _ _ (c .before .before .before .open .ensures) (c .before .enum-told2 .given .1)) (c .stopped2 .ensures)
+returns-3 c = eats-more _ _ _ _ _ _ _ (c .before .before .before .before .before .before .before .before .before .before .before .before .before .pre) (c .before .before .before .before .before .enum-told .given .1) (c .before .before .before .before .if1 .left) _ (opens-as _ _ _ (c .before .before .before .open .ensures) (c .before .enum-told2 .given .1)) (c .stopped2 .ensures)
 
 same-length-5 : tie.Need-same-length-5
 same-length-5 c = search needs
@@ -98,7 +97,7 @@ same-length-9 c = search needs
 returns-5 : tie.Need-returns-5
 returns-5 c =
     let o = opens-as _ _ _ (c .before .before .before .before .before .before .before .before .before .before .before .before .before .before .before .before .before .open .ensures) (c .before .before .before .before .before .before .before .before .before .before .before .before .before .before .before .plate .given .1) in
-    eats-plate _ _ _ _ _ _ _ (c .before .before .before .before .before .before .before .before .before .before .before .before .before .before .before .before .before .before .before .before .before .before .before .before .before .before .before .pre) (c .before .before .before .before .before .before .before .before .before .before .before .before .before .before .before .before .before .before .before .enum-told .given .1) _ _ _ (o .1) _ (c .before .before .before .before .before .before .before .before .before .before .before .before .before .fresh .ensures) _ _ _ _ _ (c .before .before .before .before .before .before .before .before .before .before .before .before .before .before .before .before .before .before .if1 .left) (c .before .before .before .before .before .before .before .before .go-on2 .ensures)
+    eats-plate _ _ _ _ _ _ _ (c .before .before .before .before .before .before .before .before .before .before .before .before .before .before .before .before .before .before .before .before .before .before .before .before .before .before .before .pre) (c .before .before .before .before .before .before .before .before .before .before .before .before .before .before .before .before .before .before .before .enum-told .given .1) _ _ _ (o .1) _ (c .before .before .before .before .before .before .before .before .before .before .before .before .before .fresh .ensures) (c .before .before .before .before .before .before .before .before .before .before .before .before .before .before .before .before .before .before .if1 .left) _ _ _ _ _ (c .before .before .before .before .before .before .before .before .go-on2 .ensures)
 
 pub eat-spec : {M : Type 1} → statement M
 eat-spec =

@@ -1,9 +1,8 @@
--- `answers::passes::go_on` meets its contract. Assumes nothing.
+-- `answers::passes::go_on` meets its contract: the front of the lent memory goes out and comes back. Assumes nothing.
 use mathlib.Core.Path.{sym, _∙_}
 use lib.Seq.{length-take-le}
 use Rattle.line.proofs.Limits.{total-fits}
 use Rattle.answers.proofs.Eating.{in-front, goes-from}
--- `answers::passes::go_on` meets its contract: the front of the lent memory goes out and comes back. Assumes nothing.
 use borrow.Author.Needs.{needs}
 use Rattle.answers.proofs.passes.go_on.Statement.{statement}
 use Rattle.answers.proofs.passes.go_on.Tie as tie

@@ -11,7 +11,7 @@ use Rattle.turns.specs.Turns.{Quiet, Quickens}
 use Rattle.turns.proofs.Hearing.{hears-as}
 use Rattle.turns.specs.declared.answering.Pace.{Pace}
 use Rattle.turns.specs.declared.answering.Pace.the-variants.{Went, Slow}
-use Rattle.answers.proofs.Playing.{Going, begins, halts-full, halts-more, breaks, quiet-goes, turn-ends, turn-goes}
+use Rattle.answers.proofs.Playing.{Going, begins, halts-full, halts-more, breaks, quiet-goes, slow-keeps, turn-ends, turn-goes}
 use borrow.Author.Needs.{needs}
 use Rattle.answers.proofs.passes.play.Statement.{statement}
 use Rattle.answers.proofs.passes.play.Tie as tie
@@ -26,7 +26,7 @@ use Rattle.tape.proofs.bad_line.Reads as bad-line-reads
 abbrev Inv-loop : tie.InvT-loop
 Inv-loop plate place window from kept₀ memory₀ reply₀ out₀ start state₀ frame₀ at₀ used₀ kept memory reply out state frame at used =
     (length kept ≡ length kept₀) × (length memory ≡ length memory₀) × (length reply ≡ length reply₀) × (length out ≡ length out₀)
-    × Going plate place window from kept₀ memory₀ out₀ start state₀ frame₀ kept memory reply out state frame at used
+    × Going plate place window from kept₀ memory₀ reply₀ out₀ start state₀ frame₀ kept memory reply out state frame at used
 
 abbrev μ-loop : tie.MeasureT-loop
 μ-loop plate place window from kept₀ memory₀ reply₀ out₀ start state₀ frame₀ at₀ used₀ kept memory reply out state frame at used =
@@ -133,7 +133,7 @@ add-here c = search needs
 turn-requires : tie.Need-turn-requires Inv-loop μ-loop
 turn-requires c κs =
     let v = c .before .before .before .before .before .before .before .before .before .before .before .before .before .before .before .loop .inv in
-    (rw (rw (c .before .before .before .before .enum-told3 .given .1) at (c .before .before .before .before .before .before .before .before .quick .ensures)) (v .4 .sound), omega (arith, c .before .before .before .before .before .before .before .before .before .before .before .before .before .before .if1 .left, v .4 .printed .within, v .3))
+    (rw (slow-keeps _ _ _ _ _ _ (c .before .before .before .before .before .before .before .before .quick .ensures) (c .before .before .before .before .enum-told3 .given .1)) (v .4 .sound), omega (arith, c .before .before .before .before .before .before .before .before .before .before .before .before .before .before .if1 .left, v .4 .printed .within, v .3))
 
 halt-requires-4 : tie.Need-halt-requires-4 Inv-loop μ-loop
 halt-requires-4 c κs = search needs
@@ -156,7 +156,7 @@ same-length-16 c =
 
 returns-4 : tie.Need-returns-4 Inv-loop μ-loop
 returns-4 c =
-    turn-ends (c .before .before .before .before .before .before .before .before .before .before .before .before .before .before .before .before .before .before .before .before .before .before .before .before .before .before .before .before .before .loop .inv .4) _ _ (rw (c .before .before .before .before .before .before .before .before .before .before .before .before .before .before .before .before .before .before .enum-told3 .given .1) at (c .before .before .before .before .before .before .before .before .before .before .before .before .before .before .before .before .before .before .before .before .before .before .quick .ensures)) (c .before .before .before .before .before .before .before .before .before .before .before .before .before .before .before .before .before .before .before .before .before .before .before .before .before .before .before .before .if1 .left) (sym (hears-as _ _ _ _ (c .before .before .before .before .before .before .before .before .before .before .before .before .before .before .before .before .before .before .before .before .before .before .before .before .before .before .before .hear .ensures) (c .before .before .before .before .before .before .before .before .before .before .before .before .before .before .before .before .before .before .before .before .before .before .before .before .before .event .given .1) .heard)) (c .before .before .before .before .before .before .before .before .before .before .before .before .before .turn .ensures) _ (c .before .if2 .taken) (c .halt4 .ensures)
+    turn-ends (c .before .before .before .before .before .before .before .before .before .before .before .before .before .before .before .before .before .before .before .before .before .before .before .before .before .before .before .before .before .loop .inv .4) _ _ (slow-keeps _ _ _ _ _ _ (c .before .before .before .before .before .before .before .before .before .before .before .before .before .before .before .before .before .before .before .before .before .before .quick .ensures) (c .before .before .before .before .before .before .before .before .before .before .before .before .before .before .before .before .before .before .enum-told3 .given .1)) (c .before .before .before .before .before .before .before .before .before .before .before .before .before .before .before .before .before .before .before .before .before .before .before .before .before .before .before .before .if1 .left) (sym (hears-as _ _ _ _ (c .before .before .before .before .before .before .before .before .before .before .before .before .before .before .before .before .before .before .before .before .before .before .before .before .before .before .before .hear .ensures) (c .before .before .before .before .before .before .before .before .before .before .before .before .before .before .before .before .before .before .before .before .before .before .before .before .before .event .given .1) .heard)) (c .before .before .before .before .before .before .before .before .before .before .before .before .before .turn .ensures) _ (c .before .if2 .taken) (c .halt4 .ensures)
 
 loop-less : tie.Need-loop-less Inv-loop μ-loop
 loop-less c =
@@ -174,7 +174,7 @@ loop-less-2 c =
 
 loop-again-2 : tie.Need-loop-again-2 Inv-loop μ-loop
 loop-again-2 c =
-    let g = turn-goes (c .before .before .before .before .before .before .before .before .before .before .before .before .before .before .before .before .before .before .before .before .before .before .before .before .before .before .before .before .loop .inv .4) _ _ (rw (c .before .before .before .before .before .before .before .before .before .before .before .before .before .before .before .before .before .enum-told3 .given .1) at (c .before .before .before .before .before .before .before .before .before .before .before .before .before .before .before .before .before .before .before .before .before .quick .ensures)) (c .before .before .before .before .before .before .before .before .before .before .before .before .before .before .before .before .before .before .before .before .before .before .before .before .before .before .before .if1 .left) (sym (hears-as _ _ _ _ (c .before .before .before .before .before .before .before .before .before .before .before .before .before .before .before .before .before .before .before .before .before .before .before .before .before .before .hear .ensures) (c .before .before .before .before .before .before .before .before .before .before .before .before .before .before .before .before .before .before .before .before .before .before .before .before .event .given .1) .heard)) (c .before .before .before .before .before .before .before .before .before .before .before .before .turn .ensures) _ (c .if2 .left) (hears-as _ _ _ _ (c .before .before .before .before .before .before .before .before .before .before .before .before .before .before .before .before .before .before .before .before .before .before .before .before .before .before .hear .ensures) (c .before .before .before .before .before .before .before .before .before .before .before .before .before .before .before .before .before .before .before .before .before .before .before .before .event .given .1) .next) in
+    let g = turn-goes (c .before .before .before .before .before .before .before .before .before .before .before .before .before .before .before .before .before .before .before .before .before .before .before .before .before .before .before .before .loop .inv .4) _ _ (slow-keeps _ _ _ _ _ _ (c .before .before .before .before .before .before .before .before .before .before .before .before .before .before .before .before .before .before .before .before .before .quick .ensures) (c .before .before .before .before .before .before .before .before .before .before .before .before .before .before .before .before .before .enum-told3 .given .1)) (c .before .before .before .before .before .before .before .before .before .before .before .before .before .before .before .before .before .before .before .before .before .before .before .before .before .before .before .if1 .left) (sym (hears-as _ _ _ _ (c .before .before .before .before .before .before .before .before .before .before .before .before .before .before .before .before .before .before .before .before .before .before .before .before .before .before .hear .ensures) (c .before .before .before .before .before .before .before .before .before .before .before .before .before .before .before .before .before .before .before .before .before .before .before .before .event .given .1) .heard)) (c .before .before .before .before .before .before .before .before .before .before .before .before .turn .ensures) _ (c .if2 .left) (hears-as _ _ _ _ (c .before .before .before .before .before .before .before .before .before .before .before .before .before .before .before .before .before .before .before .before .before .before .before .before .before .before .hear .ensures) (c .before .before .before .before .before .before .before .before .before .before .before .before .before .before .before .before .before .before .before .before .before .before .before .before .event .given .1) .next) in
     let v = c .before .before .before .before .before .before .before .before .before .before .before .before .before .before .before .before .before .before .before .before .before .before .before .before .before .before .before .before .loop .inv in
     let w = c .before .before .before .before .before .before .before .before .before .before .before .before .turn .kept in
     (w .1 .1 .1 .1 .0 ∙ c .before .before .before .before .before .before .before .before .before .before .before .before .before .before .before .before .before .before .before .before .before .quick .kept .1 .1 .1 .0 ∙ v .0, w .1 .1 .1 .1 .1 .0 ∙ v .1, w .1 .1 .1 .1 .1 .1 .0 ∙ v .2, w .1 .1 .1 .1 .1 .1 .1 .0 ∙ v .3, g)
