@@ -8,8 +8,6 @@ use native.Mathlib.Omega.{arith}
 use lib.ListN.{length, take, drop, replicate, length-take, length-drop, length-replicate}
 use lib.Seq.{take-at, length-take-le}
 use lib.Dec.{T}
-use types.Run.{OneOf, miss}
-use denote.Enum.Declared.{tagOf}
 use Rattle.meaning.specs.Bytes.{zeros, put}
 use Rattle.meaning.specs.State as meaning
 use Rattle.meaning.specs.State.{plateOk, stateOk, fresh}
@@ -32,8 +30,9 @@ use Rattle.tape.specs.Reader.{Printed}
 use Rattle.tape.proofs.Rooms.{put-nil}
 use Rattle.tape.proofs.Streams.{pass-enough}
 use Rattle.turns.specs.Turns.{Sound, keptIn, isEnded, lastOf}
+use Rattle.answers.specs.Beginnings.{Working, goes-on, begins, Idle}
 use Rattle.answers.specs.Holding.{Held, holds, heldAfter, heldBy}
-use Rattle.answers.specs.Sessions.{largestImage, stageFrom, stageOf, stopTold, phaseAfter, Plays, Steady, Ready, passOver, heldOver, Stands, Eats, Playable, passFrom, heldFrom, GoesOn, Refuses}
+use Rattle.answers.specs.Sessions.{largestImage, stageFrom, stageOf, stopTold, phaseAfter, eatenBy, Plays, Steady, Ready, passOver, heldOver, Stands, Eats, Playable, passFrom, heldFrom, GoesOn, Refuses}
 use Rattle.turns.specs.Openings.{Begins, Fails}
 use Rattle.answers.specs.declared.session.Phase.{Phase}
 use Rattle.answers.specs.declared.session.Phase.the-variants.{Opening, Running, Ended}
@@ -42,7 +41,6 @@ use Rattle.answers.specs.declared.session.Stop.{Stop}
 use Rattle.answers.specs.declared.session.Stop.the-variants.{More, Full, Over}
 use Rattle.answers.specs.declared.passes.Played.{Played}
 use Rattle.answers.specs.declared.passes.Eaten.{Eaten}
-use Rattle.answers.proofs.session.Phase.{the-type}
 use Rattle.answers.proofs.Closings.{no-text}
 use Rattle.answers.proofs.Holding.{held-parts, held-full, held-more, held-bad, held-good, held-enough}
 use Rattle.answers.proofs.Playing.{pass-full, pass-more, pass-turn}
@@ -86,34 +84,34 @@ module _ (p : Plate) (b : Board) (place : ℕ) (window : List ℕ) (from : ℕ) 
           places = plays .sound .within .places;
         })
 
-    pub goes-from : (f : Phase) → f ≡ phaseAfter (r .stop)
-        → GoesOn p b place window from kept m w out used
-        (record { session = record { phase = f; plate = p; board = r .board; place = place + r .at }; read = r .at; used = r .used; stop = r .stop }) kept′ (mp ++ drop n m) w′ out′
-    goes-from f e = record {
-      stage = rw (front-back, e) (plays .stage);
-      next = ap (λ (i : ℕ). place + i) (plays .read);
-      read = plays .read;
-      inside = plays .inside;
-      stop = plays .stop;
-      printed = plays .printed;
-      stands = λ s. at-work-still s f;
-      bytes = ap (λ (h : Held). h .kept) (plays .held);
-      reply = ap (λ (h : Held). h .room) (plays .held);
-      steady = rw e (steady (r .stop));
-    }
+    pub goes-from : (e : Eaten) → e ≡ eatenBy p place r → GoesOn p b place window from kept m w out used e kept′ (mp ++ drop n m) w′ out′
+    goes-from e d =
+        rw d
+        (record {
+          stage = rw front-back (plays .stage);
+          next = ap (λ (i : ℕ). place + i) (plays .read);
+          read = plays .read;
+          inside = plays .inside;
+          stop = plays .stop;
+          printed = plays .printed;
+          stands = λ s. at-work-still s (phaseAfter (r .stop));
+          bytes = ap (λ (h : Held). h .kept) (plays .held);
+          reply = ap (λ (h : Held). h .room) (plays .held);
+          steady = steady (r .stop);
+        })
 
 -- ---- a board at work
 
-pub at-work : (f : Phase) (p : Plate) (b : Board) (kept m w : List ℕ) → OneOf (1 ∷ 2 ∷ []) (tagOf the-type f) → Steady f p b kept m w → f ≡ Running
-at-work Opening p b kept m w k h = absurd (miss (1 ∷ 2 ∷ []) 0 tt k)
+at-work : (f : Phase) (p : Plate) (b : Board) (kept m w : List ℕ) → (f ≡ Opening → ⊥) → Steady f p b kept m w → f ≡ Running
+at-work Opening p b kept m w k h = absurd (k refl)
 at-work Running p b kept m w k h = refl
 at-work Ended p b kept m w k h = absurd h
 
 module _ (s : Session) (window kept m w out : List ℕ) (used : ℕ) (ready : Ready s window kept m w out used) where
-  pub playable : s .phase ≡ Running → Playable (s .plate) (s .board) (s .place) window 0 kept m w out used
+  playable : s .phase ≡ Running → Playable (s .plate) (s .board) (s .place) window 0 kept m w out used
   playable e = record { sound = rw e at (ready .steady); size = ready .size; starts = omega arith; space = ready .space; places = ready .place }
 
-  pub eats-on : (r : Eaten) (kept′ m′ w′ out′ : List ℕ) → s .phase ≡ Running → GoesOn (s .plate) (s .board) (s .place) window 0 kept m w out used r kept′ m′ w′ out′
+  eats-on : (r : Eaten) (kept′ m′ w′ out′ : List ℕ) → s .phase ≡ Running → GoesOn (s .plate) (s .board) (s .place) window 0 kept m w out used r kept′ m′ w′ out′
       → Eats s window kept m w out used r kept′ m′ w′ out′
   eats-on r kept′ m′ w′ out′ e g =
       let q : passFrom (s .plate) (s .board) (s .place) window 0 kept m out used ≡ passOver s window kept m out used = rw (add-zero (s .place), e) in
@@ -155,13 +153,13 @@ module _ (s : Session) (window kept m w out : List ℕ) (used : ℕ) (ready : Re
           steady = λ h. ready .steady;
         })
 
-    pub eats-full : (r : Eaten) → length out - used < longestLine → r ≡ record { session = s; read = 0; used = used; stop = Full } → Eats s window kept m w out used r kept m w out
+    eats-full : (r : Eaten) → length out - used < longestLine → r ≡ record { session = s; read = 0; used = used; stop = Full } → Eats s window kept m w out used r kept m w out
     eats-full r h d =
         eats-stopped passes.full r (pass-full (length window) (length out - used) (stageOf s kept m) (s .place) window h)
         (held-full (length window) (length out - used) (s .place) window (holds (stageOf s kept m) kept w) h) d
 
     module _ (space : longestLine ≤ length out - used) where
-      pub eats-more : (r : Eaten) → heard window ≡ nothing → r ≡ record { session = s; read = 0; used = used; stop = More } → Eats s window kept m w out used r kept m w out
+      eats-more : (r : Eaten) → heard window ≡ nothing → r ≡ record { session = s; read = 0; used = used; stop = More } → Eats s window kept m w out used r kept m w out
       eats-more r e d =
           eats-stopped passes.more r (pass-more (length window) (length out - used) (stageOf s kept m) (s .place) window space e)
           (held-more (length window) (length out - used) (s .place) window (holds (stageOf s kept m) kept w) space e) d
@@ -171,7 +169,7 @@ module _ (s : Session) (window kept m w out : List ℕ) (used : ℕ) (ready : Re
           ≡ after (k .stage) (k .printed) (wholeLength window) (pass (length window) (length out - used - length (k .printed)) (k .stage) (s .place + wholeLength window) (drop (wholeLength window) window))
       begin-pass x e = rw first (pass-turn (length window) (length out - used) opening (s .place) window x space e)
 
-      pub eats-bad : (r : Eaten) (out′ : List ℕ) → (x : Said) × Fails window x → Refuses s out used r out′ → Eats s window kept m w out used r kept m w out′
+      eats-bad : (r : Eaten) (out′ : List ℕ) → (x : Said) × Fails window x → Refuses s out used r out′ → Eats s window kept m w out used r kept m w out′
       unfolding after bad
       eats-bad r out′ (x, f) g =
           let q : passOver s window kept m out used ≡ record { stage = ended; read = 0; printed = badLine (s .place); stop = passes.over }
@@ -194,6 +192,16 @@ module _ (s : Session) (window kept m w out : List ℕ) (used : ℕ) (ready : Re
             reply = sym (ap (λ (h : Held). h .room) l);
             steady = rw d (λ h. absurd (h refl));
           }
+
+  pub eats-idle : (why : Stop) (r : Eaten) → (s .phase ≡ Opening) × Idle window (length out - used) why → r ≡ record { session = s; read = 0; used = used; stop = why }
+      → Eats s window kept m w out used r kept m w out
+  eats-idle Full r (first, i) d = eats-full first r i d
+  eats-idle More r (first, i) d = eats-more first (i .0) r (i .1) d
+  eats-idle Over r (first, i) d = absurd i
+
+  pub eats-none : (r : Eaten) (out′ : List ℕ) → (s .phase ≡ Opening) × (longestLine ≤ length out - used) × ((x : Said) × Fails window x) → Refuses s out used r out′
+      → Eats s window kept m w out used r kept m w out′
+  eats-none r out′ (first, space, none) g = eats-bad first space r out′ none g
 
 -- ---- the plate
 
@@ -223,7 +231,7 @@ module _ (s : Session) (window kept m w out : List ℕ) (used : ℕ) (ready : Re
       let e : take (b .frame .len) kept ≡ [] = ap (λ (y : meaning.State). y .line .kept) (fresh-board kept) in
       omega (arith, ap length e, length-take (b .frame .len) kept, ready .lent)
 
-  pub fresh-playable : Playable p b (s .place) window next kept m w out used
+  fresh-playable : Playable p b (s .place) window next kept m w out used
   fresh-playable = record {
     sound = record {
       within = record {
@@ -277,7 +285,7 @@ module _ (s : Session) (window kept m w out : List ℕ) (used : ℕ) (ready : Re
         ∙ ap (heldBy (length window) (length out - used - 0) (s .place + n) (drop n window)) h
         ∙ q)
 
-    pub eats-plate : (r : Eaten) (kept′ m′ w′ out′ : List ℕ) → GoesOn p b (s .place) window next kept m w out used r kept′ m′ w′ out′
+    eats-plate : (r : Eaten) (kept′ m′ w′ out′ : List ℕ) → GoesOn p b (s .place) window next kept m w out used r kept′ m′ w′ out′
         → Eats s window kept m w out used r kept′ m′ w′ out′
     eats-plate r kept′ m′ w′ out′ g =
         let a = pass-begins in
@@ -294,3 +302,18 @@ module _ (s : Session) (window kept m w out : List ℕ) (used : ℕ) (ready : Re
           reply = g .reply ∙ sym (ap (λ (h : Held). h .room) l);
           steady = g .steady;
         }
+
+-- ---- either
+
+module _ (s : Session) (window kept m w out : List ℕ) (used : ℕ) (ready : Ready s window kept m w out used) where
+  at-work-now : (s .phase ≡ Opening → ⊥) → s .phase ≡ Running
+  at-work-now k = at-work (s .phase) (s .plate) (s .board) kept m w k (ready .steady)
+
+  pub works-playable : (p : Plate) (b : Board) (from : ℕ) → Working s window (length out - used) p b from → Playable p b (s .place) window from kept m w out used
+  works-playable p b from (goes-on k i j l) = rw (i, j, l) (playable s window kept m w out used ready (at-work-now k))
+  works-playable p b from (begins first space x h fresh) = fresh-playable s window kept m w out used ready first p from x h b fresh
+
+  pub eats-works : (p : Plate) (b : Board) (from : ℕ) (r : Eaten) (kept′ m′ w′ out′ : List ℕ) → Working s window (length out - used) p b from
+      → GoesOn p b (s .place) window from kept m w out used r kept′ m′ w′ out′ → Eats s window kept m w out used r kept′ m′ w′ out′
+  eats-works p b from r kept′ m′ w′ out′ (goes-on k i j l) g = eats-on s window kept m w out used ready r kept′ m′ w′ out′ (at-work-now k) (rw (i, j, l) at g)
+  eats-works p b from r kept′ m′ w′ out′ (begins first space x h fresh) g = eats-plate s window kept m w out used ready first p from x h b fresh space r kept′ m′ w′ out′ g

@@ -18,7 +18,6 @@ use Rattle.commands.specs.State.{stateWith}
 use Rattle.board.specs.declared.limits.Board.{Board}
 use Rattle.tape.specs.Records.{wholeLength}
 use Rattle.tape.specs.Kinds.{Said, unfit}
-use Rattle.tape.specs.Text.{badLine}
 use Rattle.tape.specs.Answers.{Stage, opening, running, ended, Turn, bad, turn}
 use Rattle.tape.specs.Passes as passes
 use Rattle.tape.specs.Passes.{Pass, pass, stopped, after, hearing, heard, nothing, said, longestLine}
@@ -26,7 +25,7 @@ use Rattle.tape.specs.Reader.{Printed}
 use Rattle.tape.proofs.Rooms.{put-nil}
 use Rattle.tape.proofs.Texts.{same-room, joined}
 use Rattle.turns.specs.Hearing.{Past}
-use Rattle.turns.specs.Turns.{Sound, runs, keptIn, isEnded, lastOf, Quiet, Waits, Quickens, Turns}
+use Rattle.turns.specs.Turns.{Sound, runs, keptIn, isEnded, lastOf, quickly, Quiet, Waits, Quickens, Turns}
 use Rattle.turns.proofs.Tight.{not-both}
 use Rattle.answers.specs.Holding.{Held, holds, heldAfter, heldBy}
 use Rattle.answers.proofs.Holding.{held-parts, held-full, held-more, held-bad, held-good}
@@ -80,6 +79,10 @@ last-goes w ended e = absurd (not-both e)
 pub slow-keeps : (p : Plate) (f : Frame) (kept : List ℕ) (x : Said) (r : Pace) (kept′ : List ℕ) → Quickens p f kept x r kept′ → r ≡ Slow → kept′ ≡ kept
 slow-keeps p f kept x r kept′ q e =
     let t : Waits p f kept x kept′ = rw e at q in t .bytes
+
+-- a quick record fits
+quiet-fits : {p : Plate} {f f′ : Frame} {kept kept′ : List ℕ} {x : Said} (s : State) → Quiet p f kept x f′ kept′ → x ≡ unfit → ⊥
+quiet-fits {p} {f} {kept = kept} s q u = not-both (sym (q .quick s) ∙ ap (quickly (plateOf p) (stateWith s (lineOf f kept))) u)
 
 -- ---- the loop's invariant
 
@@ -219,23 +222,23 @@ module _ {p : Plate} {place : ℕ} {window : List ℕ} {from : ℕ} {kept₀ m�
       → Going p place window from kept₀ m₀ w₀ out₀ start s₀ f₀ kept′ m′ w′ out′ s′ f′ next used′
   goes-on x next used′ = goes (g .fuel) x next used′ refl
 
-  -- no record begins there
-  pub breaks : {out′ : List ℕ} (end : ℕ) (r : Played) → longestLine ≤ length out - used → heard (drop at window) ≡ said unfit
-      → Printed (badLine (place + at)) out used end out′ → r ≡ record { board = record { state = s; frame = f }; at = at; used = end; stop = Over }
-      → Plays p all lent from window out₀ start r kept m w out′
-  unfolding turn bad
-  breaks end r h e pr d = ends s f unfit end r h e refl pr (g .sound) (held-parts refl (sym (put-nil kept 0)) (sym (put-nil w 0))) d
+  pub quiet-past : {kept′ : List ℕ} {f′ : Frame} (x : Said) (next : ℕ) → Quiet p f kept x f′ kept′ → ((x ≡ unfit → ⊥) → Past at window next) → Past at window next
+  quiet-past x next q past = past (quiet-fits s q)
 
   -- a record that closes no frame
   pub quiet-goes : {kept′ : List ℕ} {f′ : Frame} (x : Said) (next : ℕ) → longestLine ≤ length out - used → heard (drop at window) ≡ said x
-      → Quiet p f kept x f′ kept′ → Past at window next
+      → Quiet p f kept x f′ kept′ → ((x ≡ unfit → ⊥) → Past at window next)
       → Going p place window from kept₀ m₀ w₀ out₀ start s₀ f₀ kept′ m w out s f′ next used
   quiet-goes x next h e q past =
       let t = q .turned s m (place + at) in
       goes-on x next used h e (ap (λ (y : Turn). y .stage) t) (no-text out used (ap (λ (y : Turn). y .printed) t) (omega (arith, g .printed .within, same-room (g .printed))))
       (record { within = q .within s m (g .sound .within); room = g .sound .room })
       (held-parts (sym (ap (λ (y : Turn). lastOf here (y .stage)) t)) (q .bytes ∙ sym (ap (λ (y : Turn). put kept 0 (keptIn (y .stage))) t)) (sym (ap (put w 0) (q .silent s m) ∙ put-nil w 0)))
-      past
+      (quiet-past x next q past)
+
+  unfit-ends : (x : Said) → x ≡ unfit → isEnded ((done x) .stage) ≡ true
+  unfolding turn bad
+  unfit-ends x u = rw u
 
   -- any other record: a bad one, a good one
   module _ {keptq kept′ m′ w′ out′ : List ℕ} (x : Said) (q : Turned) (same : keptq ≡ kept) (h : longestLine ≤ length out - used) (e : heard (drop at window) ≡ said x)
@@ -251,7 +254,11 @@ module _ {p : Plate} {place : ℕ} {window : List ℕ} {from : ℕ} {kept₀ m�
     turn-ends r o d =
         ends (q .board .state) (q .board .frame) x (q .used) r h e (over-ends ((done x) .stage) (sym (turns .over) ∙ o)) (turns .printed) (turns .sound) holds-after d
 
-    pub turn-goes : (next : ℕ) → q .over ≡ false → Past at window next
+    -- a record that was not bad fits
+    pub turn-past : (next : ℕ) → q .over ≡ false → ((x ≡ unfit → ⊥) → Past at window next) → Past at window next
+    turn-past next o past = past (λ u. not-both (sym (unfit-ends x u) ∙ sym (turns .over) ∙ o))
+
+    pub turn-goes : (next : ℕ) → q .over ≡ false → ((x ≡ unfit → ⊥) → Past at window next)
         → Going p place window from kept₀ m₀ w₀ out₀ start s₀ f₀ kept′ m′ w′ out′ (q .board .state) (q .board .frame) next (q .used)
     turn-goes next o past =
-        goes-on x next (q .used) h e (sym (turns .stage ∙ last-goes here ((done x) .stage) (sym (turns .over) ∙ o))) (turns .printed) (turns .sound) holds-after past
+        goes-on x next (q .used) h e (sym (turns .stage ∙ last-goes here ((done x) .stage) (sym (turns .over) ∙ o))) (turns .printed) (turns .sound) holds-after (turn-past next o past)

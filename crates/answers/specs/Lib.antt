@@ -1,3 +1,4 @@
 pub mod Holding
+pub mod Beginnings
 pub mod Sessions
 pub mod Runs

@@ -49,6 +49,15 @@ phaseAfter More = Running
 phaseAfter Full = Running
 phaseAfter Over = Ended
 
+-- where the tape stands after a running board's pass
+abbrev pub eatenBy : Plate → ℕ → Played → Eaten
+eatenBy p place end = record {
+  session = record { phase = phaseAfter (end .stop); plate = p; board = end .board; place = place + end .at };
+  read = end .at;
+  used = end .used;
+  stop = end .stop;
+}
+
 -- a tape at its first byte: the plate's numbers are 0, the board is fresh
 abbrev pub noPlate : Plate
 noPlate = record { total = 0; bits = 0; address = 0; ticks = 0; pause = 0 }

@@ -1,4 +1,5 @@
 // Passes over the parts of a tape: records in, lines out, a board between them (01, "The answer program").
+mod beginning;
 mod passes;
 mod session;
 

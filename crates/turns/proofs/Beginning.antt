@@ -1,6 +1,6 @@
 -- The first record of a tape is a good plate, or bad. Assumes nothing.
 use Prim.Native.Nat.{ℕ, _≤_}
-use mathlib.Core.Path.{_≡_, refl, sym, _∙_}
+use mathlib.Core.Path.{_≡_, refl, sym, subst, _∙_}
 use mathlib.Core.Bool.{Bool, true, false}
 use mathlib.Core.List.{List, [], _∷_}
 use native.Mathlib.Nat.{zero-add}
@@ -16,7 +16,7 @@ use Rattle.tape.specs.Answers.{turn, begun}
 use Rattle.tape.specs.Reader.{saidOf}
 use Rattle.tape.specs.Passes.{heard, said}
 use Rattle.tape.proofs.kinds.Event.{the-type}
-use Rattle.turns.specs.Hearing.{Told, not-yet, broken, tells, toldAt, heardIn, Past, Onward, Hears}
+use Rattle.turns.specs.Hearing.{Told, not-yet, tells, toldAt, heardIn, Past, Onward, Hears}
 use Rattle.turns.specs.Openings.{checked, begunBy, openedBy, Opens}
 use Rattle.turns.specs.declared.opening.Opened.{Opened}
 use Rattle.turns.specs.declared.opening.Opened.the-variants as opened
@@ -31,6 +31,12 @@ not-plate (event.Fault c) next k = refl
 not-plate event.PowerOn next k = refl
 not-plate event.Unfit next k = refl
 
+-- a plate or a call is not unfit
+abbrev fitting : Said → Type 0
+fitting (plate p) = Unit
+fitting (call g) = Unit
+fitting unfit = ⊥
+
 module _ (window : List ℕ) where
   plate-opens : (p : Plate) (next : ℕ) → heard window ≡ said (plate p) → Past 0 window next → Opens window (checked p next)
   unfolding checked turn begun
@@ -44,8 +50,7 @@ module _ (window : List ℕ) where
   opens-told : (x : Told) → Hears 0 window x → Opens window (openedBy x)
   unfolding turn
   opens-told not-yet h = sym (h .heard)
-  opens-told broken h = (unfit, record { heard = sym (h .heard); turned = λ place. refl })
-  opens-told (tells (plate p) next) h = plate-opens p next (sym (h .heard)) (h .next)
+  opens-told (tells (plate p) next) h = plate-opens p next (sym (h .heard)) (h .next (λ e. subst fitting e tt))
   opens-told (tells (call g) next) h = (call g, record { heard = sym (h .heard); turned = λ place. refl })
   opens-told (tells unfit next) h = (unfit, record { heard = sym (h .heard); turned = λ place. refl })
 

@@ -13,7 +13,7 @@ use Rattle.tape.specs.declared.record.Read.{Read}
 use Rattle.tape.specs.declared.record.Read.the-variants.{Record, More, Bad}
 use Rattle.tape.proofs.Bytes.{part-drop}
 use Rattle.tape.proofs.Windows.{Whole, record-read, heard-at}
-use Rattle.turns.specs.Hearing.{Told, not-yet, broken, tells, toldOf, toldBy, toldAt, heardIn, Past, Onward, Hears}
+use Rattle.turns.specs.Hearing.{Told, not-yet, tells, toldOf, toldBy, toldAt, heardIn, Past, Onward, Hears}
 use Rattle.turns.specs.declared.reading.Heard.{Heard}
 
 module _ (at : ℕ) (s : List ℕ) where
@@ -39,27 +39,27 @@ module _ (at : ℕ) (s : List ℕ) where
     same-body = ap (λ (i : ℕ). part s i n) (whole .body-at) ∙ sym (part-drop s at 4 n)
 
   -- what is told, in the words of a pass
-  by-read : (v : Read) → readAt longest at (drop at s) ≡ v → heardIn (toldBy s v) ≡ heardBy (drop at s) v
+  by-read : (v : Read) → readAt longest at (drop at s) ≡ v → heardIn (toldBy at s v) ≡ heardBy (drop at s) v
   unfolding toldBy heardBy
   by-read (Record kind start n next) e = ap (λ (b : List ℕ). said (callOf kind b)) (same-body kind start n next e)
   by-read More e = refl
   by-read Bad e = refl
 
-  onward : (v : Read) → readAt longest at (drop at s) ≡ v → Onward at s (toldBy s v)
+  onward : (v : Read) → readAt longest at (drop at s) ≡ v → Onward at s (toldBy at s v)
   unfolding toldBy
-  onward (Record kind start n next) e = past-it kind start n next e
+  onward (Record kind start n next) e = λ fits. past-it kind start n next e
   onward More e = tt
-  onward Bad e = tt
+  onward Bad e = λ fits. absurd (fits refl)
 
   pub hears : (x : Told) → x ≡ toldAt at s → Hears at s x
   hears x e =
       let v = readAt longest at (drop at s) in
       rw e (record { heard = by-read v refl ∙ heard-at at (drop at s); next = onward v refl })
 
-pub hears-as : (at : ℕ) (s : List ℕ) (r v : Heard) → toldOf r ≡ toldAt at s → r ≡ v → Hears at s (toldOf v)
-hears-as at s r v e k = rw k at (hears at s (toldOf r) e)
+  pub hears-as : (r v : Heard) → toldOf r ≡ toldAt at s → r ≡ v → Hears at s (toldOf v)
+  hears-as r v e k = rw k at (hears (toldOf r) e)
 
-pub told-record : (s : List ℕ) (v : Read) (kind start n : ℕ) {next : Cursor} {x : Said} → v ≡ Record kind start n next → x ≡ callOf kind (part s start n)
-    → tells x (next .at) ≡ toldBy s v
-unfolding toldBy
-told-record s v kind start n {next} e q = rw (q, e)
+  pub told-record : (v : Read) (kind start n : ℕ) {next : Cursor} {x : Said} → v ≡ Record kind start n next → x ≡ callOf kind (part s start n)
+      → tells x (next .at) ≡ toldBy at s v
+  unfolding toldBy
+  told-record v kind start n {next} e q = rw (q, e)

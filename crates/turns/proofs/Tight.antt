@@ -21,11 +21,11 @@ use Rattle.board.proofs.Promises.{same-state-same-board}
 use Rattle.tape.specs.Kinds.{Said}
 use Rattle.tape.specs.Answers.{Stage, opening, running, ended, Turn, turn}
 use Rattle.tape.proofs.Tight.{eventBack, event-back, printed-tight}
-use Rattle.turns.specs.Hearing.{Told, not-yet, broken, tells, toldOf, toldAt}
+use Rattle.turns.specs.Hearing.{Told, not-yet, tells, toldOf, toldAt}
 use Rattle.turns.specs.Openings.{openedBy}
 use Rattle.turns.specs.Turns.{Quiet, Waits, Quickens, Turns}
 use Rattle.turns.specs.declared.reading.Heard.{Heard}
-use Rattle.turns.specs.declared.reading.Heard.the-variants.{Nothing, Broken, Said as Tells}
+use Rattle.turns.specs.declared.reading.Heard.the-variants.{Nothing, Said as Tells}
 use Rattle.turns.specs.declared.opening.Opened.{Opened}
 use Rattle.turns.specs.declared.answering.Pace.{Pace}
 use Rattle.turns.specs.declared.answering.Pace.the-variants.{Went, Slow}
@@ -34,12 +34,10 @@ use Rattle.turns.specs.declared.answering.Turned.{Turned}
 -- what is told leads back to what was heard
 abbrev toldBack : Told → Heard
 toldBack not-yet = Nothing
-toldBack broken = Broken
 toldBack (tells x n) = Tells (eventBack x) n
 
 told-back : (h : Heard) → toldBack (toldOf h) ≡ h
 told-back Nothing = refl
-told-back Broken = refl
 told-back (Tells e n) = rw (event-back e)
 
 pub hear-tight : (at : ℕ) (window : List ℕ) (a b : Heard) → toldOf a ≡ toldAt at window → toldOf b ≡ toldAt at window → a ≡ b

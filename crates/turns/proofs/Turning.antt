@@ -26,22 +26,23 @@ use Rattle.commands.specs.State.{stateWith}
 use Rattle.board.specs.declared.limits.Board.{Board}
 use Rattle.board.specs.declared.limits.Outcome.the-variants.{Over, Still}
 use Rattle.board.specs.declared.limits.Stepped.{Stepped}
-use Rattle.board.specs.Board.{stateOf, Steps}
+use Rattle.board.specs.Board as board
+use Rattle.board.specs.Board.{stateOf, refusalOn}
 use Rattle.board.specs.Promises.{DoesStep, Within}
 use Rattle.board.proofs.Stepping.{held-on}
 use Rattle.board.proofs.Promises.{does-step, unrefused, stays-within}
 use Rattle.tape.specs.declared.kinds.Event.{Event}
 use Rattle.tape.specs.declared.kinds.Event.the-variants as event
-use Rattle.tape.specs.Kinds.{Said, plate, call, unfit}
+use Rattle.tape.specs.Kinds.{Said, call}
 use Rattle.tape.specs.Text as text
 use Rattle.tape.specs.Text.{badLine}
 use Rattle.tape.specs.Answers as answers
-use Rattle.tape.specs.Answers.{Stage, running, turn, stepped, printedOf}
+use Rattle.tape.specs.Answers.{running, turn, stepped, printedOf}
 use Rattle.tape.specs.Reader.{saidOf, Printed}
 use Rattle.tape.specs.Passes.{longestLine}
 use Rattle.tape.proofs.Rooms.{put-nil}
 use Rattle.tape.proofs.kinds.Event.{the-type}
-use Rattle.turns.specs.Turns.{Sound, quickly, Quiet, Turns, sentOf, Fitting, Answered}
+use Rattle.turns.specs.Turns.{Sound, quickly, Quiet, Steps, Refuses, Turns, sentOf, Fitting, Answered}
 use Rattle.turns.specs.declared.answering.Turned.{Turned}
 
 yes-it-is : (b : Bool) → T b → b ≡ true
@@ -137,14 +138,70 @@ module _ (tick : ℕ) (st : Stepped) (w out : List ℕ) (used n : ℕ) (r : Turn
         printed = rw (k, e) p;
       }
 
--- a call of the board, unrefused
-module _ (p : Plate) (b : Board) (kept m w : List ℕ) (g : Call) (r : Stepped) (kept′ m′ w′ : List ℕ)
-    (sound : Sound p b kept m w) (steps : Steps (plateOf p) b kept m w g r kept′ m′ w′) where
+-- a call that brings no reply has no line
+unheard : (p : meaning.Plate) (s : meaning.State) (m : List ℕ) (g : Call) → closes p s g ≡ false → printedOf (poll 0) ((step p s m g) .reply) ≡ printedOf g ((step p s m g) .reply)
+unfolding printedOf
+unheard p s m g e = rw (silent-still p s m g e)
+
+-- the line of a character is that of a poll at its tick
+as-poll : (tick v : ℕ) (bad : Bool) (l : List ℕ) → printedOf (poll tick) l ≡ printedOf (character tick v bad) l
+unfolding printedOf
+as-poll tick v bad [] = refl
+as-poll tick v bad (b ∷ l) = refl
+
+-- ---- the board's call for each kind
+
+module _ {p : Plate} {b : Board} {kept m w : List ℕ} {r : Stepped} {kept′ m′ w′ : List ℕ} where
+  pub character-called : (t v : ℕ) (f : Bool) → board.Steps (plateOf p) b kept m w (character t v f) r kept′ m′ w′
+      → Steps p b (saidOf (event.Character t v f)) kept m w t r kept′ m′ w′
+  character-called t v f s = record { asked = character t v f; said = refl; stepped = s; line = as-poll t v f _ }
+
+  pub poll-called : (t : ℕ) → board.Steps (plateOf p) b kept m w (poll t) r kept′ m′ w′ → Steps p b (saidOf (event.Poll t)) kept m w t r kept′ m′ w′
+  poll-called t s = record { asked = poll t; said = refl; stepped = s; line = refl }
+
+  unasked-called : (g : Call) → closes (plateOf p) (stateOf b kept) g ≡ false → board.Steps (plateOf p) b kept m w g r kept′ m′ w′ → Steps p b (call g) kept m w 0 r kept′ m′ w′
+  unasked-called g e s = record { asked = g; said = refl; stepped = s; line = unheard (plateOf p) (stateOf b kept) m g e }
+
+  pub measured-called : (n : ℕ) → board.Steps (plateOf p) b kept m w (measured n) r kept′ m′ w′ → Steps p b (saidOf (event.Measured n)) kept m w 0 r kept′ m′ w′
+  unfolding closes
+  measured-called n s = unasked-called (measured n) refl s
+
+  pub fault-called : (c : ℕ) → board.Steps (plateOf p) b kept m w (fault c) r kept′ m′ w′ → Steps p b (saidOf (event.Fault c)) kept m w 0 r kept′ m′ w′
+  unfolding closes
+  fault-called c s = unasked-called (fault c) refl s
+
+  pub power-on-called : board.Steps (plateOf p) b kept m w power-on r kept′ m′ w′ → Steps p b (saidOf event.PowerOn) kept m w 0 r kept′ m′ w′
+  unfolding closes
+  power-on-called s = unasked-called power-on refl s
+
+-- a second plate, or a record that fits nothing
+pub none-called : (e : Event) (kept m w : List ℕ) → OneOf (0 ∷ 6 ∷ []) (tagOf the-type e) → Refuses (saidOf e) kept m w kept m w
+unfolding turn
+none-called (event.Plate t p a b u) kept m w k =
+    record { bad = λ v s n place. refl; silent = λ v s n. refl; bytes = refl; memory = refl; room = refl }
+none-called (event.Character t v f) kept m w k = absurd (miss (0 ∷ 6 ∷ []) 1 tt k)
+none-called (event.Poll t) kept m w k = absurd (miss (0 ∷ 6 ∷ []) 2 tt k)
+none-called (event.Measured n) kept m w k = absurd (miss (0 ∷ 6 ∷ []) 3 tt k)
+none-called (event.Fault c) kept m w k = absurd (miss (0 ∷ 6 ∷ []) 4 tt k)
+none-called event.PowerOn kept m w k = absurd (miss (0 ∷ 6 ∷ []) 5 tt k)
+none-called event.Unfit kept m w k =
+    record { bad = λ v s n place. refl; silent = λ v s n. refl; bytes = refl; memory = refl; room = refl }
+
+-- ---- what the call leaves, and its line
+
+module _ (p : Plate) (b : Board) (x : Said) (kept m w : List ℕ) (tick : ℕ) (r : Stepped) (kept′ m′ w′ : List ℕ)
+    (sound : Sound p b kept m w) (steps : Steps p b x kept m w tick r kept′ m′ w′) where
+  abbrev g : Call
+  g = steps .asked
+
   abbrev reply : List ℕ
   reply = (step (plateOf p) (stateOf b kept) m g) .reply
 
+  willing : refusalOn (plateOf p) b kept m (length w) g ≡ 0
+  willing = unrefused (plateOf p) b kept m (length w) g (sound .within) (sound .room)
+
   done : DoesStep (plateOf p) b kept m w g r kept′ m′ w′
-  done = does-step (plateOf p) b kept m w g (unrefused (plateOf p) b kept m (length w) g (sound .within) (sound .room)) steps
+  done = does-step (plateOf p) b kept m w g willing (steps .stepped)
 
   short : length reply ≤ 134
   short = replies-fit (plateOf p) (stateOf b kept) m g
@@ -161,11 +218,11 @@ module _ (p : Plate) (b : Board) (kept m w : List ℕ) (g : Call) (r : Stepped) 
   sent-is = ap sentOf (done .outcome) ∙ front (closes (plateOf p) (stateOf b kept) g) refl
 
   heard-reply : take (sentOf (r .outcome)) w′ ≡ reply
-  heard-reply = rw (sent-is, done .room, put-front w reply) (take-append-seam reply (drop (length reply) w))
+  heard-reply = ap (λ (n : ℕ). take n w′) sent-is ∙ ap (take (length reply)) (done .room ∙ put-front w reply) ∙ take-append-seam reply (drop (length reply) w)
 
-  pub still-sound : Sound p (r .board) kept′ m′ w′
+  still-sound : Sound p (r .board) kept′ m′ w′
   still-sound = record {
-    within = stays-within (plateOf p) b kept m w g (sound .within) (sound .room) steps;
+    within = stays-within (plateOf p) b kept m w g (sound .within) (sound .room) (steps .stepped);
     room = omega (arith, same-room, sound .room);
   }
 
@@ -178,65 +235,36 @@ module _ (p : Plate) (b : Board) (kept m w : List ℕ) (g : Call) (r : Stepped) 
 
   -- what is kept of the frame stands in front of its places, the rest is untouched
   kept-is : kept′ ≡ put kept 0 ((step (plateOf p) (stateOf b kept) m g) .state .line .kept)
-  kept-is =
-      let h = held-on (plateOf p) b kept m w g (unrefused (plateOf p) b kept m (length w) g (sound .within) (sound .room)) in rw h at (steps .bytes)
+  kept-is = rw (held-on (plateOf p) b kept m w g willing) at (steps .stepped .bytes)
 
-  abbrev here : Stage
-  here = running (plateOf p) (stateOf b kept) m
-
-  turned-so : {q : Turned} {out out′ : List ℕ} {used : ℕ} (place : ℕ) → q .board ≡ r .board → q .over ≡ false → Printed (printedOf g reply) out used (q .used) out′
-      → Turns p here place (call g) kept w out used q kept′ m′ w′ out′
+  -- a reply is printed, silence is not
+  pub turns-answered : {q : Turned} {out out′ : List ℕ} {used : ℕ} (place : ℕ) → Answered tick r w′ out used q out′
+      → Turns p (running (plateOf p) (stateOf b kept) m) place x kept w out used q kept′ m′ w′ out′
   unfolding turn stepped
-  turned-so {q} place e o printed = record {
-    printed = printed;
-    over = o;
-    stage = rw (e, done .state, done .memory);
-    bytes = kept-is;
-    room = done .room;
-    sound = rw e still-sound;
-  }
+  turns-answered place a =
+      rw (steps .said)
+      (record {
+        printed = rw (heard-reply, steps .line) at (a .printed);
+        over = a .over;
+        stage = ap (λ (y : Board). running (plateOf p) (stateOf y kept′) m′) (a .board) ∙ ap (λ (y : meaning.State). running (plateOf p) y m′) (done .state) ∙ ap (running (plateOf p) ((step (plateOf p) (stateOf b kept) m g) .state)) (done .memory);
+        bytes = kept-is;
+        room = done .room;
+        sound = rw (a .board) still-sound;
+      })
 
-  -- a character or a poll, and what is printed of it
-  pub turns-answered : {q : Turned} {out out′ : List ℕ} {used : ℕ} (tick place : ℕ) → ((l : List ℕ) → printedOf (poll tick) l ≡ printedOf g l) → Answered tick r w′ out used q out′
-      → Turns p here place (call g) kept w out used q kept′ m′ w′ out′
-  turns-answered tick place same a = turned-so place (a .board) (a .over) (rw (heard-reply, same) at (a .printed))
-
-  -- another call: nothing is printed
-  pub turns-silent : {q : Turned} {out : List ℕ} {used : ℕ} (place : ℕ) → closes (plateOf p) (stateOf b kept) g ≡ false → q ≡ record { board = r .board; used = used; over = false } → used ≤ length out
-      → Turns p here place (call g) kept w out used q kept′ m′ w′ out
-  unfolding printedOf
-  turns-silent {q} {out} {used} place e k h =
-      turned-so place (ap (λ (x : Turned). x .board) k) (ap (λ (x : Turned). x .over) k)
-      (rw (silent-still (plateOf p) (stateOf b kept) m g e, k) (record { next = sym (add-zero used); bytes = sym (put-nil out used); within = h }))
-
--- a second plate, or a record that fits nothing
-bad-kind : (P : Said → Type 0) → ((q : meaning.Plate) → P (plate q)) → P unfit → (e : Event) → OneOf (0 ∷ 6 ∷ []) (tagOf the-type e) → P (saidOf e)
-bad-kind P i j (event.Plate t p a b u) k = i _
-bad-kind P i j (event.Character t v f) k = absurd (miss (0 ∷ 6 ∷ []) 1 tt k)
-bad-kind P i j (event.Poll t) k = absurd (miss (0 ∷ 6 ∷ []) 2 tt k)
-bad-kind P i j (event.Measured n) k = absurd (miss (0 ∷ 6 ∷ []) 3 tt k)
-bad-kind P i j (event.Fault c) k = absurd (miss (0 ∷ 6 ∷ []) 4 tt k)
-bad-kind P i j event.PowerOn k = absurd (miss (0 ∷ 6 ∷ []) 5 tt k)
-bad-kind P i j event.Unfit k = j
-
-module _ (p : Plate) (b : Board) (kept m w out out′ : List ℕ) (used end place : ℕ) (q : Turned)
-    (sound : Sound p b kept m w) (printed : Printed (badLine place) out used end out′) (d : q ≡ record { board = b; used = end; over = true }) where
-  abbrev Bad : Said → Type 0
-  Bad x = Turns p (running (plateOf p) (stateOf b kept) m) place x kept w out used q kept m w out′
-
-  bad-plate : (x : meaning.Plate) → Bad (plate x)
-  unfolding turn answers.bad
-  bad-plate x = rw d (record { printed = printed; over = refl; stage = refl; bytes = sym (put-nil kept 0); room = sym (put-nil w 0); sound = sound })
-
-  bad-unfit : Bad unfit
-  unfolding turn answers.bad
-  bad-unfit = rw d (record { printed = printed; over = refl; stage = refl; bytes = sym (put-nil kept 0); room = sym (put-nil w 0); sound = sound })
-
-  pub turns-bad : (e : Event) → OneOf (0 ∷ 6 ∷ []) (tagOf the-type e) → Bad (saidOf e)
-  turns-bad e k = bad-kind Bad bad-plate bad-unfit e k
-
--- the line of a character is that of a poll at its tick
-pub as-poll : (tick v : ℕ) (bad : Bool) (l : List ℕ) → printedOf (poll tick) l ≡ printedOf (character tick v bad) l
-unfolding printedOf
-as-poll tick v bad [] = refl
-as-poll tick v bad (b ∷ l) = refl
+-- a bad record changes nothing
+pub turns-bad : (p : Plate) (b : Board) (x : Said) (kept m w kept′ m′ w′ out out′ : List ℕ) (used end place : ℕ) (q : Turned) → Sound p b kept m w → Refuses x kept m w kept′ m′ w′
+    → Printed (badLine place) out used end out′ → q ≡ record { board = b; used = end; over = true }
+    → Turns p (running (plateOf p) (stateOf b kept) m) place x kept w out used q kept′ m′ w′ out′
+unfolding answers.bad
+turns-bad p b x kept m w kept′ m′ w′ out out′ used end place q sound none printed d =
+    let t = none .bad p (stateOf b kept) m place in
+    rw (none .bytes, none .memory, none .room, d)
+    (record {
+      printed = rw t printed;
+      over = rw t;
+      stage = rw t;
+      bytes = rw t (sym (put-nil kept 0));
+      room = rw (none .silent p (stateOf b kept) m) (sym (put-nil w 0));
+      sound = sound;
+    })

@@ -12,31 +12,29 @@ use Rattle.tape.specs.Reader.{readAt, saidOf}
 use Rattle.tape.specs.Passes as passes
 use Rattle.tape.specs.Passes.{longest}
 use Rattle.turns.specs.declared.reading.Heard.{Heard}
-use Rattle.turns.specs.declared.reading.Heard.the-variants.{Nothing, Broken, Said as Tells}
+use Rattle.turns.specs.declared.reading.Heard.the-variants.{Nothing, Said as Tells}
 
--- not yet a whole record; no record; what a record says, and the place past it
+-- not yet a whole record; what stands there says, and the place past it
 pub data Told : Type 0 where
   not-yet : Told
-  broken : Told
   tells : Said → ℕ → Told
 
 abbrev pub toldOf : Heard → Told
 toldOf Nothing = not-yet
-toldOf Broken = broken
 toldOf (Tells e n) = tells (saidOf e) n
 
-unfoldable pub toldBy : List ℕ → Read → Told
-toldBy window (Record k start n next) = tells (callOf k (part window start n)) (next .at)
-toldBy window More = not-yet
-toldBy window Bad = broken
+-- where no record begins, what stands there fits nothing and has no end
+unfoldable pub toldBy : ℕ → List ℕ → Read → Told
+toldBy at window (Record k start n next) = tells (callOf k (part window start n)) (next .at)
+toldBy at window More = not-yet
+toldBy at window Bad = tells unfit at
 
 abbrev pub toldAt : ℕ → List ℕ → Told
-toldAt at window = toldBy window (readAt longest at (drop at window))
+toldAt at window = toldBy at window (readAt longest at (drop at window))
 
 -- the same in the words of a pass
 abbrev pub heardIn : Told → passes.Heard
 heardIn not-yet = passes.nothing
-heardIn broken = passes.said unfit
 heardIn (tells x n) = passes.said x
 
 -- the place past a whole record
@@ -47,8 +45,7 @@ pub record Past (at : ℕ) (window : List ℕ) (next : ℕ) : Type 0 where
 
 abbrev pub Onward : ℕ → List ℕ → Told → Type 0
 Onward at window not-yet = Unit
-Onward at window broken = Unit
-Onward at window (tells x n) = Past at window n
+Onward at window (tells x n) = (x ≡ unfit → ⊥) → Past at window n
 
 pub record Hears (at : ℕ) (window : List ℕ) (x : Told) : Type 0 where
   pub heard : heardIn x ≡ passes.heard (drop at window)

@@ -14,7 +14,7 @@ use Rattle.tape.specs.Records.{wholeLength}
 use Rattle.tape.specs.Kinds.{Said, plate, call, unfit}
 use Rattle.tape.specs.Answers.{opening, running, bad, turn}
 use Rattle.tape.specs.Passes as passes
-use Rattle.turns.specs.Hearing.{Told, not-yet, broken, tells}
+use Rattle.turns.specs.Hearing.{Told, not-yet, tells}
 use Rattle.turns.specs.declared.opening.Opened.{Opened}
 use Rattle.turns.specs.declared.opening.Opened.the-variants as opened
 
@@ -29,7 +29,6 @@ begunBy unfit next = opened.Bad
 
 abbrev pub openedBy : Told → Opened
 openedBy not-yet = opened.More
-openedBy broken = opened.Bad
 openedBy (tells x next) = begunBy x next
 
 -- the window begins with a good plate

@@ -7,7 +7,7 @@ use lib.ListN.{length, take}
 use Rattle.meaning.specs.Bytes.{put}
 use Rattle.meaning.specs.State as meaning
 use Rattle.meaning.specs.Frames.{over}
-use Rattle.meaning.specs.Run.{character, poll, measured, fault, power-on, step}
+use Rattle.meaning.specs.Run.{Call, character, poll, measured, fault, power-on, step}
 use Rattle.line.specs.declared.plate.Plate.{Plate}
 use Rattle.line.specs.declared.characters.Frame.{Frame}
 use Rattle.line.specs.Line.{plateOf, lineOf}
@@ -17,14 +17,17 @@ use Rattle.board.specs.declared.limits.Board.{Board}
 use Rattle.board.specs.declared.limits.Outcome.{Outcome}
 use Rattle.board.specs.declared.limits.Outcome.the-variants.{Refused, Still, Over}
 use Rattle.board.specs.declared.limits.Stepped.{Stepped}
+use Rattle.board.specs.Board as board
 use Rattle.board.specs.Board.{stateOf}
 use Rattle.board.specs.Promises.{Within}
 use Rattle.tape.specs.Kinds.{Said, plate, call, unfit}
+use Rattle.tape.specs.Answers as answers
 use Rattle.tape.specs.Answers.{Stage, opening, running, ended, turn, printedOf}
 use Rattle.tape.specs.Reader.{Printed}
 use Rattle.tape.specs.Passes.{longestLine}
 use Rattle.turns.specs.declared.answering.Pace.{Pace}
 use Rattle.turns.specs.declared.answering.Pace.the-variants.{Went, Slow}
+use Rattle.turns.specs.declared.answering.Called.{Called}
 use Rattle.turns.specs.declared.answering.Turned.{Turned}
 
 -- R1 to R3 do not apply
@@ -97,6 +100,28 @@ pub record Turns (p : Plate) (v : Stage) (place : ℕ) (x : Said) (kept w out : 
   pub bytes : kept′ ≡ put kept 0 (keptIn ((turn v place x) .stage))
   pub room : w′ ≡ put w 0 (replyTo v x)
   pub sound : Sound p (r .board) kept′ m′ w′
+
+-- the board's call for what a record says; a call that brings a reply has its tick
+pub record Steps (p : Plate) (b : Board) (x : Said) (kept m w : List ℕ) (tick : ℕ) (r : Stepped) (kept′ m′ w′ : List ℕ) : Type 0 where
+  pub asked : Call
+  pub said : x ≡ call asked
+  pub stepped : board.Steps (plateOf p) b kept m w asked r kept′ m′ w′
+  pub line : printedOf (poll tick) ((step (plateOf p) (stateOf b kept) m asked) .reply) ≡ printedOf asked ((step (plateOf p) (stateOf b kept) m asked) .reply)
+
+-- no call: the record is bad
+pub record Refuses (x : Said) (kept m w kept′ m′ w′ : List ℕ) : Type 0 where
+  pub bad : (v : Plate) (s : meaning.State) (n : List ℕ) (place : ℕ) → turn (running (plateOf v) s n) place x ≡ answers.bad place
+  pub silent : (v : Plate) (s : meaning.State) (n : List ℕ) → replyTo (running (plateOf v) s n) x ≡ []
+  pub bytes : kept′ ≡ kept
+  pub memory : m′ ≡ m
+  pub room : w′ ≡ w
+
+abbrev pub CallsBy : Bool → Plate → Board → Said → List ℕ → List ℕ → List ℕ → Called → List ℕ → List ℕ → List ℕ → Type 0
+CallsBy true p b x kept m w r kept′ m′ w′ = Refuses x kept m w kept′ m′ w′
+CallsBy false p b x kept m w r kept′ m′ w′ = Steps p b x kept m w (r .tick) (r .stepped) kept′ m′ w′
+
+abbrev pub Calls : Plate → Board → Said → List ℕ → List ℕ → List ℕ → Called → List ℕ → List ℕ → List ℕ → Type 0
+Calls p b x kept m w r kept′ m′ w′ = CallsBy (r .bad) p b x kept m w r kept′ m′ w′
 
 abbrev pub sentOf : Outcome → ℕ
 sentOf (Refused n) = 0

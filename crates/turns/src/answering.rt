@@ -8,7 +8,7 @@ ghost use Rattle.board.specs.Board.{stateOf};
 ghost use Rattle.tape.specs.Answers.{running};
 ghost use Rattle.tape.specs.Reader.{saidOf, Printed};
 ghost use Rattle.tape.specs.Passes.{longestLine};
-ghost use Rattle.turns.specs.Turns.{Sound, Quickens, Turns, sentOf, Fitting, Answered};
+ghost use Rattle.turns.specs.Turns.{Sound, Quickens, Calls, Turns, sentOf, Fitting, Answered};
 use board::Board;
 use board::Outcome;
 use board::Stepped;
@@ -27,6 +27,13 @@ pub struct Turned {
     pub board: Board,
     pub used: usize,
     pub over: bool,
+}
+
+// What the board's call brought, and the tick that its line begins with; or the record was bad and nothing was called.
+struct Called {
+    stepped: Stepped,
+    tick: u32,
+    bad: bool,
 }
 
 // Most records are characters inside a frame: they touch the frame's numbers and a kept byte, and no refusal has to be tried.
@@ -87,11 +94,60 @@ fn answered(tick: u32, stepped: Stepped, reply: &[u8], out: &mut [u8], used: usi
     after(board, end, false)
 }
 
-fn silent(stepped: Stepped, used: usize) -> Turned
-    ensures { λ r. ⌜ r ≡ record { board = stepped .board; used = used; over = false } ⌝ }
+fn brought(stepped: Stepped, tick: u32) -> Called
+    ensures { λ r. ⌜ r ≡ record { stepped = stepped; tick = tick; bad = false } ⌝ }
 {
-    let board = stepped.board;
-    after(board, used, false)
+    Called {
+        stepped,
+        tick,
+        bad: false,
+    }
+}
+
+fn not_called(board: Board) -> Called
+    ensures { λ r. ⌜ r .bad ≡ true ⌝ }
+{
+    let stepped = Stepped {
+        board,
+        outcome: Outcome::Still,
+    };
+    Called {
+        stepped,
+        tick: 0,
+        bad: true,
+    }
+}
+
+// The board's call for what a record says; a second plate and an unfit record are none. Only a character and a poll bring a line.
+fn ask(
+    plate: Plate,
+    board: Board,
+    event: Event,
+    kept: &mut [u8],
+    memory: &mut [u8],
+    reply: &mut [u8],
+) -> Called
+    requires { ⌜ Sound plate board (now kept) (now memory) (now reply) ⌝ }
+    ensures { λ r. ⌜ Calls plate board (saidOf event) (now (kept .entry)) (now (memory .entry)) (now (reply .entry)) r (now (kept .exit)) (now (memory .exit)) (now (reply .exit)) ⌝ }
+{
+    match event {
+        Event::Character {
+            tick,
+            value,
+            parity,
+        } => {
+            let stepped = board::character(plate, board, tick, value, parity, kept, memory, reply);
+            brought(stepped, tick)
+        }
+        Event::Poll { tick } => {
+            let stepped = board::poll(plate, board, tick, kept, memory, reply);
+            brought(stepped, tick)
+        }
+        Event::Measured { position } => brought(board::measured(plate, board, position), 0),
+        Event::Fault { code } => brought(board::fault(plate, board, code), 0),
+        Event::PowerOn => brought(board::power_on(plate, board), 0),
+        _ => not_called(board),
+    }
 }
 
 // Any record of a running board: what the board answers is printed; a record that does not fit, or a second plate, is bad.
@@ -110,25 +166,10 @@ pub fn turn(
     requires { ⌜ used + longestLine ≤ length (now out) ⌝ }
     ensures { λ r. ⌜ Turns plate (running (plateOf plate) (stateOf board (now (kept .entry))) (now (memory .entry))) place (saidOf event) (now (kept .entry)) (now (reply .entry)) (now (out .entry)) used r (now (kept .exit)) (now (memory .exit)) (now (reply .exit)) (now (out .exit)) ⌝ }
 {
-    match event {
-        Event::Character {
-            tick,
-            value,
-            parity,
-        } => {
-            let stepped = board::character(plate, board, tick, value, parity, kept, memory, reply);
-            answered(tick, stepped, reply, out, used)
-        }
-        Event::Poll { tick } => {
-            let stepped = board::poll(plate, board, tick, kept, memory, reply);
-            answered(tick, stepped, reply, out, used)
-        }
-        Event::Measured { position } => silent(board::measured(plate, board, position), used),
-        Event::Fault { code } => silent(board::fault(plate, board, code), used),
-        Event::PowerOn => silent(board::power_on(plate, board), used),
-        _ => {
-            let end = tape::bad_line(place, out, used);
-            after(board, end, true)
-        }
+    let call = ask(plate, board, event, kept, memory, reply);
+    if call.bad {
+        let end = tape::bad_line(place, out, used);
+        return after(board, end, true);
     }
+    answered(call.tick, call.stepped, reply, out, used)
 }

@@ -44,9 +44,8 @@ fn begin(event: Event, next: usize) -> Opened
 pub fn open(window: &[u8]) -> Opened
     ensures { λ r. ⌜ r ≡ openedBy (toldAt 0 (now (window .entry))) ⌝ }
 {
-    match hear(window, 0) {
-        Heard::Nothing => Opened::More,
-        Heard::Broken => Opened::Bad,
-        Heard::Said { event, next } => begin(event, next),
-    }
+    let Heard::Said { event, next } = hear(window, 0) else {
+        return Opened::More;
+    };
+    begin(event, next)
 }

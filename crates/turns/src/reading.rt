@@ -5,10 +5,9 @@ use tape::Cursor;
 use tape::Event;
 use tape::Read;
 
-// What stands at a place of the window: not yet a whole record; no record; what a record says, and the place past it.
+// What stands at a place of the window: not yet a whole record; what it says, and the place past it. Where no record begins it is unfit.
 pub enum Heard {
     Nothing,
-    Broken,
     Said { event: Event, next: usize },
 }
 
@@ -19,7 +18,10 @@ pub fn hear(window: &[u8], at: usize) -> Heard
     let cursor = Cursor { at };
     match cursor.read(window, 8) {
         Read::More => Heard::Nothing,
-        Read::Bad => Heard::Broken,
+        Read::Bad => Heard::Said {
+            event: Event::Unfit,
+            next: at,
+        },
         Read::Record {
             kind,
             start,

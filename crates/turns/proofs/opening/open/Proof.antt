@@ -12,36 +12,20 @@ use Rattle.turns.proofs.reading.hear.Reads as hear-reads
 hear-requires : tie.Need-hear-requires
 hear-requires c κs = search needs
 
-enum-told : tie.Need-enum-told
-enum-told c = search needs
-
-enum-told-2 : tie.Need-enum-told-2
-enum-told-2 c = search needs
-
 enum-known-event : tie.Need-enum-known-event
 enum-known-event c = search needs
 
-begin-requires : tie.Need-begin-requires
-begin-requires c κs = search needs
+enum-told : tie.Need-enum-told
+enum-told c = search needs
 
 returns : tie.Need-returns
 returns c = rw (c .enum-told .given .1) at (ap openedBy (c .before .before .hear .ensures))
 
-returns-2 : tie.Need-returns-2
-returns-2 c = rw (c .enum-told2 .given .1) at (ap openedBy (c .before .before .hear .ensures))
+begin-requires : tie.Need-begin-requires
+begin-requires c κs = search needs
 
-returns-3 : tie.Need-returns-3
-returns-3 c = c .begin .ensures ∙ rw (c .before .before .event .given .1) at (ap openedBy (c .before .before .before .before .hear .ensures))
+returns-2 : tie.Need-returns-2
+returns-2 c = c .begin .ensures ∙ rw (c .before .before .event .given .1) at (ap openedBy (c .before .before .before .before .hear .ensures))
 
 pub open-spec : {M : Type 1} → statement M
-open-spec =
-    tie.close
-    (tie.spec
-    hear-requires
-    enum-told
-    enum-told-2
-    enum-known-event
-    begin-requires
-    returns
-    returns-2
-    returns-3)
+open-spec = tie.close (tie.spec hear-requires enum-known-event enum-told returns begin-requires returns-2)

@@ -27,14 +27,14 @@ event-of-requires c κs = body-inside _ _ _ _ _ _ (sym (c .before .before .befor
 
 returns : tie.Need-returns
 unfolding toldBy
-returns c = sym (ap (toldBy _) (sym (c .before .before .read .ensures) ∙ c .enum-told .given .1))
+returns c = sym (ap (toldBy _ _) (sym (c .before .before .read .ensures) ∙ c .enum-told .given .1))
 
 returns-2 : tie.Need-returns-2
 unfolding toldBy
-returns-2 c = sym (ap (toldBy _) (sym (c .before .before .read .ensures) ∙ c .enum-told2 .given .1))
+returns-2 c = sym (ap (toldBy _ _) (sym (c .before .before .read .ensures) ∙ c .enum-told2 .given .1))
 
 returns-3 : tie.Need-returns-3
-returns-3 c = told-record _ _ _ _ _ (sym (c .before .before .before .before .read .ensures) ∙ c .before .before .kind .given .1) (c .event-of .ensures)
+returns-3 c = told-record _ _ _ _ _ _ (sym (c .before .before .before .before .read .ensures) ∙ c .before .before .kind .given .1) (c .event-of .ensures)
 
 pub hear-spec : {M : Type 1} → statement M
 hear-spec =
