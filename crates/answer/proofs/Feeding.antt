@@ -37,7 +37,7 @@ module _ (s : Session) (kept m w out : List ℕ) (used : ℕ) (ready : Ready s [
   emptied = record { steady = ready .steady; lent = ready .lent; size = ready .size; room = ready .room; space = omega arith; place = ready .place }
 
   pub eaten-leaves : (window part : List ℕ) (at : ℕ) (r : Eaten) (kept′ m′ w′ out′ : List ℕ) → s .place < 9223372036854775808 → length window ≤ 65536
-      → at + length part ≤ length window → Eats s part kept m out used r kept′ m′ w′ out′ → length kept′ ≡ length kept → length m′ ≡ length m → length w′ ≡ length w
+      → at + length part ≤ length window → Eats s part kept m w out used r kept′ m′ w′ out′ → length kept′ ≡ length kept → length m′ ≡ length m → length w′ ≡ length w
       → Leaves (record { session = r .session; at = at + r .read; used = r .used }) window kept′ m′ w′ out′
   eaten-leaves window part at r kept′ m′ w′ out′ h l i e k₁ k₂ k₃ = record {
     inside = omega (arith, e .inside);

@@ -2,11 +2,17 @@
 use Prim.Native.Nat.{ℕ, _≤_}
 use mathlib.Core.Path.{_≡_}
 use mathlib.Core.List.{List, []}
-use lib.ListN.{length}
+use lib.ListN.{length, take}
 use Rattle.meaning.specs.Bytes.{zeros}
 use Rattle.answers.specs.declared.session.Phase.the-variants.{Ended}
 use Rattle.answers.specs.Sessions.{largestImage, Ready}
 use Rattle.answer.specs.declared.Fed.{Fed}
+
+-- bytes that were read stand behind those that the window had
+pub record Refills (window : List ℕ) (have r : ℕ) (window′ : List ℕ) : Type 0 where
+  pub more : have ≤ r
+  pub within : r ≤ length window
+  pub front : take have window′ ≡ take have window
 
 -- after a window the board is ready for the next, unless a record was bad
 pub record Leaves (r : Fed) (window kept m w out : List ℕ) : Type 0 where

@@ -3,9 +3,10 @@
 // crate `answers`; what is read and written is tested.
 ghost use mathlib.Core.Path.{_≡_};
 ghost use mathlib.Core.List.{[]};
-ghost use Prim.Native.Nat.{_+_, _≤_, _<_};
+ghost use Prim.Native.Nat.{_+_, _-_, _≤_, _<_};
 ghost use lib.ListN.{length};
-ghost use Rattle.answer.specs.Program.{Leaves, Buffers};
+ghost use Rattle.meaning.specs.Bytes.{part, put};
+ghost use Rattle.answer.specs.Program.{Refills, Leaves, Buffers};
 ghost use Rattle.answers.specs.Sessions.{Ready};
 use answers::Phase;
 use answers::Session;
@@ -72,7 +73,7 @@ fn feed(
 // Reads behind the bytes that the window has, and says how many it has then.
 fn refill(window: &mut [u8], have: usize) -> usize
     requires { ⌜ have ≤ length (now window) ⌝ }
-    ensures { λ r. ⌜ r ≤ length (now (window .entry)) ⌝ }
+    ensures { λ r. ⌜ Refills (now (window .entry)) have r (now (window .exit)) ⌝ }
 {
     have + io::read_full(STDIN_FILENO, &mut window[have..])
 }
@@ -80,7 +81,7 @@ fn refill(window: &mut [u8], have: usize) -> usize
 // The bytes from one place to another go to the front of the window.
 fn shift(window: &mut [u8], from: usize, to: usize) -> usize
     requires { ⌜ (from ≤ to) × (to ≤ length (now window)) ⌝ }
-    ensures { λ r. ⌜ from + r ≡ to ⌝ }
+    ensures { λ r. ⌜ (from + r ≡ to) × (now (window .exit) ≡ put (now (window .entry)) 0 (part (now (window .entry)) from (to - from))) ⌝ }
 {
     let mut i = 0;
     while i < to - from {

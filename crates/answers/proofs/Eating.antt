@@ -8,13 +8,12 @@ use native.Mathlib.Omega.{arith}
 use lib.ListN.{length, take, drop, replicate, length-take, length-drop, length-replicate}
 use lib.Seq.{take-at, length-take-le}
 use lib.Dec.{T}
-use types.Run.{OneOf, miss}
-use denote.Enum.Declared.{tagOf}
-use Rattle.meaning.specs.Bytes.{zeros}
+use Rattle.meaning.specs.Bytes.{zeros, put}
 use Rattle.meaning.specs.State as meaning
 use Rattle.meaning.specs.State.{plateOk, stateOk, fresh}
 use Rattle.meaning.specs.Fields.{imageLength}
 use Rattle.meaning.proofs.Limits.{fresh-within}
+use Rattle.meaning.proofs.Calls.{put-front}
 use Rattle.line.specs.declared.plate.Plate.{Plate}
 use Rattle.line.specs.Line.{plateOf}
 use Rattle.line.proofs.Limits.{total-fits}
@@ -28,10 +27,13 @@ use Rattle.tape.specs.Answers.{Stage, opening, running, ended, Turn, bad, turn}
 use Rattle.tape.specs.Passes as passes
 use Rattle.tape.specs.Passes.{Pass, pass, stopped, after, heard, nothing, said, longestLine}
 use Rattle.tape.specs.Reader.{Printed}
+use Rattle.tape.proofs.Rooms.{put-nil}
 use Rattle.tape.proofs.Streams.{pass-enough}
-use Rattle.answers.specs.Turns.{Sound}
-use Rattle.answers.specs.Sessions.{largestImage, stageFrom, stageOf, stopTold, phaseAfter, Plays, Steady, Ready, passOver, Eats, Playable, passFrom, GoesOn, Refuses}
-use Rattle.answers.specs.Openings.{Begins, Fails}
+use Rattle.turns.specs.Turns.{Sound, keptIn, isEnded, lastOf}
+use Rattle.answers.specs.Beginnings.{Working, goes-on, begins, Idle}
+use Rattle.answers.specs.Holding.{Held, holds, heldAfter, heldBy}
+use Rattle.answers.specs.Sessions.{largestImage, stageFrom, stageOf, stopTold, phaseAfter, eatenBy, Plays, Steady, Ready, passOver, heldOver, Stands, Eats, Playable, passFrom, heldFrom, GoesOn, Refuses}
+use Rattle.turns.specs.Openings.{Begins, Fails}
 use Rattle.answers.specs.declared.session.Phase.{Phase}
 use Rattle.answers.specs.declared.session.Phase.the-variants.{Opening, Running, Ended}
 use Rattle.answers.specs.declared.session.Session.{Session}
@@ -39,8 +41,8 @@ use Rattle.answers.specs.declared.session.Stop.{Stop}
 use Rattle.answers.specs.declared.session.Stop.the-variants.{More, Full, Over}
 use Rattle.answers.specs.declared.passes.Played.{Played}
 use Rattle.answers.specs.declared.passes.Eaten.{Eaten}
-use Rattle.answers.proofs.session.Phase.{the-type}
 use Rattle.answers.proofs.Closings.{no-text}
+use Rattle.answers.proofs.Holding.{held-parts, held-full, held-more, held-bad, held-good, held-enough}
 use Rattle.answers.proofs.Playing.{pass-full, pass-more, pass-turn}
 
 -- ---- the front of the lent memory
@@ -54,8 +56,10 @@ module _ (p : Plate) (b : Board) (place : ℕ) (window : List ℕ) (from : ℕ) 
   in-front = rw here (front-fits p m (ready .sound .within .plate) (ready .size))
 
   module _ (r : Played) (kept′ mp w′ out′ : List ℕ)
-      (played : Plays p (pass (suc (length window)) (length out - used) (running (plateOf p) (stateOf b kept) (take n m)) (place + from) (drop from window)) from window out used r kept′ mp w′ out′) where
-    plays : Plays p (passFrom p b place window from kept m out used) from window out used r kept′ mp w′ out′
+      (played : Plays p (pass (suc (length window)) (length out - used) (running (plateOf p) (stateOf b kept) (take n m)) (place + from) (drop from window))
+      (heldBy (suc (length window)) (length out - used) (place + from) (drop from window) (holds (running (plateOf p) (stateOf b kept) (take n m)) kept w))
+      from window out used r kept′ mp w′ out′) where
+    plays : Plays p (passFrom p b place window from kept m out used) (heldFrom p b place window from kept m w out used) from window out used r kept′ mp w′ out′
     plays = rw here at played
 
     -- the front comes back
@@ -67,34 +71,51 @@ module _ (p : Plate) (b : Board) (place : ℕ) (window : List ℕ) (from : ℕ) 
     steady Full h = rw front-back (plays .sound)
     steady Over h = absurd (h refl)
 
-    pub goes-from : (f : Phase) → f ≡ phaseAfter (r .stop)
-        → GoesOn p b place window from kept m out used
-        (record { session = record { phase = f; plate = p; board = r .board; place = place + r .at }; read = r .at; used = r .used; stop = r .stop }) kept′ (mp ++ drop n m) w′ out′
-    goes-from f e = record {
-      stage = rw (front-back, e) (plays .stage);
-      next = ap (λ (i : ℕ). place + i) (plays .read);
-      read = plays .read;
-      inside = plays .inside;
-      stop = plays .stop;
-      printed = plays .printed;
-      steady = rw e (steady (r .stop));
-    }
+    -- the board's numbers, and the memory behind its front
+    at-work-still : (s : Session) (f : Phase)
+        → Stands ((heldFrom p b place window from kept m w out used) .stage) s m (record { phase = f; plate = p; board = r .board; place = place + r .at }) kept′ (mp ++ drop n m)
+    at-work-still s f =
+        rw (← plays .held)
+        (record {
+          plate = refl;
+          state = refl;
+          memory = rw (put-front m mp, here, plays .sound .within .size);
+          few = plays .sound .within .few;
+          places = plays .sound .within .places;
+        })
+
+    pub goes-from : (e : Eaten) → e ≡ eatenBy p place r → GoesOn p b place window from kept m w out used e kept′ (mp ++ drop n m) w′ out′
+    goes-from e d =
+        rw d
+        (record {
+          stage = rw front-back (plays .stage);
+          next = ap (λ (i : ℕ). place + i) (plays .read);
+          read = plays .read;
+          inside = plays .inside;
+          stop = plays .stop;
+          printed = plays .printed;
+          stands = λ s. at-work-still s (phaseAfter (r .stop));
+          bytes = ap (λ (h : Held). h .kept) (plays .held);
+          reply = ap (λ (h : Held). h .room) (plays .held);
+          steady = steady (r .stop);
+        })
 
 -- ---- a board at work
 
-pub at-work : (f : Phase) (p : Plate) (b : Board) (kept m w : List ℕ) → OneOf (1 ∷ 2 ∷ []) (tagOf the-type f) → Steady f p b kept m w → f ≡ Running
-at-work Opening p b kept m w k h = absurd (miss (1 ∷ 2 ∷ []) 0 tt k)
+at-work : (f : Phase) (p : Plate) (b : Board) (kept m w : List ℕ) → (f ≡ Opening → ⊥) → Steady f p b kept m w → f ≡ Running
+at-work Opening p b kept m w k h = absurd (k refl)
 at-work Running p b kept m w k h = refl
 at-work Ended p b kept m w k h = absurd h
 
 module _ (s : Session) (window kept m w out : List ℕ) (used : ℕ) (ready : Ready s window kept m w out used) where
-  pub playable : s .phase ≡ Running → Playable (s .plate) (s .board) (s .place) window 0 kept m w out used
+  playable : s .phase ≡ Running → Playable (s .plate) (s .board) (s .place) window 0 kept m w out used
   playable e = record { sound = rw e at (ready .steady); size = ready .size; starts = omega arith; space = ready .space; places = ready .place }
 
-  pub eats-on : (r : Eaten) (kept′ m′ w′ out′ : List ℕ) → s .phase ≡ Running → GoesOn (s .plate) (s .board) (s .place) window 0 kept m out used r kept′ m′ w′ out′
-      → Eats s window kept m out used r kept′ m′ w′ out′
+  eats-on : (r : Eaten) (kept′ m′ w′ out′ : List ℕ) → s .phase ≡ Running → GoesOn (s .plate) (s .board) (s .place) window 0 kept m w out used r kept′ m′ w′ out′
+      → Eats s window kept m w out used r kept′ m′ w′ out′
   eats-on r kept′ m′ w′ out′ e g =
       let q : passFrom (s .plate) (s .board) (s .place) window 0 kept m out used ≡ passOver s window kept m out used = rw (add-zero (s .place), e) in
+      let l : heldFrom (s .plate) (s .board) (s .place) window 0 kept m w out used ≡ heldOver s window kept m w out used = rw (add-zero (s .place), e) in
       record {
         stage = g .stage ∙ ap (λ (x : Pass). x .stage) q;
         place = g .next ∙ ap (λ (x : Pass). s .place + (0 + x .read)) q ∙ rw zero-add;
@@ -102,54 +123,85 @@ module _ (s : Session) (window kept m w out : List ℕ) (used : ℕ) (ready : Re
         inside = g .inside;
         stop = g .stop ∙ ap (λ (x : Pass). stopTold (x .stop)) q;
         printed = rw q at (g .printed);
+        stands = rw l at (g .stands s);
+        bytes = g .bytes ∙ ap (λ (h : Held). h .kept) l;
+        reply = g .reply ∙ ap (λ (h : Held). h .room) l;
         steady = g .steady;
       }
 
   -- ---- before the plate
+  module _ (first : s .phase ≡ Opening) where
+    abbrev untouched : Held
+    untouched = holds opening kept w
 
-  eats-stopped : (why : passes.Stop) (r : Eaten) → passOver s window kept m out used ≡ stopped (stageOf s kept m) why
-      → r ≡ record { session = s; read = 0; used = used; stop = stopTold why } → Eats s window kept m out used r kept m w out
-  unfolding stopped
-  eats-stopped why r q d =
-      rw d
-      (record {
-        stage = sym (ap (λ (x : Pass). x .stage) q);
-        place = rw q (sym (add-zero (s .place)));
-        read = sym (ap (λ (x : Pass). x .read) q);
-        inside = omega arith;
-        stop = rw q;
-        printed = no-text out used (ap (λ (x : Pass). x .printed) q) (ready .space);
-        steady = λ h. ready .steady;
-      })
+    eats-stopped : (why : passes.Stop) (r : Eaten) → passOver s window kept m out used ≡ stopped (stageOf s kept m) why → heldOver s window kept m w out used ≡ holds (stageOf s kept m) kept w
+        → r ≡ record { session = s; read = 0; used = used; stop = stopTold why } → Eats s window kept m w out used r kept m w out
+    unfolding stopped
+    eats-stopped why r q l d =
+        let u : heldOver s window kept m w out used ≡ untouched = l ∙ rw first in
+        rw d
+        (record {
+          stage = sym (ap (λ (x : Pass). x .stage) q);
+          place = rw q (sym (add-zero (s .place)));
+          read = sym (ap (λ (x : Pass). x .read) q);
+          inside = omega arith;
+          stop = rw q;
+          printed = no-text out used (ap (λ (x : Pass). x .printed) q) (ready .space);
+          stands = rw u (record { plate = refl; board = refl; memory = refl });
+          bytes = sym (ap (λ (h : Held). h .kept) u);
+          reply = sym (ap (λ (h : Held). h .room) u);
+          steady = λ h. ready .steady;
+        })
 
-  pub eats-full : (r : Eaten) → length out - used < longestLine → r ≡ record { session = s; read = 0; used = used; stop = Full } → Eats s window kept m out used r kept m w out
-  eats-full r h d = eats-stopped passes.full r (pass-full (length window) (length out - used) (stageOf s kept m) (s .place) window h) d
+    eats-full : (r : Eaten) → length out - used < longestLine → r ≡ record { session = s; read = 0; used = used; stop = Full } → Eats s window kept m w out used r kept m w out
+    eats-full r h d =
+        eats-stopped passes.full r (pass-full (length window) (length out - used) (stageOf s kept m) (s .place) window h)
+        (held-full (length window) (length out - used) (s .place) window (holds (stageOf s kept m) kept w) h) d
 
-  pub eats-more : (r : Eaten) → longestLine ≤ length out - used → heard window ≡ nothing → r ≡ record { session = s; read = 0; used = used; stop = More }
-      → Eats s window kept m out used r kept m w out
-  eats-more r h e d = eats-stopped passes.more r (pass-more (length window) (length out - used) (stageOf s kept m) (s .place) window h e) d
+    module _ (space : longestLine ≤ length out - used) where
+      eats-more : (r : Eaten) → heard window ≡ nothing → r ≡ record { session = s; read = 0; used = used; stop = More } → Eats s window kept m w out used r kept m w out
+      eats-more r e d =
+          eats-stopped passes.more r (pass-more (length window) (length out - used) (stageOf s kept m) (s .place) window space e)
+          (held-more (length window) (length out - used) (s .place) window (holds (stageOf s kept m) kept w) space e) d
 
-  module _ (first : s .phase ≡ Opening) (space : longestLine ≤ length out - used) where
-    begin-pass : (x : Said) → heard window ≡ said x → let k = turn opening (s .place) x in
-        passOver s window kept m out used
-        ≡ after (k .stage) (k .printed) (wholeLength window) (pass (length window) (length out - used - length (k .printed)) (k .stage) (s .place + wholeLength window) (drop (wholeLength window) window))
-    begin-pass x e = rw first (pass-turn (length window) (length out - used) opening (s .place) window x space e)
+      begin-pass : (x : Said) → heard window ≡ said x → let k = turn opening (s .place) x in
+          passOver s window kept m out used
+          ≡ after (k .stage) (k .printed) (wholeLength window) (pass (length window) (length out - used - length (k .printed)) (k .stage) (s .place + wholeLength window) (drop (wholeLength window) window))
+      begin-pass x e = rw first (pass-turn (length window) (length out - used) opening (s .place) window x space e)
 
-    pub eats-bad : (r : Eaten) (out′ : List ℕ) → (x : Said) × Fails window x → Refuses s out used r out′ → Eats s window kept m out used r kept m w out′
-    unfolding after bad
-    eats-bad r out′ (x, f) g =
-        let q : passOver s window kept m out used ≡ record { stage = ended; read = 0; printed = badLine (s .place); stop = passes.over }
-        = begin-pass x (f .heard) ∙ rw (f .turned (s .place)) in
-        let d = g .eaten in
-        record {
-          stage = rw (d, q);
-          place = rw (d, q) (sym (add-zero (s .place)));
-          read = rw (d, q);
-          inside = rw d (omega arith);
-          stop = rw (d, q);
-          printed = rw q (g .printed);
-          steady = rw d (λ h. absurd (h refl));
-        }
+      eats-bad : (r : Eaten) (out′ : List ℕ) → (x : Said) × Fails window x → Refuses s out used r out′ → Eats s window kept m w out used r kept m w out′
+      unfolding after bad
+      eats-bad r out′ (x, f) g =
+          let q : passOver s window kept m out used ≡ record { stage = ended; read = 0; printed = badLine (s .place); stop = passes.over }
+          = begin-pass x (f .heard) ∙ rw (f .turned (s .place)) in
+          let k : (turn opening (s .place) x) .stage ≡ ended = ap (λ (y : Turn). y .stage) (f .turned (s .place)) in
+          let l : heldOver s window kept m w out used ≡ untouched
+          = rw first
+          (held-bad (length window) (length out - used) (s .place) window untouched x space (f .heard) (ap isEnded k)
+          ∙ held-parts (ap (lastOf opening) k) (ap (λ (v : Stage). put kept 0 (keptIn v)) k ∙ put-nil kept 0) (put-nil w 0)) in
+          let d = g .eaten in
+          record {
+            stage = rw (d, q);
+            place = rw (d, q) (sym (add-zero (s .place)));
+            read = rw (d, q);
+            inside = rw d (omega arith);
+            stop = rw (d, q);
+            printed = rw q (g .printed);
+            stands = rw (d, l) (record { plate = refl; board = refl; memory = refl });
+            bytes = sym (ap (λ (h : Held). h .kept) l);
+            reply = sym (ap (λ (h : Held). h .room) l);
+            steady = rw d (λ h. absurd (h refl));
+          }
+
+  pub eats-idle : (why : Stop) (r : Eaten) → (s .phase ≡ Opening) × Idle window (length out - used) why → r ≡ record { session = s; read = 0; used = used; stop = why }
+      → Eats s window kept m w out used r kept m w out
+  eats-idle Full r (first, i) d = eats-full first r i d
+  eats-idle More r (first, i) d = eats-more first (i .0) r (i .1) d
+  eats-idle Over r (first, i) d = absurd i
+
+  pub eats-none : (r : Eaten) (out′ : List ℕ) → (s .phase ≡ Opening) × (longestLine ≤ length out - used) × ((x : Said) × Fails window x) → Refuses s out used r out′
+      → Eats s window kept m w out used r kept m w out′
+  eats-none r out′ (first, space, none) g = eats-bad first space r out′ none g
 
 -- ---- the plate
 
@@ -179,7 +231,7 @@ module _ (s : Session) (window kept m w out : List ℕ) (used : ℕ) (ready : Re
       let e : take (b .frame .len) kept ≡ [] = ap (λ (y : meaning.State). y .line .kept) (fresh-board kept) in
       omega (arith, ap length e, length-take (b .frame .len) kept, ready .lent)
 
-  pub fresh-playable : Playable p b (s .place) window next kept m w out used
+  fresh-playable : Playable p b (s .place) window next kept m w out used
   fresh-playable = record {
     sound = record {
       within = record {
@@ -198,25 +250,70 @@ module _ (s : Session) (window kept m w out : List ℕ) (used : ℕ) (ready : Re
   }
 
   -- the first record is the plate, and the board's pass begins behind it
-  pub eats-plate : (r : Eaten) (kept′ m′ w′ out′ : List ℕ) → longestLine ≤ length out - used → GoesOn p b (s .place) window next kept m out used r kept′ m′ w′ out′
-      → Eats s window kept m out used r kept′ m′ w′ out′
-  unfolding after
-  eats-plate r kept′ m′ w′ out′ space g =
-      let n = wholeLength window in
-      let d : length (drop n window) < length window = rw (length-drop n window) (omega (arith, begins .whole, begins .inside)) in
-      let z : length out - used - 0 ≡ length out - used = omega arith in
-      let q : pass (length window) (length out - used - 0) (running (plateOf p) (fresh (plateOf p)) (zeros (imageLength (p .total)))) (s .place + n) (drop n window)
-      ≡ passFrom p b (s .place) window next kept m out used
-      = rw (z, begins .whole, blank, fresh-board kept)
-      (pass-enough (length window) (suc (length window)) (length out - used) (running (plateOf p) (fresh (plateOf p)) (zeros (imageLength (p .total)))) (s .place + n) (drop n window) d (omega arith)) in
-      let a : passOver s window kept m out used ≡ ahead next (passFrom p b (s .place) window next kept m out used)
-      = begin-pass s window kept m w out used ready first space x (begins .heard) ∙ rw (begins .turned (s .place), q, begins .whole) in
-      record {
-        stage = g .stage ∙ sym (ap (λ (y : Pass). y .stage) a);
-        place = g .next ∙ ap (λ (i : ℕ). s .place + i) (sym (ap (λ (y : Pass). y .read) a));
-        read = g .read ∙ sym (ap (λ (y : Pass). y .read) a);
-        inside = g .inside;
-        stop = g .stop ∙ ap stopTold (sym (ap (λ (y : Pass). y .stop) a));
-        printed = rw a (g .printed);
-        steady = g .steady;
-      }
+  module _ (space : longestLine ≤ length out - used) where
+    abbrev began : Stage
+    began = running (plateOf p) (fresh (plateOf p)) (zeros (imageLength (p .total)))
+
+    shorter : length (drop (wholeLength window) window) < length window
+    shorter = rw (length-drop (wholeLength window) window) (omega (arith, begins .whole, begins .inside))
+
+    same-space : length out - used - 0 ≡ length out - used
+    same-space = omega arith
+
+    pass-begins : passOver s window kept m out used ≡ ahead next (passFrom p b (s .place) window next kept m out used)
+    unfolding after
+    pass-begins =
+        let n = wholeLength window in
+        let q : pass (length window) (length out - used - 0) began (s .place + n) (drop n window) ≡ passFrom p b (s .place) window next kept m out used
+        = rw (same-space, begins .whole, blank, fresh-board kept) (pass-enough (length window) (suc (length window)) (length out - used) began (s .place + n) (drop n window) shorter (omega (arith, shorter))) in
+        begin-pass s window kept m w out used ready first space x (begins .heard) ∙ rw (begins .turned (s .place), q, begins .whole)
+
+    held-begins : heldOver s window kept m w out used ≡ heldFrom p b (s .place) window next kept m w out used
+    unfolding fresh meaning.none
+    held-begins =
+        let n = wholeLength window in
+        let t = begins .turned (s .place) in
+        let k : (turn opening (s .place) x) .stage ≡ began = ap (λ (y : Turn). y .stage) t in
+        let h : heldAfter (holds opening kept w) (s .place) x ≡ holds began kept w
+        = held-parts (ap (lastOf opening) k) (ap (λ (v : Stage). put kept 0 (keptIn v)) k ∙ put-nil kept 0) (put-nil w 0) in
+        let q : heldBy (length window) (length out - used - 0) (s .place + n) (drop n window) (holds began kept w) ≡ heldFrom p b (s .place) window next kept m w out used
+        = rw (same-space, begins .whole, blank, fresh-board kept)
+        (held-enough (length window) (suc (length window)) (length out - used) (s .place + n) (drop n window) (holds began kept w) shorter (omega (arith, shorter))) in
+        rw first
+        (held-good (length window) (length out - used) (s .place) window (holds opening kept w) x space (begins .heard) (ap isEnded k)
+        ∙ ap (λ (y : Turn). heldBy (length window) (length out - used - length (y .printed)) (s .place + n) (drop n window) (heldAfter (holds opening kept w) (s .place) x)) t
+        ∙ ap (heldBy (length window) (length out - used - 0) (s .place + n) (drop n window)) h
+        ∙ q)
+
+    eats-plate : (r : Eaten) (kept′ m′ w′ out′ : List ℕ) → GoesOn p b (s .place) window next kept m w out used r kept′ m′ w′ out′
+        → Eats s window kept m w out used r kept′ m′ w′ out′
+    eats-plate r kept′ m′ w′ out′ g =
+        let a = pass-begins in
+        let l = held-begins in
+        record {
+          stage = g .stage ∙ sym (ap (λ (y : Pass). y .stage) a);
+          place = g .next ∙ ap (λ (i : ℕ). s .place + i) (sym (ap (λ (y : Pass). y .read) a));
+          read = g .read ∙ sym (ap (λ (y : Pass). y .read) a);
+          inside = g .inside;
+          stop = g .stop ∙ ap stopTold (sym (ap (λ (y : Pass). y .stop) a));
+          printed = rw a (g .printed);
+          stands = rw l (g .stands s);
+          bytes = g .bytes ∙ sym (ap (λ (h : Held). h .kept) l);
+          reply = g .reply ∙ sym (ap (λ (h : Held). h .room) l);
+          steady = g .steady;
+        }
+
+-- ---- either
+
+module _ (s : Session) (window kept m w out : List ℕ) (used : ℕ) (ready : Ready s window kept m w out used) where
+  at-work-now : (s .phase ≡ Opening → ⊥) → s .phase ≡ Running
+  at-work-now k = at-work (s .phase) (s .plate) (s .board) kept m w k (ready .steady)
+
+  pub works-playable : (p : Plate) (b : Board) (from : ℕ) → Working s window (length out - used) p b from → Playable p b (s .place) window from kept m w out used
+  works-playable p b from (goes-on k i j l) = rw (i, j, l) (playable s window kept m w out used ready (at-work-now k))
+  works-playable p b from (begins first space x h fresh) = fresh-playable s window kept m w out used ready first p from x h b fresh
+
+  pub eats-works : (p : Plate) (b : Board) (from : ℕ) (r : Eaten) (kept′ m′ w′ out′ : List ℕ) → Working s window (length out - used) p b from
+      → GoesOn p b (s .place) window from kept m w out used r kept′ m′ w′ out′ → Eats s window kept m w out used r kept′ m′ w′ out′
+  eats-works p b from r kept′ m′ w′ out′ (goes-on k i j l) g = eats-on s window kept m w out used ready r kept′ m′ w′ out′ (at-work-now k) (rw (i, j, l) at g)
+  eats-works p b from r kept′ m′ w′ out′ (begins first space x h fresh) g = eats-plate s window kept m w out used ready first p from x h b fresh space r kept′ m′ w′ out′ g

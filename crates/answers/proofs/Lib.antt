@@ -1,8 +1,7 @@
 -- What the proofs of several functions use.
-mod Hearing
-mod Turning
 mod Closings
-mod Beginning
+mod Holding
 mod Playing
 mod Eating
 pub mod Printing
+pub mod Tight

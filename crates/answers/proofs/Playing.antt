@@ -8,6 +8,7 @@ use native.Mathlib.Omega.{arith}
 use lib.ListN.{length, drop, length-drop}
 use lib.Seq.{drop-drop}
 use borrow.Author.Tests.{lt-ltb, le-ltb}
+use Rattle.meaning.specs.Bytes.{put}
 use Rattle.meaning.specs.State as meaning
 use Rattle.line.specs.declared.plate.Plate.{Plate}
 use Rattle.line.specs.declared.characters.Frame.{Frame}
@@ -17,17 +18,23 @@ use Rattle.commands.specs.State.{stateWith}
 use Rattle.board.specs.declared.limits.Board.{Board}
 use Rattle.tape.specs.Records.{wholeLength}
 use Rattle.tape.specs.Kinds.{Said, unfit}
-use Rattle.tape.specs.Text.{badLine}
-use Rattle.tape.specs.Answers.{Stage, running, ended, Turn, bad, turn}
+use Rattle.tape.specs.Answers.{Stage, opening, running, ended, Turn, bad, turn}
 use Rattle.tape.specs.Passes as passes
 use Rattle.tape.specs.Passes.{Pass, pass, stopped, after, hearing, heard, nothing, said, longestLine}
 use Rattle.tape.specs.Reader.{Printed}
+use Rattle.tape.proofs.Rooms.{put-nil}
 use Rattle.tape.proofs.Texts.{same-room, joined}
-use Rattle.answers.specs.Turns.{Sound, runs, Past, Quiet, Turns, stageAfter}
+use Rattle.turns.specs.Hearing.{Past}
+use Rattle.turns.specs.Turns.{Sound, runs, keptIn, isEnded, lastOf, quickly, Quiet, Waits, Quickens, Turns}
+use Rattle.turns.proofs.Tight.{not-both}
+use Rattle.answers.specs.Holding.{Held, holds, heldAfter, heldBy}
+use Rattle.answers.proofs.Holding.{held-parts, held-full, held-more, held-bad, held-good}
 use Rattle.answers.specs.Sessions.{Plays, stopTold, stageFrom, phaseAfter}
 use Rattle.answers.proofs.Closings.{no-text}
 use Rattle.answers.specs.declared.passes.Played.{Played}
-use Rattle.answers.specs.declared.turns.Turned.{Turned}
+use Rattle.turns.specs.declared.answering.Pace.{Pace}
+use Rattle.turns.specs.declared.answering.Pace.the-variants.{Slow}
+use Rattle.turns.specs.declared.answering.Turned.{Turned}
 use Rattle.answers.specs.declared.session.Stop.the-variants.{More, Full, Over}
 use Rattle.answers.specs.declared.session.Phase.the-variants.{Running}
 
@@ -57,9 +64,29 @@ after-running : (w : Stage) (p : meaning.Plate) (s : meaning.State) (m : List �
 unfolding after
 after-running w p s m r n x y q e = rw (e, append-assoc x y (q .printed), add-assoc r n (q .read))
 
+-- whether a record was bad
+over-ends : (v : Stage) → isEnded v ≡ true → v ≡ ended
+over-ends opening e = absurd (not-both (sym e))
+over-ends (running p s m) e = absurd (not-both (sym e))
+over-ends ended e = refl
+
+last-goes : (w v : Stage) → isEnded v ≡ false → lastOf w v ≡ v
+last-goes w opening e = refl
+last-goes w (running p s m) e = refl
+last-goes w ended e = absurd (not-both e)
+
+-- a record that is not quick leaves the kept bytes
+pub slow-keeps : (p : Plate) (f : Frame) (kept : List ℕ) (x : Said) (r : Pace) (kept′ : List ℕ) → Quickens p f kept x r kept′ → r ≡ Slow → kept′ ≡ kept
+slow-keeps p f kept x r kept′ q e =
+    let t : Waits p f kept x kept′ = rw e at q in t .bytes
+
+-- a quick record fits
+quiet-fits : {p : Plate} {f f′ : Frame} {kept kept′ : List ℕ} {x : Said} (s : State) → Quiet p f kept x f′ kept′ → x ≡ unfit → ⊥
+quiet-fits {p} {f} {kept = kept} s q u = not-both (sym (q .quick s) ∙ ap (quickly (plateOf p) (stateWith s (lineOf f kept))) u)
+
 -- ---- the loop's invariant
 
-pub record Going (p : Plate) (place : ℕ) (window : List ℕ) (from : ℕ) (kept₀ m₀ out₀ : List ℕ) (start : ℕ) (s₀ : State) (f₀ : Frame)
+pub record Going (p : Plate) (place : ℕ) (window : List ℕ) (from : ℕ) (kept₀ m₀ w₀ out₀ : List ℕ) (start : ℕ) (s₀ : State) (f₀ : Frame)
     (kept m w out : List ℕ) (s : State) (f : Frame) (at used : ℕ) : Type 0 where
   pub fuel : ℕ
   pub read : ℕ
@@ -71,10 +98,12 @@ pub record Going (p : Plate) (place : ℕ) (window : List ℕ) (from : ℕ) (kep
   pub enough : length window - at ≤ fuel
   pub whole : pass (suc (length window)) (length out₀ - start) (runs p s₀ f₀ kept₀ m₀) (place + from) (drop from window)
       ≡ before read text (pass (suc fuel) (length out - used) (runs p s f kept m) (place + at) (drop at window))
+  pub held : heldBy (suc (length window)) (length out₀ - start) (place + from) (drop from window) (holds (runs p s₀ f₀ kept₀ m₀) kept₀ w₀)
+      ≡ heldBy (suc fuel) (length out - used) (place + at) (drop at window) (holds (runs p s f kept m) kept w)
 
 pub begins : (p : Plate) (place : ℕ) (window : List ℕ) (from : ℕ) (kept m w out : List ℕ) (start : ℕ) (s : State) (f : Frame)
     → Sound p (record { state = s; frame = f }) kept m w → from ≤ length window → start ≤ length out
-    → Going p place window from kept m out start s f kept m w out s f from start
+    → Going p place window from kept m w out start s f kept m w out s f from start
 begins p place window from kept m w out start s f sound h k = record {
   fuel = length window;
   read = 0;
@@ -85,12 +114,16 @@ begins p place window from kept m w out start s f sound h k = record {
   inside = h;
   enough = omega arith;
   whole = rw zero-add;
+  held = refl;
 }
 
-module _ {p : Plate} {place : ℕ} {window : List ℕ} {from : ℕ} {kept₀ m₀ out₀ : List ℕ} {start : ℕ} {s₀ : State} {f₀ : Frame}
-    {kept m w out : List ℕ} {s : State} {f : Frame} {at used : ℕ} (g : Going p place window from kept₀ m₀ out₀ start s₀ f₀ kept m w out s f at used) where
+module _ {p : Plate} {place : ℕ} {window : List ℕ} {from : ℕ} {kept₀ m₀ w₀ out₀ : List ℕ} {start : ℕ} {s₀ : State} {f₀ : Frame}
+    {kept m w out : List ℕ} {s : State} {f : Frame} {at used : ℕ} (g : Going p place window from kept₀ m₀ w₀ out₀ start s₀ f₀ kept m w out s f at used) where
   abbrev all : Pass
   all = pass (suc (length window)) (length out₀ - start) (runs p s₀ f₀ kept₀ m₀) (place + from) (drop from window)
+
+  abbrev lent : Held
+  lent = heldBy (suc (length window)) (length out₀ - start) (place + from) (drop from window) (holds (runs p s₀ f₀ kept₀ m₀) kept₀ w₀)
 
   abbrev here : Stage
   here = runs p s f kept m
@@ -98,12 +131,15 @@ module _ {p : Plate} {place : ℕ} {window : List ℕ} {from : ℕ} {kept₀ m�
   abbrev done : Said → Turn
   done x = turn here (place + at) x
 
+  abbrev now : Held
+  now = holds here kept w
+
   -- no space for a line, no whole record
-  halted : (why : passes.Stop) (r : Played) → phaseAfter (stopTold why) ≡ Running → all ≡ before (g .read) (g .text) (stopped here why)
+  halted : (why : passes.Stop) (r : Played) → phaseAfter (stopTold why) ≡ Running → all ≡ before (g .read) (g .text) (stopped here why) → lent ≡ now
       → r ≡ record { board = record { state = s; frame = f }; at = at; used = used; stop = stopTold why }
-      → Plays p all from window out₀ start r kept m w out
+      → Plays p all lent from window out₀ start r kept m w out
   unfolding stopped
-  halted why r k e d =
+  halted why r k e l d =
       rw (e, d)
       (record {
         read = rw add-zero (g .far);
@@ -111,28 +147,31 @@ module _ {p : Plate} {place : ℕ} {window : List ℕ} {from : ℕ} {kept₀ m�
         stop = refl;
         printed = rw append-nil (g .printed);
         stage = rw k;
+        held = sym l;
         sound = g .sound;
       })
 
   pub halts-full : (r : Played) → length out - used < longestLine → r ≡ record { board = record { state = s; frame = f }; at = at; used = used; stop = Full }
-      → Plays p all from window out₀ start r kept m w out
+      → Plays p all lent from window out₀ start r kept m w out
   halts-full r h d =
-      halted passes.full r refl (g .whole ∙ ap (before (g .read) (g .text)) (pass-full (g .fuel) (length out - used) here (place + at) (drop at window) h)) d
+      halted passes.full r refl (g .whole ∙ ap (before (g .read) (g .text)) (pass-full (g .fuel) (length out - used) here (place + at) (drop at window) h))
+      (g .held ∙ held-full (g .fuel) (length out - used) (place + at) (drop at window) now h) d
 
   pub halts-more : (r : Played) → longestLine ≤ length out - used → heard (drop at window) ≡ nothing
       → r ≡ record { board = record { state = s; frame = f }; at = at; used = used; stop = More }
-      → Plays p all from window out₀ start r kept m w out
+      → Plays p all lent from window out₀ start r kept m w out
   halts-more r h e d =
-      halted passes.more r refl (g .whole ∙ ap (before (g .read) (g .text)) (pass-more (g .fuel) (length out - used) here (place + at) (drop at window) h e)) d
+      halted passes.more r refl (g .whole ∙ ap (before (g .read) (g .text)) (pass-more (g .fuel) (length out - used) here (place + at) (drop at window) h e))
+      (g .held ∙ held-more (g .fuel) (length out - used) (place + at) (drop at window) now h e) d
 
   -- a bad record
   pub ends : {kept′ m′ w′ out′ : List ℕ} (s′ : State) (f′ : Frame) (x : Said) (end : ℕ) (r : Played)
       → longestLine ≤ length out - used → heard (drop at window) ≡ said x → (done x) .stage ≡ ended → Printed ((done x) .printed) out used end out′
-      → Sound p (record { state = s′; frame = f′ }) kept′ m′ w′
+      → Sound p (record { state = s′; frame = f′ }) kept′ m′ w′ → holds (runs p s′ f′ kept′ m′) kept′ w′ ≡ heldAfter now (place + at) x
       → r ≡ record { board = record { state = s′; frame = f′ }; at = at; used = end; stop = Over }
-      → Plays p all from window out₀ start r kept′ m′ w′ out′
+      → Plays p all lent from window out₀ start r kept′ m′ w′ out′
   unfolding after
-  ends s′ f′ x end r h e k pr sound d =
+  ends s′ f′ x end r h e k pr sound l d =
       let q : all ≡ before (g .read) (g .text) (record { stage = ended; read = 0; printed = (done x) .printed; stop = passes.over })
       = g .whole ∙ ap (before (g .read) (g .text)) (pass-turn (g .fuel) (length out - used) here (place + at) (drop at window) x h e ∙ rw k) in
       rw (q, d)
@@ -142,16 +181,17 @@ module _ {p : Plate} {place : ℕ} {window : List ℕ} {from : ℕ} {kept₀ m�
         stop = refl;
         printed = joined (g .printed) pr;
         stage = refl;
+        held = l ∙ sym (g .held ∙ held-bad (g .fuel) (length out - used) (place + at) (drop at window) now x h e (ap isEnded k));
         sound = sound;
       })
 
   -- a good record
   goes : {kept′ m′ w′ out′ : List ℕ} {s′ : State} {f′ : Frame} (n : ℕ) (x : Said) (next used′ : ℕ)
       → g .fuel ≡ n → longestLine ≤ length out - used → heard (drop at window) ≡ said x → (done x) .stage ≡ runs p s′ f′ kept′ m′
-      → Printed ((done x) .printed) out used used′ out′ → Sound p (record { state = s′; frame = f′ }) kept′ m′ w′ → Past at window next
-      → Going p place window from kept₀ m₀ out₀ start s₀ f₀ kept′ m′ w′ out′ s′ f′ next used′
-  goes zero x next used′ z h e k pr sound past = absurd (omega (arith, g .enough, past .onward, past .inside))
-  goes {kept′} {m′} {w′} {out′} {s′} {f′} (suc n) x next used′ z h e k pr sound past =
+      → Printed ((done x) .printed) out used used′ out′ → Sound p (record { state = s′; frame = f′ }) kept′ m′ w′ → holds (runs p s′ f′ kept′ m′) kept′ w′ ≡ heldAfter now (place + at) x → Past at window next
+      → Going p place window from kept₀ m₀ w₀ out₀ start s₀ f₀ kept′ m′ w′ out′ s′ f′ next used′
+  goes zero x next used′ z h e k pr sound l past = absurd (omega (arith, g .enough, past .onward, past .inside))
+  goes {kept′} {m′} {w′} {out′} {s′} {f′} (suc n) x next used′ z h e k pr sound l past =
       let t = drop at window in
       let a : place + at + wholeLength t ≡ place + next = omega (arith, past .whole) in
       let b : drop (wholeLength t) t ≡ drop next window = drop-drop (wholeLength t) at window ∙ ap (λ (i : ℕ). drop i window) (sym (past .whole)) in
@@ -173,43 +213,52 @@ module _ {p : Plate} {place : ℕ} {window : List ℕ} {from : ℕ} {kept₀ m�
             ∙ rw z
             (after-running ((done x) .stage) (plateOf p) (stateWith s′ (lineOf f′ kept′)) m′ (g .read) (wholeLength t) (g .text) ((done x) .printed) _ k
             ∙ ap (before (g .read + wholeLength t) (g .text ++ (done x) .printed)) q);
+        held = g .held ∙ held-good (g .fuel) (length out - used) (place + at) t now x h e (ap isEnded k) ∙ rw (z, a, b, c, ← l);
       }
 
   pub goes-on : {kept′ m′ w′ out′ : List ℕ} {s′ : State} {f′ : Frame} (x : Said) (next used′ : ℕ)
       → longestLine ≤ length out - used → heard (drop at window) ≡ said x → (done x) .stage ≡ runs p s′ f′ kept′ m′
-      → Printed ((done x) .printed) out used used′ out′ → Sound p (record { state = s′; frame = f′ }) kept′ m′ w′ → Past at window next
-      → Going p place window from kept₀ m₀ out₀ start s₀ f₀ kept′ m′ w′ out′ s′ f′ next used′
+      → Printed ((done x) .printed) out used used′ out′ → Sound p (record { state = s′; frame = f′ }) kept′ m′ w′ → holds (runs p s′ f′ kept′ m′) kept′ w′ ≡ heldAfter now (place + at) x → Past at window next
+      → Going p place window from kept₀ m₀ w₀ out₀ start s₀ f₀ kept′ m′ w′ out′ s′ f′ next used′
   goes-on x next used′ = goes (g .fuel) x next used′ refl
 
-  -- no record begins there
-  pub breaks : {out′ : List ℕ} (end : ℕ) (r : Played) → longestLine ≤ length out - used → heard (drop at window) ≡ said unfit
-      → Printed (badLine (place + at)) out used end out′ → r ≡ record { board = record { state = s; frame = f }; at = at; used = end; stop = Over }
-      → Plays p all from window out₀ start r kept m w out′
-  unfolding turn bad
-  breaks end r h e pr d = ends s f unfit end r h e refl pr (g .sound) d
+  pub quiet-past : {kept′ : List ℕ} {f′ : Frame} (x : Said) (next : ℕ) → Quiet p f kept x f′ kept′ → ((x ≡ unfit → ⊥) → Past at window next) → Past at window next
+  quiet-past x next q past = past (quiet-fits s q)
 
   -- a record that closes no frame
   pub quiet-goes : {kept′ : List ℕ} {f′ : Frame} (x : Said) (next : ℕ) → longestLine ≤ length out - used → heard (drop at window) ≡ said x
-      → Quiet p f kept x f′ kept′ → Past at window next
-      → Going p place window from kept₀ m₀ out₀ start s₀ f₀ kept′ m w out s f′ next used
+      → Quiet p f kept x f′ kept′ → ((x ≡ unfit → ⊥) → Past at window next)
+      → Going p place window from kept₀ m₀ w₀ out₀ start s₀ f₀ kept′ m w out s f′ next used
   quiet-goes x next h e q past =
       let t = q .turned s m (place + at) in
       goes-on x next used h e (ap (λ (y : Turn). y .stage) t) (no-text out used (ap (λ (y : Turn). y .printed) t) (omega (arith, g .printed .within, same-room (g .printed))))
-      (record { within = q .within s m (g .sound .within); room = g .sound .room }) past
+      (record { within = q .within s m (g .sound .within); room = g .sound .room })
+      (held-parts (sym (ap (λ (y : Turn). lastOf here (y .stage)) t)) (q .bytes ∙ sym (ap (λ (y : Turn). put kept 0 (keptIn (y .stage))) t)) (sym (ap (put w 0) (q .silent s m) ∙ put-nil w 0)))
+      (quiet-past x next q past)
+
+  unfit-ends : (x : Said) → x ≡ unfit → isEnded ((done x) .stage) ≡ true
+  unfolding turn bad
+  unfit-ends x u = rw u
 
   -- any other record: a bad one, a good one
   module _ {keptq kept′ m′ w′ out′ : List ℕ} (x : Said) (q : Turned) (same : keptq ≡ kept) (h : longestLine ≤ length out - used) (e : heard (drop at window) ≡ said x)
-      (t : Turns p (record { state = s; frame = f }) (place + at) x keptq m out used q kept′ m′ w′ out′) where
-    turns : Turns p (record { state = s; frame = f }) (place + at) x kept m out used q kept′ m′ w′ out′
+      (t : Turns p (runs p s f keptq m) (place + at) x keptq w out used q kept′ m′ w′ out′) where
+    turns : Turns p here (place + at) x kept w out used q kept′ m′ w′ out′
     turns = rw same at t
 
-    pub turn-ends : (r : Played) → q .over ≡ true → r ≡ record { board = record { state = q .board .state; frame = q .board .frame }; at = at; used = q .used; stop = Over }
-        → Plays p all from window out₀ start r kept′ m′ w′ out′
-    turn-ends r o d =
-        ends (q .board .state) (q .board .frame) x (q .used) r h e (sym (turns .stage) ∙ ap (λ (b : Bool). stageAfter b (runs p (q .board .state) (q .board .frame) kept′ m′)) o)
-        (turns .printed) (turns .sound) d
+    holds-after : holds (runs p (q .board .state) (q .board .frame) kept′ m′) kept′ w′ ≡ heldAfter now (place + at) x
+    holds-after = held-parts (turns .stage) (turns .bytes) (turns .room)
 
-    pub turn-goes : (next : ℕ) → q .over ≡ false → Past at window next
-        → Going p place window from kept₀ m₀ out₀ start s₀ f₀ kept′ m′ w′ out′ (q .board .state) (q .board .frame) next (q .used)
+    pub turn-ends : (r : Played) → q .over ≡ true → r ≡ record { board = record { state = q .board .state; frame = q .board .frame }; at = at; used = q .used; stop = Over }
+        → Plays p all lent from window out₀ start r kept′ m′ w′ out′
+    turn-ends r o d =
+        ends (q .board .state) (q .board .frame) x (q .used) r h e (over-ends ((done x) .stage) (sym (turns .over) ∙ o)) (turns .printed) (turns .sound) holds-after d
+
+    -- a record that was not bad fits
+    pub turn-past : (next : ℕ) → q .over ≡ false → ((x ≡ unfit → ⊥) → Past at window next) → Past at window next
+    turn-past next o past = past (λ u. not-both (sym (unfit-ends x u) ∙ sym (turns .over) ∙ o))
+
+    pub turn-goes : (next : ℕ) → q .over ≡ false → ((x ≡ unfit → ⊥) → Past at window next)
+        → Going p place window from kept₀ m₀ w₀ out₀ start s₀ f₀ kept′ m′ w′ out′ (q .board .state) (q .board .frame) next (q .used)
     turn-goes next o past =
-        goes-on x next (q .used) h e (sym (turns .stage) ∙ ap (λ (b : Bool). stageAfter b (runs p (q .board .state) (q .board .frame) kept′ m′)) o) (turns .printed) (turns .sound) past
+        goes-on x next (q .used) h e (sym (turns .stage ∙ last-goes here ((done x) .stage) (sym (turns .over) ∙ o))) (turns .printed) (turns .sound) holds-after (turn-past next o past)

@@ -20,7 +20,7 @@ record Same (a b : Stand) (fs : List Feed) (text : List ℕ) : Type 0 where
 same : {a b : Stand} {fs : List Feed} {text : List ℕ} → Run a fs b text → Same a b fs text
 unfolding fed
 same (rest a) = record { stage = refl; place = refl; left = refl; printed = refl }
-same (pass a b f fs text out used r kept m w out′ s e next) =
+same (pass a b f fs text w out used r kept m w′ out′ s e next) =
     let k = same next in
     let u = a .left ++ f .bytes in
     let p = passOver (a .session) u (a .kept) (a .memory) out used in

@@ -1,4 +1,4 @@
+pub mod Holding
+pub mod Beginnings
 pub mod Sessions
-pub mod Turns
-pub mod Openings
 pub mod Runs

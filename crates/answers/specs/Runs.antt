@@ -20,8 +20,8 @@ pub record Stand : Type 0 where
 -- passes one after another: each over what is left and more bytes behind it, into a room with whatever space; the text is what they print
 pub data Run : Stand → List Feed → Stand → List ℕ → Type 0 where
   rest : (a : Stand) → Run a [] a []
-  pass : (a b : Stand) (f : Feed) (fs : List Feed) (text : List ℕ) (out : List ℕ) (used : ℕ) (r : Eaten) (kept m w out′ : List ℕ) → f .space ≡ length out - used
-      → Eats (a .session) (a .left ++ f .bytes) (a .kept) (a .memory) out used r kept m w out′
+  pass : (a b : Stand) (f : Feed) (fs : List Feed) (text : List ℕ) (w out : List ℕ) (used : ℕ) (r : Eaten) (kept m w′ out′ : List ℕ) → f .space ≡ length out - used
+      → Eats (a .session) (a .left ++ f .bytes) (a .kept) (a .memory) w out used r kept m w′ out′
       → Run (record { session = r .session; kept = kept; memory = m; left = drop (r .read) (a .left ++ f .bytes) }) fs b text
       → Run a (f ∷ fs) b ((passOver (a .session) (a .left ++ f .bytes) (a .kept) (a .memory) out used) .printed ++ text)
 

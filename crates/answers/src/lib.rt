@@ -1,8 +1,7 @@
 // Passes over the parts of a tape: records in, lines out, a board between them (01, "The answer program").
-mod opening;
+mod beginning;
 mod passes;
 mod session;
-mod turns;
 
 pub use passes::Eaten;
 pub use passes::eat;

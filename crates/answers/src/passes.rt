@@ -9,22 +9,23 @@ ghost use Rattle.board.specs.Board.{stateOf};
 ghost use Rattle.tape.specs.Answers.{running};
 ghost use Rattle.tape.specs.Passes.{pass, closing};
 ghost use Rattle.tape.specs.Reader.{Printed};
-ghost use Rattle.answers.specs.Turns.{Sound};
-ghost use Rattle.answers.specs.Sessions.{stageOf, phaseAfter, Plays, Playable, GoesOn, Refuses, Ready, Eats};
-use crate::opening::Opened;
-use crate::opening::open;
+ghost use Rattle.turns.specs.Turns.{Sound};
+ghost use Rattle.answers.specs.Holding.{holds, heldBy};
+ghost use Rattle.answers.specs.Sessions.{stageOf, phaseAfter, eatenBy, Plays, Playable, GoesOn, Refuses, Ready, Eats};
+use crate::beginning::Way;
+use crate::beginning::begin;
 use crate::session::Phase;
 use crate::session::Session;
 use crate::session::Stop;
-use crate::turns::Heard;
-use crate::turns::Pace;
-use crate::turns::hear;
-use crate::turns::quick;
-use crate::turns::turn;
 use board::Board;
 use commands::State;
 use line::Frame;
 use line::Plate;
+use turns::Heard;
+use turns::Pace;
+use turns::hear;
+use turns::quick;
+use turns::turn;
 
 // A running board after a pass: how far the window was read, how much of the room is used.
 pub struct Played {
@@ -68,7 +69,7 @@ fn play(
 ) -> Played
     requires { ⌜ Sound plate first (now kept) (now memory) (now reply) ⌝ }
     requires { ⌜ (from ≤ length (now window)) × (start ≤ length (now out)) × (place + length (now window) < 2 ^ 64) ⌝ }
-    ensures { λ r. ⌜ Plays plate (pass (suc (length (now (window .entry)))) (length (now (out .entry)) - start) (running (plateOf plate) (stateOf first (now (kept .entry))) (now (memory .entry))) (place + from) (drop from (now (window .entry)))) from (now (window .entry)) (now (out .entry)) start r (now (kept .exit)) (now (memory .exit)) (now (reply .exit)) (now (out .exit)) ⌝ }
+    ensures { λ r. ⌜ Plays plate (pass (suc (length (now (window .entry)))) (length (now (out .entry)) - start) (running (plateOf plate) (stateOf first (now (kept .entry))) (now (memory .entry))) (place + from) (drop from (now (window .entry)))) (heldBy (suc (length (now (window .entry)))) (length (now (out .entry)) - start) (place + from) (drop from (now (window .entry))) (holds (running (plateOf plate) (stateOf first (now (kept .entry))) (now (memory .entry))) (now (kept .entry)) (now (reply .entry)))) from (now (window .entry)) (now (out .entry)) start r (now (kept .exit)) (now (memory .exit)) (now (reply .exit)) (now (out .exit)) ⌝ }
 {
     let mut state = first.state;
     let mut frame = first.frame;
@@ -78,45 +79,24 @@ fn play(
         if out.len() - used < 413 {
             return halt(state, frame, at, used, Stop::Full);
         }
-        match hear(window, at) {
-            Heard::Nothing => {
-                return halt(state, frame, at, used, Stop::More);
-            }
-            Heard::Broken => {
-                let end = tape::bad_line(place + at as u64, out, used);
-                return halt(state, frame, at, end, Stop::Over);
-            }
-            Heard::Said { event, next } => {
-                match quick(plate, frame, event, kept) {
-                    Pace::Went(more) => {
-                        frame = more;
-                    }
-                    Pace::Slow => {
-                        let board = Board { state, frame };
-                        let here = place + at as u64;
-                        let turned = turn(
-                            plate,
-                            board,
-                            here,
-                            event,
-                            kept,
-                            memory,
-                            reply,
-                            out,
-                            used,
-                        );
-                        let after = turned.board;
-                        state = after.state;
-                        frame = after.frame;
-                        used = turned.used;
-                        if turned.over {
-                            return halt(state, frame, at, used, Stop::Over);
-                        }
-                    }
+        let Heard::Said { event, next } = hear(window, at) else {
+            return halt(state, frame, at, used, Stop::More);
+        };
+        match quick(plate, frame, event, kept) {
+            Pace::Went(more) => frame = more,
+            Pace::Slow => {
+                let board = Board { state, frame };
+                let here = place + at as u64;
+                let turned = turn(plate, board, here, event, kept, memory, reply, out, used);
+                state = turned.board.state;
+                frame = turned.board.frame;
+                used = turned.used;
+                if turned.over {
+                    return halt(state, frame, at, used, Stop::Over);
                 }
-                at = next;
             }
         }
+        at = next;
     }
 }
 
@@ -150,6 +130,28 @@ fn image_length(total: u32) -> usize
     16 * t + t
 }
 
+// Where the tape stands after a running board's pass.
+fn after_pass(plate: Plate, place: u64, end: Played) -> Eaten
+    requires { ⌜ place + end .at < 2 ^ 64 ⌝ }
+    ensures { λ r. ⌜ r ≡ eatenBy plate place end ⌝ }
+{
+    let stop = end.stop;
+    let phase = phase_after(stop);
+    let board = end.board;
+    let session = Session {
+        phase,
+        plate,
+        board,
+        place: place + end.at as u64,
+    };
+    Eaten {
+        session,
+        read: end.at,
+        used: end.used,
+        stop,
+    }
+}
+
 // A pass of a board at work, over the front of the lent memory that its plate gives it.
 fn go_on(
     plate: Plate,
@@ -164,7 +166,7 @@ fn go_on(
     used: usize,
 ) -> Eaten
     requires { ⌜ Playable plate board place (now window) from (now kept) (now memory) (now reply) (now out) used ⌝ }
-    ensures { λ r. ⌜ GoesOn plate board place (now (window .entry)) from (now (kept .entry)) (now (memory .entry)) (now (out .entry)) used r (now (kept .exit)) (now (memory .exit)) (now (reply .exit)) (now (out .exit)) ⌝ }
+    ensures { λ r. ⌜ GoesOn plate board place (now (window .entry)) from (now (kept .entry)) (now (memory .entry)) (now (reply .entry)) (now (out .entry)) used r (now (kept .exit)) (now (memory .exit)) (now (reply .exit)) (now (out .exit)) ⌝ }
 {
     let size = image_length(plate.total);
     let end = play(
@@ -179,21 +181,7 @@ fn go_on(
         out,
         used,
     );
-    let stop = end.stop;
-    let phase = phase_after(stop);
-    let next = end.board;
-    let session = Session {
-        phase,
-        plate,
-        board: next,
-        place: place + end.at as u64,
-    };
-    Eaten {
-        session,
-        read: end.at,
-        used: end.used,
-        stop,
-    }
+    after_pass(plate, place, end)
 }
 
 // 01, "prints the line `bad N` .. and ends".
@@ -224,37 +212,19 @@ pub fn eat(
     used: usize,
 ) -> Eaten
     requires { ⌜ Ready session (now window) (now kept) (now memory) (now reply) (now out) used ⌝ }
-    ensures { λ r. ⌜ Eats session (now (window .entry)) (now (kept .entry)) (now (memory .entry)) (now (out .entry)) used r (now (kept .exit)) (now (memory .exit)) (now (reply .exit)) (now (out .exit)) ⌝ }
+    ensures { λ r. ⌜ Eats session (now (window .entry)) (now (kept .entry)) (now (memory .entry)) (now (reply .entry)) (now (out .entry)) used r (now (kept .exit)) (now (memory .exit)) (now (reply .exit)) (now (out .exit)) ⌝ }
 {
-    let phase = session.phase;
-    let place = session.place;
-    let board = session.board;
-    let Phase::Opening = phase else {
-        return go_on(
-            session.plate,
-            board,
-            place,
+    let begun = begin(session, window, out.len() - used);
+    let way = begun.way;
+    match way {
+        Way::Stops { why } => stopped(session, used, why),
+        Way::Bad => refuse(session, out, used),
+        Way::Works { from } => go_on(
+            begun.plate,
+            begun.board,
+            session.place,
             window,
-            0,
-            kept,
-            memory,
-            reply,
-            out,
-            used,
-        );
-    };
-    if out.len() - used < 413 {
-        return stopped(session, used, Stop::Full);
-    }
-    match open(window) {
-        Opened::More => stopped(session, used, Stop::More),
-        Opened::Bad => refuse(session, out, used),
-        Opened::Plate { plate, next } => go_on(
-            plate,
-            board::fresh(plate),
-            place,
-            window,
-            next,
+            from,
             kept,
             memory,
             reply,

@@ -6,3 +6,4 @@ pub mod Windows
 pub mod Texts
 pub mod Streams
 pub mod Worked
+pub mod Tight

@@ -32,7 +32,7 @@ abbrev μ-loop : tie.MeasureT-loop
 
 -- the window's length stays, and the bytes that it has are in it
 filled : (c : tie.After-refill Inv-loop μ-loop) → c .refill .result ≤ length (c .refill .last .0)
-filled c = omega (arith, c .refill .ensures, c .refill .kept .0)
+filled c = omega (arith, c .refill .ensures .within, c .refill .kept .0)
 
 -- no more is read than the window has
 far : (c : tie.After-feed Inv-loop μ-loop) → c .feed .result .at ≤ c .before .before .before .before .before .before .before .before .refill .result
@@ -67,7 +67,7 @@ slice-aggregate-feed c =
 
 feed-requires : tie.Need-feed-requires Inv-loop μ-loop
 feed-requires c κs =
-    (c .before .before .before .before .before .before .before .before .before .before .loop .inv .6, simp length-take (omega (arith, filled (c .before .before .before .before .before .before .before), c .before .before .before .before .before .before .before .refill .ensures, c .before .before .before .before .before .before .before .before .before .before .loop .inv .0, c .before .before .before .before .before .before .before .before .before .before .before .before .before .before .before .before .before .before .before .before .before .pre .window-size)))
+    (c .before .before .before .before .before .before .before .before .before .before .loop .inv .6, simp length-take (omega (arith, filled (c .before .before .before .before .before .before .before), c .before .before .before .before .before .before .before .refill .ensures .within, c .before .before .before .before .before .before .before .before .before .before .loop .inv .0, c .before .before .before .before .before .before .before .before .before .before .before .before .before .before .before .before .before .before .before .before .before .pre .window-size)))
 
 enum-told : tie.Need-enum-told Inv-loop μ-loop
 enum-told c = search needs
@@ -158,7 +158,7 @@ loop-again c =
       k .1 .1 .1 .0 ∙ v .2,
       k .1 .1 .1 .1 .0 ∙ v .3,
       k .1 .1 .1 .1 .1 .0 ∙ v .4,
-      omega (arith, h .kept .0, h .ensures, filled (c .before .before .before .before .before .before .before .before .before .before .before .before .before .before .before .before .before .before .before .before .before .before .before)),
+      omega (arith, h .kept .0, h .ensures .0, filled (c .before .before .before .before .before .before .before .before .before .before .before .before .before .before .before .before .before .before .before .before .before .before .before)),
       c .before .before .before .before .before .before .before .before .before .before .before .before .before .before .before .feed .ensures .ready (not-ended (c .before .before .before .before .before .before .before .before .before .before .before .before .before .before .before .feed .result .session .phase) (c .before .before .before .before .before .match .keys2)),
     )
 

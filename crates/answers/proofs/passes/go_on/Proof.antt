@@ -1,16 +1,16 @@
--- `answers::passes::go_on` meets its contract. Assumes nothing.
+-- `answers::passes::go_on` meets its contract: the front of the lent memory goes out and comes back. Assumes nothing.
 use mathlib.Core.Path.{sym, _∙_}
+use native.Mathlib.Omega.{arith}
 use lib.Seq.{length-take-le}
 use Rattle.line.proofs.Limits.{total-fits}
 use Rattle.answers.proofs.Eating.{in-front, goes-from}
--- `answers::passes::go_on` meets its contract: the front of the lent memory goes out and comes back. Assumes nothing.
 use borrow.Author.Needs.{needs}
 use Rattle.answers.proofs.passes.go_on.Statement.{statement}
 use Rattle.answers.proofs.passes.go_on.Tie as tie
 use Rattle.answers.proofs.passes.go_on.Reads as reads
 use Rattle.answers.proofs.passes.go_on.Lts as lts
+use Rattle.answers.proofs.passes.after_pass.Reads as after-pass-reads
 use Rattle.answers.proofs.passes.image_length.Reads as image-length-reads
-use Rattle.answers.proofs.passes.phase_after.Reads as phase-after-reads
 use Rattle.answers.proofs.passes.play.Reads as play-reads
 
 image-length-requires : tie.Need-image-length-requires
@@ -23,15 +23,10 @@ slice-aggregate-play : tie.Need-slice-aggregate-play
 slice-aggregate-play c = sym (length-take-le _ _ (in-front _ _ _ _ _ _ _ _ _ _ _ (c .before .before .image-length .ensures) (c .before .before .before .before .before .before .before .before .pre)))
 
 play-requires : tie.Need-play-requires
-play-requires c κs =
-    let a = c .before .before .before .before .before .before .before .before .before .before .pre in
-    (rw (c .before .before .before .before .image-length .ensures) (a .sound), (a .starts, a .space, a .places))
+play-requires c κs = let a = c .before .before .before .before .before .before .before .before .before .before .pre in (rw (c .before .before .before .before .image-length .ensures) (a .sound), (a .starts, a .space, a .places))
 
-phase-after-requires : tie.Need-phase-after-requires
-phase-after-requires c κs = search needs
-
-add-t26 : tie.Need-add-t26
-add-t26 c = search needs
+after-pass-requires : tie.Need-after-pass-requires
+after-pass-requires c κs = omega (arith, c .before .before .before .before .before .before .before .before .play .ensures .inside, c .before .before .before .before .before .before .before .before .before .before .before .before .before .before .before .before .before .before .before .pre .places)
 
 same-length : tie.Need-same-length
 same-length c = search needs
@@ -46,7 +41,7 @@ same-length-4 : tie.Need-same-length-4
 same-length-4 c = search needs
 
 returns : tie.Need-returns
-returns c = goes-from _ _ _ _ _ _ _ _ _ _ _ (c .before .before .before .before .before .before .before .before .before .before .before .before .before .before .before .image-length .ensures) (c .before .before .before .before .before .before .before .before .before .before .before .before .before .before .before .before .before .before .before .before .before .pre) _ _ _ _ _ (c .before .before .before .before .before .before .before .before .before .before .play .ensures) _ (c .before .phase-after .ensures)
+returns c = goes-from _ _ _ _ _ _ _ _ _ _ _ (c .before .before .before .before .before .before .before .before .before .before .before .before .before .before .image-length .ensures) (c .before .before .before .before .before .before .before .before .before .before .before .before .before .before .before .before .before .before .before .before .pre) _ _ _ _ _ (c .before .before .before .before .before .before .before .before .before .play .ensures) _ (c .after-pass .ensures)
 
 pub go-on-spec : {M : Type 1} → statement M
 go-on-spec =
@@ -56,8 +51,7 @@ go-on-spec =
     slice-relend-prefix-play
     slice-aggregate-play
     play-requires
-    phase-after-requires
-    add-t26
+    after-pass-requires
     same-length
     same-length-2
     same-length-3

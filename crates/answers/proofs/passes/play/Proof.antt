@@ -1,66 +1,58 @@
 -- `answers::passes::play` meets its contract: what was read and printed, and what is left, come to the whole pass. Assumes nothing.
-use Prim.Native.Nat.{ℕ, _-_}
-use mathlib.Core.Path.{_≡_, refl, sym, ap, _∙_}
-use mathlib.Core.List.{List}
+use Prim.Native.Nat.{_-_}
+use mathlib.Core.Path.{_≡_, refl, sym, _∙_}
 use native.Mathlib.Omega.{arith}
 use lib.ListN.{length}
-use Rattle.line.specs.declared.plate.Plate.{Plate}
-use Rattle.line.specs.declared.characters.Frame.{Frame}
-use Rattle.tape.specs.Kinds.{Said}
-use Rattle.answers.specs.Turns.{heardOf, Quiet, Quickens}
-use Rattle.answers.specs.declared.turns.Pace.{Pace}
-use Rattle.answers.specs.declared.turns.Pace.the-variants.{Went, Slow}
-use Rattle.answers.proofs.Playing.{Going, begins, halts-full, halts-more, breaks, quiet-goes, turn-ends, turn-goes}
+use Rattle.turns.proofs.Hearing.{hears-as}
+use Rattle.answers.proofs.Playing.{Going, begins, halts-full, halts-more, quiet-past, quiet-goes, slow-keeps, turn-ends, turn-past, turn-goes}
 use borrow.Author.Needs.{needs}
 use Rattle.answers.proofs.passes.play.Statement.{statement}
 use Rattle.answers.proofs.passes.play.Tie as tie
 use Rattle.answers.proofs.passes.play.Reads as reads
 use Rattle.answers.proofs.passes.play.Lts as lts
 use Rattle.answers.proofs.passes.halt.Reads as halt-reads
-use Rattle.answers.proofs.turns.hear.Reads as hear-reads
-use Rattle.answers.proofs.turns.quick.Reads as quick-reads
-use Rattle.answers.proofs.turns.turn.Reads as turn-reads
-use Rattle.tape.proofs.bad_line.Reads as bad-line-reads
+use Rattle.turns.proofs.quick.Reads as quick-reads
+use Rattle.turns.proofs.turn.Reads as turn-reads
+use Rattle.turns.proofs.hear.Reads as hear-reads
 
 abbrev Inv-loop : tie.InvT-loop
 Inv-loop plate place window from kept₀ memory₀ reply₀ out₀ start state₀ frame₀ at₀ used₀ kept memory reply out state frame at used =
     (length kept ≡ length kept₀) × (length memory ≡ length memory₀) × (length reply ≡ length reply₀) × (length out ≡ length out₀)
-    × Going plate place window from kept₀ memory₀ out₀ start state₀ frame₀ kept memory reply out state frame at used
+    × Going plate place window from kept₀ memory₀ reply₀ out₀ start state₀ frame₀ kept memory reply out state frame at used
 
 abbrev μ-loop : tie.MeasureT-loop
 μ-loop plate place window from kept₀ memory₀ reply₀ out₀ start state₀ frame₀ at₀ used₀ kept memory reply out state frame at used =
     length window - at
 
 loop-holds : tie.Need-loop-holds Inv-loop μ-loop
-loop-holds c =
-    let a = c .before .before .before .before .before .before .before .pre in
-    (refl, refl, refl, refl, begins _ _ _ _ _ _ _ _ _ _ _ (a .0) (a .1 .0) (a .1 .1))
+loop-holds c = let a = c .before .before .before .before .before .before .before .pre in (refl, refl, refl, refl, begins _ _ _ _ _ _ _ _ _ _ _ (a .0) (a .1 .0) (a .1 .1))
 
 sub-if1 : tie.Need-sub-if1 Inv-loop μ-loop
-sub-if1 c =
-    let v = c .loop .inv in omega (arith, v .4 .printed .within, v .3)
+sub-if1 c = let v = c .loop .inv in omega (arith, v .4 .printed .within, v .3)
 
 halt-requires : tie.Need-halt-requires Inv-loop μ-loop
 halt-requires c κs = search needs
 
 same-length : tie.Need-same-length Inv-loop μ-loop
-same-length c = search needs
+same-length c = c .before .before .loop .inv .0
 
 same-length-2 : tie.Need-same-length-2 Inv-loop μ-loop
-same-length-2 c = search needs
+same-length-2 c = c .before .before .loop .inv .1
 
 same-length-3 : tie.Need-same-length-3 Inv-loop μ-loop
-same-length-3 c = search needs
+same-length-3 c = c .before .before .loop .inv .2
 
 same-length-4 : tie.Need-same-length-4 Inv-loop μ-loop
-same-length-4 c = search needs
+same-length-4 c = c .before .before .loop .inv .3
 
 returns : tie.Need-returns Inv-loop μ-loop
-returns c =
-    halts-full (c .before .before .loop .inv .4) _ (c .before .if1 .taken) (c .halt .ensures)
+returns c = halts-full (c .before .before .loop .inv .4) _ (c .before .if1 .taken) (c .halt .ensures)
 
 hear-requires : tie.Need-hear-requires Inv-loop μ-loop
 hear-requires c κs = search needs
+
+enum-known-event : tie.Need-enum-known-event Inv-loop μ-loop
+enum-known-event c = search needs
 
 enum-told : tie.Need-enum-told Inv-loop μ-loop
 enum-told c = search needs
@@ -69,114 +61,67 @@ halt-requires-2 : tie.Need-halt-requires-2 Inv-loop μ-loop
 halt-requires-2 c κs = search needs
 
 same-length-5 : tie.Need-same-length-5 Inv-loop μ-loop
-same-length-5 c = search needs
+same-length-5 c = c .before .before .before .before .before .loop .inv .0
 
 same-length-6 : tie.Need-same-length-6 Inv-loop μ-loop
-same-length-6 c = search needs
+same-length-6 c = c .before .before .before .before .before .loop .inv .1
 
 same-length-7 : tie.Need-same-length-7 Inv-loop μ-loop
-same-length-7 c = search needs
+same-length-7 c = c .before .before .before .before .before .loop .inv .2
 
 same-length-8 : tie.Need-same-length-8 Inv-loop μ-loop
-same-length-8 c = search needs
+same-length-8 c = c .before .before .before .before .before .loop .inv .3
 
 returns-2 : tie.Need-returns-2 Inv-loop μ-loop
-returns-2 c =
-    halts-more (c .before .before .before .before .before .loop .inv .4) _ (c .before .before .before .before .if1 .left) (sym (c .before .before .before .hear .ensures .heard) ∙ ap heardOf (c .before .enum-told .given .1)) (c .halt2 .ensures)
-
-enum-told-2 : tie.Need-enum-told-2 Inv-loop μ-loop
-enum-told-2 c = search needs
-
-add-bad-line : tie.Need-add-bad-line Inv-loop μ-loop
-add-bad-line c = search needs
-
-bad-line-requires : tie.Need-bad-line-requires Inv-loop μ-loop
-bad-line-requires c κs =
-    let v = c .before .before .before .before .before .loop .inv in omega (arith, c .before .before .before .before .if1 .left, v .4 .printed .within, v .3)
-
-halt-requires-3 : tie.Need-halt-requires-3 Inv-loop μ-loop
-halt-requires-3 c κs = search needs
-
-same-length-9 : tie.Need-same-length-9 Inv-loop μ-loop
-same-length-9 c = search needs
-
-same-length-10 : tie.Need-same-length-10 Inv-loop μ-loop
-same-length-10 c = search needs
-
-same-length-11 : tie.Need-same-length-11 Inv-loop μ-loop
-same-length-11 c = search needs
-
-same-length-12 : tie.Need-same-length-12 Inv-loop μ-loop
-same-length-12 c = search needs
-
-returns-3 : tie.Need-returns-3 Inv-loop μ-loop
-returns-3 c =
-    breaks (c .before .before .before .before .before .before .before .before .before .loop .inv .4) _ _ (c .before .before .before .before .before .before .before .before .if1 .left) (sym (c .before .before .before .before .before .before .before .hear .ensures .heard) ∙ ap heardOf (c .before .before .before .before .before .enum-told2 .given .1)) (c .before .before .before .bad-line .ensures) (c .halt3 .ensures)
-
-enum-known-event : tie.Need-enum-known-event Inv-loop μ-loop
-enum-known-event c = search needs
+returns-2 c = halts-more (c .before .before .before .before .before .loop .inv .4) _ (c .before .before .before .before .if1 .left) (sym (hears-as _ _ _ _ (c .before .before .before .hear .ensures) (c .before .enum-told .given .1) .heard)) (c .halt2 .ensures)
 
 quick-requires : tie.Need-quick-requires Inv-loop μ-loop
-quick-requires c κs =
-    let w = c .before .before .before .before .before .before .loop .inv .4 .sound .within in record { few = w .few; all = w .places }
+quick-requires c κs = let w = c .before .before .before .before .before .before .loop .inv .4 .sound .within in record { few = w .few; all = w .places }
 
 enum-known-more : tie.Need-enum-known-more Inv-loop μ-loop
 enum-known-more c = search needs
 
-enum-told-3 : tie.Need-enum-told-3 Inv-loop μ-loop
-enum-told-3 c = search needs
+enum-told-2 : tie.Need-enum-told-2 Inv-loop μ-loop
+enum-told-2 c = search needs
 
 add-here : tie.Need-add-here Inv-loop μ-loop
 add-here c = search needs
 
 turn-requires : tie.Need-turn-requires Inv-loop μ-loop
-turn-requires c κs =
-    let v = c .before .before .before .before .before .before .before .before .before .before .before .before .before .before .before .loop .inv in
-    (rw (rw (c .before .before .before .before .enum-told3 .given .1) at (c .before .before .before .before .before .before .before .before .quick .ensures)) (v .4 .sound), omega (arith, c .before .before .before .before .before .before .before .before .before .before .before .before .before .before .if1 .left, v .4 .printed .within, v .3))
+turn-requires c κs = let v = c .before .before .before .before .before .before .before .before .before .before .before .before .before .before .before .loop .inv in (rw (slow-keeps _ _ _ _ _ _ (c .before .before .before .before .before .before .before .before .quick .ensures) (c .before .before .before .before .enum-told2 .given .1)) (v .4 .sound), omega (arith, c .before .before .before .before .before .before .before .before .before .before .before .before .before .before .if1 .left, v .4 .printed .within, v .3))
 
-halt-requires-4 : tie.Need-halt-requires-4 Inv-loop μ-loop
-halt-requires-4 c κs = search needs
+halt-requires-3 : tie.Need-halt-requires-3 Inv-loop μ-loop
+halt-requires-3 c κs = search needs
 
-same-length-13 : tie.Need-same-length-13 Inv-loop μ-loop
-same-length-13 c =
-    c .before .before .before .before .before .before .before .before .before .before .before .before .before .turn .kept .1 .1 .1 .1 .0 ∙ c .before .before .before .before .before .before .before .before .before .before .before .before .before .before .before .before .before .before .before .before .before .before .quick .kept .1 .1 .1 .0 ∙ c .before .before .before .before .before .before .before .before .before .before .before .before .before .before .before .before .before .before .before .before .before .before .before .before .before .before .before .before .before .loop .inv .0
+same-length-9 : tie.Need-same-length-9 Inv-loop μ-loop
+same-length-9 c = c .before .before .before .before .before .before .before .before .before .before .before .before .turn .kept .1 .1 .1 .1 .0 ∙ c .before .before .before .before .before .before .before .before .before .before .before .before .before .before .before .before .before .before .before .before .before .quick .kept .1 .1 .1 .0 ∙ c .before .before .before .before .before .before .before .before .before .before .before .before .before .before .before .before .before .before .before .before .before .before .before .before .before .before .before .before .loop .inv .0
 
-same-length-14 : tie.Need-same-length-14 Inv-loop μ-loop
-same-length-14 c =
-    c .before .before .before .before .before .before .before .before .before .before .before .before .before .turn .kept .1 .1 .1 .1 .1 .0 ∙ c .before .before .before .before .before .before .before .before .before .before .before .before .before .before .before .before .before .before .before .before .before .before .before .before .before .before .before .before .before .loop .inv .1
+same-length-10 : tie.Need-same-length-10 Inv-loop μ-loop
+same-length-10 c = c .before .before .before .before .before .before .before .before .before .before .before .before .turn .kept .1 .1 .1 .1 .1 .0 ∙ c .before .before .before .before .before .before .before .before .before .before .before .before .before .before .before .before .before .before .before .before .before .before .before .before .before .before .before .before .loop .inv .1
 
-same-length-15 : tie.Need-same-length-15 Inv-loop μ-loop
-same-length-15 c =
-    c .before .before .before .before .before .before .before .before .before .before .before .before .before .turn .kept .1 .1 .1 .1 .1 .1 .0 ∙ c .before .before .before .before .before .before .before .before .before .before .before .before .before .before .before .before .before .before .before .before .before .before .before .before .before .before .before .before .before .loop .inv .2
+same-length-11 : tie.Need-same-length-11 Inv-loop μ-loop
+same-length-11 c = c .before .before .before .before .before .before .before .before .before .before .before .before .turn .kept .1 .1 .1 .1 .1 .1 .0 ∙ c .before .before .before .before .before .before .before .before .before .before .before .before .before .before .before .before .before .before .before .before .before .before .before .before .before .before .before .before .loop .inv .2
 
-same-length-16 : tie.Need-same-length-16 Inv-loop μ-loop
-same-length-16 c =
-    c .before .before .before .before .before .before .before .before .before .before .before .before .before .turn .kept .1 .1 .1 .1 .1 .1 .1 .0 ∙ c .before .before .before .before .before .before .before .before .before .before .before .before .before .before .before .before .before .before .before .before .before .before .before .before .before .before .before .before .before .loop .inv .3
+same-length-12 : tie.Need-same-length-12 Inv-loop μ-loop
+same-length-12 c = c .before .before .before .before .before .before .before .before .before .before .before .before .turn .kept .1 .1 .1 .1 .1 .1 .1 .0 ∙ c .before .before .before .before .before .before .before .before .before .before .before .before .before .before .before .before .before .before .before .before .before .before .before .before .before .before .before .before .loop .inv .3
 
-returns-4 : tie.Need-returns-4 Inv-loop μ-loop
-returns-4 c =
-    turn-ends (c .before .before .before .before .before .before .before .before .before .before .before .before .before .before .before .before .before .before .before .before .before .before .before .before .before .before .before .before .before .loop .inv .4) _ _ (rw (c .before .before .before .before .before .before .before .before .before .before .before .before .before .before .before .before .before .before .enum-told3 .given .1) at (c .before .before .before .before .before .before .before .before .before .before .before .before .before .before .before .before .before .before .before .before .before .before .quick .ensures)) (c .before .before .before .before .before .before .before .before .before .before .before .before .before .before .before .before .before .before .before .before .before .before .before .before .before .before .before .before .if1 .left) (sym (c .before .before .before .before .before .before .before .before .before .before .before .before .before .before .before .before .before .before .before .before .before .before .before .before .before .before .before .hear .ensures .heard) ∙ ap heardOf (c .before .before .before .before .before .before .before .before .before .before .before .before .before .before .before .before .before .before .before .before .before .before .before .before .before .event .given .1)) (c .before .before .before .before .before .before .before .before .before .before .before .before .before .turn .ensures) _ (c .before .if2 .taken) (c .halt4 .ensures)
+returns-3 : tie.Need-returns-3 Inv-loop μ-loop
+returns-3 c = turn-ends (c .before .before .before .before .before .before .before .before .before .before .before .before .before .before .before .before .before .before .before .before .before .before .before .before .before .before .before .before .loop .inv .4) _ _ (slow-keeps _ _ _ _ _ _ (c .before .before .before .before .before .before .before .before .before .before .before .before .before .before .before .before .before .before .before .before .before .quick .ensures) (c .before .before .before .before .before .before .before .before .before .before .before .before .before .before .before .before .before .enum-told2 .given .1)) (c .before .before .before .before .before .before .before .before .before .before .before .before .before .before .before .before .before .before .before .before .before .before .before .before .before .before .before .if1 .left) (sym (hears-as _ _ _ _ (c .before .before .before .before .before .before .before .before .before .before .before .before .before .before .before .before .before .before .before .before .before .before .before .before .before .before .hear .ensures) (c .before .before .before .before .before .before .before .before .before .before .before .before .before .before .before .before .before .before .before .before .before .before .before .before .event .given .1) .heard)) (c .before .before .before .before .before .before .before .before .before .before .before .before .turn .ensures) _ (c .before .if2 .taken) (c .halt3 .ensures)
 
 loop-less : tie.Need-loop-less Inv-loop μ-loop
-loop-less c =
-    let n = rw (c .before .before .before .before .before .before .before .before .event .given .1) at (c .before .before .before .before .before .before .before .before .before .before .hear .ensures .next) in omega (arith, n .onward, n .inside)
+loop-less c = let n = quiet-past (c .before .before .before .before .before .before .before .before .before .before .before .before .loop .inv .4) _ _ (rw (c .before .more .given .1) at (c .before .before .before .before .before .quick .ensures)) (hears-as _ _ _ _ (c .before .before .before .before .before .before .before .before .before .before .hear .ensures) (c .before .before .before .before .before .before .before .before .event .given .1) .next) in omega (arith, n .onward, n .inside)
 
 loop-again : tie.Need-loop-again Inv-loop μ-loop
-loop-again c =
-    let g = quiet-goes (c .before .before .before .before .before .before .before .before .before .before .before .before .loop .inv .4) _ _ (c .before .before .before .before .before .before .before .before .before .before .before .if1 .left) (sym (c .before .before .before .before .before .before .before .before .before .before .hear .ensures .heard) ∙ ap heardOf (c .before .before .before .before .before .before .before .before .event .given .1)) (rw (c .before .more .given .1) at (c .before .before .before .before .before .quick .ensures)) (rw (c .before .before .before .before .before .before .before .before .event .given .1) at (c .before .before .before .before .before .before .before .before .before .before .hear .ensures .next)) in
-    let v = c .before .before .before .before .before .before .before .before .before .before .before .before .loop .inv in
-    (c .before .before .before .before .before .quick .kept .1 .1 .1 .0 ∙ v .0, v .1, v .2, v .3, g)
+loop-again c = let v = c .before .before .before .before .before .before .before .before .before .before .before .before .loop .inv in
+    (c .before .before .before .before .before .quick .kept .1 .1 .1 .0 ∙ v .0, v .1, v .2, v .3, quiet-goes (v .4) _ _ (c .before .before .before .before .before .before .before .before .before .before .before .if1 .left) (sym (hears-as _ _ _ _ (c .before .before .before .before .before .before .before .before .before .before .hear .ensures) (c .before .before .before .before .before .before .before .before .event .given .1) .heard)) (rw (c .before .more .given .1) at (c .before .before .before .before .before .quick .ensures)) (hears-as _ _ _ _ (c .before .before .before .before .before .before .before .before .before .before .hear .ensures) (c .before .before .before .before .before .before .before .before .event .given .1) .next))
 
 loop-less-2 : tie.Need-loop-less-2 Inv-loop μ-loop
-loop-less-2 c =
-    let n = rw (c .before .before .before .before .before .before .before .before .before .before .before .before .before .before .before .before .before .before .before .before .before .before .before .before .event .given .1) at (c .before .before .before .before .before .before .before .before .before .before .before .before .before .before .before .before .before .before .before .before .before .before .before .before .before .before .hear .ensures .next) in omega (arith, n .onward, n .inside)
+loop-less-2 c = let n = turn-past (c .before .before .before .before .before .before .before .before .before .before .before .before .before .before .before .before .before .before .before .before .before .before .before .before .before .before .before .loop .inv .4) _ _ (slow-keeps _ _ _ _ _ _ (c .before .before .before .before .before .before .before .before .before .before .before .before .before .before .before .before .before .before .before .before .quick .ensures) (c .before .before .before .before .before .before .before .before .before .before .before .before .before .before .before .before .enum-told2 .given .1)) (c .before .before .before .before .before .before .before .before .before .before .before .before .before .before .before .before .before .before .before .before .before .before .before .before .before .before .if1 .left) (sym (hears-as _ _ _ _ (c .before .before .before .before .before .before .before .before .before .before .before .before .before .before .before .before .before .before .before .before .before .before .before .before .before .hear .ensures) (c .before .before .before .before .before .before .before .before .before .before .before .before .before .before .before .before .before .before .before .before .before .before .before .event .given .1) .heard)) (c .before .before .before .before .before .before .before .before .before .before .before .turn .ensures) _ (c .if2 .left) (hears-as _ _ _ _ (c .before .before .before .before .before .before .before .before .before .before .before .before .before .before .before .before .before .before .before .before .before .before .before .before .before .hear .ensures) (c .before .before .before .before .before .before .before .before .before .before .before .before .before .before .before .before .before .before .before .before .before .before .before .event .given .1) .next) in omega (arith, n .onward, n .inside)
 
 loop-again-2 : tie.Need-loop-again-2 Inv-loop μ-loop
-loop-again-2 c =
-    let g = turn-goes (c .before .before .before .before .before .before .before .before .before .before .before .before .before .before .before .before .before .before .before .before .before .before .before .before .before .before .before .before .loop .inv .4) _ _ (rw (c .before .before .before .before .before .before .before .before .before .before .before .before .before .before .before .before .before .enum-told3 .given .1) at (c .before .before .before .before .before .before .before .before .before .before .before .before .before .before .before .before .before .before .before .before .before .quick .ensures)) (c .before .before .before .before .before .before .before .before .before .before .before .before .before .before .before .before .before .before .before .before .before .before .before .before .before .before .before .if1 .left) (sym (c .before .before .before .before .before .before .before .before .before .before .before .before .before .before .before .before .before .before .before .before .before .before .before .before .before .before .hear .ensures .heard) ∙ ap heardOf (c .before .before .before .before .before .before .before .before .before .before .before .before .before .before .before .before .before .before .before .before .before .before .before .before .event .given .1)) (c .before .before .before .before .before .before .before .before .before .before .before .before .turn .ensures) _ (c .if2 .left) (rw (c .before .before .before .before .before .before .before .before .before .before .before .before .before .before .before .before .before .before .before .before .before .before .before .before .event .given .1) at (c .before .before .before .before .before .before .before .before .before .before .before .before .before .before .before .before .before .before .before .before .before .before .before .before .before .before .hear .ensures .next)) in
-    let v = c .before .before .before .before .before .before .before .before .before .before .before .before .before .before .before .before .before .before .before .before .before .before .before .before .before .before .before .before .loop .inv in
-    let w = c .before .before .before .before .before .before .before .before .before .before .before .before .turn .kept in
-    (w .1 .1 .1 .1 .0 ∙ c .before .before .before .before .before .before .before .before .before .before .before .before .before .before .before .before .before .before .before .before .before .quick .kept .1 .1 .1 .0 ∙ v .0, w .1 .1 .1 .1 .1 .0 ∙ v .1, w .1 .1 .1 .1 .1 .1 .0 ∙ v .2, w .1 .1 .1 .1 .1 .1 .1 .0 ∙ v .3, g)
+loop-again-2 c = let v = c .before .before .before .before .before .before .before .before .before .before .before .before .before .before .before .before .before .before .before .before .before .before .before .before .before .before .before .loop .inv in
+    let w = c .before .before .before .before .before .before .before .before .before .before .before .turn .kept in
+    (w .1 .1 .1 .1 .0 ∙ c .before .before .before .before .before .before .before .before .before .before .before .before .before .before .before .before .before .before .before .before .quick .kept .1 .1 .1 .0 ∙ v .0, w .1 .1 .1 .1 .1 .0 ∙ v .1, w .1 .1 .1 .1 .1 .1 .0 ∙ v .2, w .1 .1 .1 .1 .1 .1 .1 .0 ∙ v .3, turn-goes (v .4) _ _ (slow-keeps _ _ _ _ _ _ (c .before .before .before .before .before .before .before .before .before .before .before .before .before .before .before .before .before .before .before .before .quick .ensures) (c .before .before .before .before .before .before .before .before .before .before .before .before .before .before .before .before .enum-told2 .given .1)) (c .before .before .before .before .before .before .before .before .before .before .before .before .before .before .before .before .before .before .before .before .before .before .before .before .before .before .if1 .left) (sym (hears-as _ _ _ _ (c .before .before .before .before .before .before .before .before .before .before .before .before .before .before .before .before .before .before .before .before .before .before .before .before .before .hear .ensures) (c .before .before .before .before .before .before .before .before .before .before .before .before .before .before .before .before .before .before .before .before .before .before .before .event .given .1) .heard)) (c .before .before .before .before .before .before .before .before .before .before .before .turn .ensures) _ (c .if2 .left) (hears-as _ _ _ _ (c .before .before .before .before .before .before .before .before .before .before .before .before .before .before .before .before .before .before .before .before .before .before .before .before .before .hear .ensures) (c .before .before .before .before .before .before .before .before .before .before .before .before .before .before .before .before .before .before .before .before .before .before .before .event .given .1) .next))
 
 pub play-spec : {M : Type 1} → statement M
 play-spec =
@@ -193,6 +138,7 @@ play-spec =
     same-length-4
     returns
     hear-requires
+    enum-known-event
     enum-told
     halt-requires-2
     same-length-5
@@ -200,27 +146,17 @@ play-spec =
     same-length-7
     same-length-8
     returns-2
+    quick-requires
+    enum-known-more
     enum-told-2
-    add-bad-line
-    bad-line-requires
+    add-here
+    turn-requires
     halt-requires-3
     same-length-9
     same-length-10
     same-length-11
     same-length-12
     returns-3
-    enum-known-event
-    quick-requires
-    enum-known-more
-    enum-told-3
-    add-here
-    turn-requires
-    halt-requires-4
-    same-length-13
-    same-length-14
-    same-length-15
-    same-length-16
-    returns-4
     loop-less
     loop-again
     loop-less-2

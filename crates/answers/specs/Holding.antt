@@ -1,0 +1,39 @@
+-- What a pass leaves beside the meaning's stage: the places of the kept bytes, the reply room, and the board where a record was bad. Assumes nothing.
+use Prim.Native.Nat.{ℕ, zero, suc, _+_, _-_}
+use mathlib.Core.List.{List}
+use lib.ListN.{length, drop}
+use lib.Dec.{ltb}
+use Rattle.meaning.specs.Bytes.{pick, put}
+use Rattle.tape.specs.Records.{wholeLength}
+use Rattle.tape.specs.Kinds.{Said}
+use Rattle.tape.specs.Answers.{Stage, turn}
+use Rattle.tape.specs.Passes.{Heard, nothing, said, heard, longestLine}
+use Rattle.turns.specs.Turns.{replyTo, keptIn, isEnded, lastOf}
+
+-- the last stage before a bad record, the lent places, the room
+pub record Held : Type 0 where
+  pub stage : Stage
+  pub kept : List ℕ
+  pub room : List ℕ
+
+abbrev pub holds : Stage → List ℕ → List ℕ → Held
+holds v kept w = record { stage = v; kept = kept; room = w }
+
+-- after one record: places past the kept bytes and the room past a reply are untouched
+abbrev pub heldAfter : Held → ℕ → Said → Held
+heldAfter h at x =
+    holds (lastOf (h .stage) ((turn (h .stage) at x) .stage)) (put (h .kept) 0 (keptIn ((turn (h .stage) at x) .stage))) (put (h .room) 0 (replyTo (h .stage) x))
+
+unfoldable pub hearing : Heard → Held → (Said → Held) → Held
+hearing nothing h f = h
+hearing (said x) h f = f x
+
+-- after the records of a pass, one after another as `pass` takes them
+unfoldable pub heldBy : ℕ → ℕ → ℕ → List ℕ → Held → Held
+heldBy zero space at t h = h
+heldBy (suc n) space at t h =
+    pick (ltb space longestLine) h
+    (hearing (heard t) h
+    (λ x.
+    let k = turn (h .stage) at x in
+    pick (isEnded (k .stage)) (heldAfter h at x) (heldBy n (space - length (k .printed)) (at + wholeLength t) (drop (wholeLength t) t) (heldAfter h at x))))

@@ -1,0 +1,270 @@
+-- What one record does to a running board. Assumes nothing.
+use Prim.Native.Nat.{ℕ, _+_, _-_, _≤_, _<_}
+use mathlib.Core.Path.{_≡_, refl, sym, ap, _∙_}
+use mathlib.Core.Bool.{Bool, true, false, not}
+use mathlib.Core.List.{List, [], _∷_}
+use native.Mathlib.Omega.{arith}
+use native.Mathlib.Nat.{add-zero}
+use lib.ListN.{length, take, drop, take-append-drop}
+use lib.Seq.{length-take-le, take-append-seam}
+use lib.Dec.{T}
+use types.Run.{OneOf, miss}
+use denote.Enum.Declared.{tagOf}
+use Rattle.meaning.specs.Bytes.{pick, put}
+use Rattle.meaning.specs.State as meaning
+use Rattle.meaning.specs.State.{none, withLine, stateOk}
+use Rattle.meaning.specs.Frames.{over, more, taken, still, upTo}
+use Rattle.meaning.specs.Run.{Call, character, poll, measured, fault, power-on, step, closes}
+use Rattle.meaning.proofs.Limits.{keeps-limits, replies-fit}
+use Rattle.meaning.proofs.Puts.{length-put}
+use Rattle.meaning.proofs.Calls.{put-front}
+use Rattle.line.specs.declared.plate.Plate.{Plate}
+use Rattle.line.specs.declared.characters.Frame.{Frame}
+use Rattle.line.specs.Line.{plateOf, lineOf, Extends, Fits}
+use Rattle.commands.specs.declared.state.State.{State}
+use Rattle.commands.specs.State.{stateWith}
+use Rattle.board.specs.declared.limits.Board.{Board}
+use Rattle.board.specs.declared.limits.Outcome.the-variants.{Over, Still}
+use Rattle.board.specs.declared.limits.Stepped.{Stepped}
+use Rattle.board.specs.Board as board
+use Rattle.board.specs.Board.{stateOf, refusalOn}
+use Rattle.board.specs.Promises.{DoesStep, Within}
+use Rattle.board.proofs.Stepping.{held-on}
+use Rattle.board.proofs.Promises.{does-step, unrefused, stays-within}
+use Rattle.tape.specs.declared.kinds.Event.{Event}
+use Rattle.tape.specs.declared.kinds.Event.the-variants as event
+use Rattle.tape.specs.Kinds.{Said, call}
+use Rattle.tape.specs.Text as text
+use Rattle.tape.specs.Text.{badLine}
+use Rattle.tape.specs.Answers as answers
+use Rattle.tape.specs.Answers.{running, turn, stepped, printedOf}
+use Rattle.tape.specs.Reader.{saidOf, Printed}
+use Rattle.tape.specs.Passes.{longestLine}
+use Rattle.tape.proofs.Rooms.{put-nil}
+use Rattle.tape.proofs.kinds.Event.{the-type}
+use Rattle.turns.specs.Turns.{Sound, quickly, Quiet, Steps, Refuses, Turns, sentOf, Fitting, Answered}
+use Rattle.turns.specs.declared.answering.Turned.{Turned}
+
+yes-it-is : (b : Bool) → T b → b ≡ true
+yes-it-is true h = refl
+yes-it-is false h = absurd h
+
+-- a call that closes nothing brings no reply
+silent-still : (p : meaning.Plate) (s : meaning.State) (m : List ℕ) (g : Call) → closes p s g ≡ false → (step p s m g) .reply ≡ []
+unfolding step closes upTo still
+silent-still p s m (character t v bad) e = rw e
+silent-still p s m (poll t) e = rw e
+silent-still p s m (measured n) e = refl
+silent-still p s m (fault c) e = refl
+silent-still p s m power-on e = refl
+
+-- a character that closes no frame
+module _ (p : Plate) (f g : Frame) (kept kept′ : List ℕ) (t v : ℕ) (bad : Bool)
+    (stays : (s : State) → over (plateOf p) (stateWith s (lineOf f kept)) t ≡ false)
+    (grown : Extends (more (pick (f .begun) (lineOf f kept) none) t v bad) kept g kept′) (lent : length kept′ ≡ 135) where
+  -- the meaning's step
+  grows : (s : State) (m : List ℕ) → (step (plateOf p) (stateWith s (lineOf f kept)) m (character t v bad)) .state ≡ stateWith s (lineOf g kept′)
+  unfolding step upTo still taken withLine
+  grows s m = rw (stays s, grown .line)
+
+  pub quiet-character : Quiet p f kept (call (character t v bad)) g kept′
+  unfolding turn stepped printedOf step upTo still taken withLine closes
+  quiet-character = record {
+    quick = λ s. ap not (stays s);
+    turned = λ s m place. rw (stays s, grown .line);
+    silent = λ s m. silent-still (plateOf p) (stateWith s (lineOf f kept)) m (character t v bad) (stays s);
+    bytes = grown .bytes ∙ ap (λ (l : meaning.Line). put kept 0 (l .kept)) (sym (grown .line));
+    few = grown .few;
+    within = λ s m h. record {
+      plate = h .plate;
+      state = rw (← grows s m)
+          (yes-it-is _ (keeps-limits (plateOf p) (stateWith s (lineOf f kept)) m (character t v bad) (rw (h .state) tt)));
+      few = grown .few;
+      places = lent;
+      size = h .size;
+    };
+  }
+
+-- the front of a list put where it stands
+front-stays : (n : ℕ) (l : List ℕ) → n ≤ length l → l ≡ put l 0 (take n l)
+front-stays n l h = rw (put-front l (take n l), length-take-le n l h) (sym (take-append-drop n l))
+
+module _ (p : Plate) (f : Frame) (kept : List ℕ) (t : ℕ) (fits : Fits f kept) (stays : (s : State) → over (plateOf p) (stateWith s (lineOf f kept)) t ≡ false) where
+  pub quiet-poll : Quiet p f kept (call (poll t)) f kept
+  unfolding turn stepped printedOf step upTo still closes
+  quiet-poll = record {
+    quick = λ s. ap not (stays s);
+    turned = λ s m place. rw (stays s);
+    silent = λ s m. silent-still (plateOf p) (stateWith s (lineOf f kept)) m (poll t) (stays s);
+    bytes = front-stays (f .len) kept (omega (arith, fits .few, fits .all));
+    few = fits .few;
+    within = λ s m h. h;
+  }
+
+-- a record of another kind
+pub other-kind : (e : Event) (p : meaning.Plate) (s : meaning.State) → OneOf (0 ∷ 3 ∷ 4 ∷ 5 ∷ 6 ∷ []) (tagOf the-type e) → quickly p s (saidOf e) ≡ false
+other-kind (event.Plate t q a b u) p s k = refl
+other-kind (event.Character t v f) p s k = absurd (miss (0 ∷ 3 ∷ 4 ∷ 5 ∷ 6 ∷ []) 1 tt k)
+other-kind (event.Poll t) p s k = absurd (miss (0 ∷ 3 ∷ 4 ∷ 5 ∷ 6 ∷ []) 2 tt k)
+other-kind (event.Measured n) p s k = refl
+other-kind (event.Fault c) p s k = refl
+other-kind event.PowerOn p s k = refl
+other-kind event.Unfit p s k = refl
+
+printed-line : (tick : ℕ) (l : List ℕ) → 0 < length l → printedOf (poll tick) l ≡ text.lineOf tick l
+unfolding printedOf
+printed-line tick [] h = absurd (omega arith)
+printed-line tick (b ∷ l) h = refl
+
+-- a line for a reply, none for silence
+module _ (tick : ℕ) (st : Stepped) (w out : List ℕ) (used n : ℕ) (r : Turned) (same : n ≡ sentOf (st .outcome)) where
+  pub no-line : r ≡ record { board = st .board; used = used; over = false } → n ≡ 0 → used ≤ length out → Answered tick st w out used r out
+  unfolding printedOf
+  no-line e z h =
+      let k : take (sentOf (st .outcome)) w ≡ [] = ap (λ (i : ℕ). take i w) (sym same ∙ z) in
+      record {
+        board = ap (λ (x : Turned). x .board) e;
+        over = ap (λ (x : Turned). x .over) e;
+        printed = rw (k, e) (record { next = sym (add-zero used); bytes = sym (put-nil out used); within = h });
+      }
+
+  pub a-line : (end : ℕ) (out′ : List ℕ) → r ≡ record { board = st .board; used = end; over = false } → (n ≡ 0 → ⊥) → n ≤ length w
+      → Printed (text.lineOf tick (take n w)) out used end out′ → Answered tick st w out used r out′
+  a-line end out′ e z h p =
+      let k : printedOf (poll tick) (take (sentOf (st .outcome)) w) ≡ text.lineOf tick (take n w) = rw (← same) (printed-line tick (take n w) (simp length-take-le (omega arith))) in
+      record {
+        board = ap (λ (x : Turned). x .board) e;
+        over = ap (λ (x : Turned). x .over) e;
+        printed = rw (k, e) p;
+      }
+
+-- a call that brings no reply has no line
+unheard : (p : meaning.Plate) (s : meaning.State) (m : List ℕ) (g : Call) → closes p s g ≡ false → printedOf (poll 0) ((step p s m g) .reply) ≡ printedOf g ((step p s m g) .reply)
+unfolding printedOf
+unheard p s m g e = rw (silent-still p s m g e)
+
+-- the line of a character is that of a poll at its tick
+as-poll : (tick v : ℕ) (bad : Bool) (l : List ℕ) → printedOf (poll tick) l ≡ printedOf (character tick v bad) l
+unfolding printedOf
+as-poll tick v bad [] = refl
+as-poll tick v bad (b ∷ l) = refl
+
+-- ---- the board's call for each kind
+
+module _ {p : Plate} {b : Board} {kept m w : List ℕ} {r : Stepped} {kept′ m′ w′ : List ℕ} where
+  pub character-called : (t v : ℕ) (f : Bool) → board.Steps (plateOf p) b kept m w (character t v f) r kept′ m′ w′
+      → Steps p b (saidOf (event.Character t v f)) kept m w t r kept′ m′ w′
+  character-called t v f s = record { asked = character t v f; said = refl; stepped = s; line = as-poll t v f _ }
+
+  pub poll-called : (t : ℕ) → board.Steps (plateOf p) b kept m w (poll t) r kept′ m′ w′ → Steps p b (saidOf (event.Poll t)) kept m w t r kept′ m′ w′
+  poll-called t s = record { asked = poll t; said = refl; stepped = s; line = refl }
+
+  unasked-called : (g : Call) → closes (plateOf p) (stateOf b kept) g ≡ false → board.Steps (plateOf p) b kept m w g r kept′ m′ w′ → Steps p b (call g) kept m w 0 r kept′ m′ w′
+  unasked-called g e s = record { asked = g; said = refl; stepped = s; line = unheard (plateOf p) (stateOf b kept) m g e }
+
+  pub measured-called : (n : ℕ) → board.Steps (plateOf p) b kept m w (measured n) r kept′ m′ w′ → Steps p b (saidOf (event.Measured n)) kept m w 0 r kept′ m′ w′
+  unfolding closes
+  measured-called n s = unasked-called (measured n) refl s
+
+  pub fault-called : (c : ℕ) → board.Steps (plateOf p) b kept m w (fault c) r kept′ m′ w′ → Steps p b (saidOf (event.Fault c)) kept m w 0 r kept′ m′ w′
+  unfolding closes
+  fault-called c s = unasked-called (fault c) refl s
+
+  pub power-on-called : board.Steps (plateOf p) b kept m w power-on r kept′ m′ w′ → Steps p b (saidOf event.PowerOn) kept m w 0 r kept′ m′ w′
+  unfolding closes
+  power-on-called s = unasked-called power-on refl s
+
+-- a second plate, or a record that fits nothing
+pub none-called : (e : Event) (kept m w : List ℕ) → OneOf (0 ∷ 6 ∷ []) (tagOf the-type e) → Refuses (saidOf e) kept m w kept m w
+unfolding turn
+none-called (event.Plate t p a b u) kept m w k =
+    record { bad = λ v s n place. refl; silent = λ v s n. refl; bytes = refl; memory = refl; room = refl }
+none-called (event.Character t v f) kept m w k = absurd (miss (0 ∷ 6 ∷ []) 1 tt k)
+none-called (event.Poll t) kept m w k = absurd (miss (0 ∷ 6 ∷ []) 2 tt k)
+none-called (event.Measured n) kept m w k = absurd (miss (0 ∷ 6 ∷ []) 3 tt k)
+none-called (event.Fault c) kept m w k = absurd (miss (0 ∷ 6 ∷ []) 4 tt k)
+none-called event.PowerOn kept m w k = absurd (miss (0 ∷ 6 ∷ []) 5 tt k)
+none-called event.Unfit kept m w k =
+    record { bad = λ v s n place. refl; silent = λ v s n. refl; bytes = refl; memory = refl; room = refl }
+
+-- ---- what the call leaves, and its line
+
+module _ (p : Plate) (b : Board) (x : Said) (kept m w : List ℕ) (tick : ℕ) (r : Stepped) (kept′ m′ w′ : List ℕ)
+    (sound : Sound p b kept m w) (steps : Steps p b x kept m w tick r kept′ m′ w′) where
+  abbrev g : Call
+  g = steps .asked
+
+  abbrev reply : List ℕ
+  reply = (step (plateOf p) (stateOf b kept) m g) .reply
+
+  willing : refusalOn (plateOf p) b kept m (length w) g ≡ 0
+  willing = unrefused (plateOf p) b kept m (length w) g (sound .within) (sound .room)
+
+  done : DoesStep (plateOf p) b kept m w g r kept′ m′ w′
+  done = does-step (plateOf p) b kept m w g willing (steps .stepped)
+
+  short : length reply ≤ 134
+  short = replies-fit (plateOf p) (stateOf b kept) m g
+
+  same-room : length w′ ≡ length w
+  same-room = ap length (done .room) ∙ length-put w 0 reply (omega (arith, short, sound .room))
+
+  -- the reply stands at the front of its room
+  front : (c : Bool) → closes (plateOf p) (stateOf b kept) g ≡ c → sentOf (pick c (Over (length reply)) Still) ≡ length reply
+  front true e = refl
+  front false e = ap length (sym (silent-still (plateOf p) (stateOf b kept) m g e))
+
+  sent-is : sentOf (r .outcome) ≡ length reply
+  sent-is = ap sentOf (done .outcome) ∙ front (closes (plateOf p) (stateOf b kept) g) refl
+
+  heard-reply : take (sentOf (r .outcome)) w′ ≡ reply
+  heard-reply = ap (λ (n : ℕ). take n w′) sent-is ∙ ap (take (length reply)) (done .room ∙ put-front w reply) ∙ take-append-seam reply (drop (length reply) w)
+
+  still-sound : Sound p (r .board) kept′ m′ w′
+  still-sound = record {
+    within = stays-within (plateOf p) b kept m w g (sound .within) (sound .room) (steps .stepped);
+    room = omega (arith, same-room, sound .room);
+  }
+
+  pub fitting : (out : List ℕ) (used : ℕ) → used + longestLine ≤ length out → Fitting (sentOf (r .outcome)) w′ out used
+  fitting out used h = record {
+    few = omega (arith, sent-is, short);
+    room = omega (arith, sent-is, short, same-room, sound .room);
+    space = h;
+  }
+
+  -- what is kept of the frame stands in front of its places, the rest is untouched
+  kept-is : kept′ ≡ put kept 0 ((step (plateOf p) (stateOf b kept) m g) .state .line .kept)
+  kept-is = rw (held-on (plateOf p) b kept m w g willing) at (steps .stepped .bytes)
+
+  -- a reply is printed, silence is not
+  pub turns-answered : {q : Turned} {out out′ : List ℕ} {used : ℕ} (place : ℕ) → Answered tick r w′ out used q out′
+      → Turns p (running (plateOf p) (stateOf b kept) m) place x kept w out used q kept′ m′ w′ out′
+  unfolding turn stepped
+  turns-answered place a =
+      rw (steps .said)
+      (record {
+        printed = rw (heard-reply, steps .line) at (a .printed);
+        over = a .over;
+        stage = ap (λ (y : Board). running (plateOf p) (stateOf y kept′) m′) (a .board) ∙ ap (λ (y : meaning.State). running (plateOf p) y m′) (done .state) ∙ ap (running (plateOf p) ((step (plateOf p) (stateOf b kept) m g) .state)) (done .memory);
+        bytes = kept-is;
+        room = done .room;
+        sound = rw (a .board) still-sound;
+      })
+
+-- a bad record changes nothing
+pub turns-bad : (p : Plate) (b : Board) (x : Said) (kept m w kept′ m′ w′ out out′ : List ℕ) (used end place : ℕ) (q : Turned) → Sound p b kept m w → Refuses x kept m w kept′ m′ w′
+    → Printed (badLine place) out used end out′ → q ≡ record { board = b; used = end; over = true }
+    → Turns p (running (plateOf p) (stateOf b kept) m) place x kept w out used q kept′ m′ w′ out′
+unfolding answers.bad
+turns-bad p b x kept m w kept′ m′ w′ out out′ used end place q sound none printed d =
+    let t = none .bad p (stateOf b kept) m place in
+    rw (none .bytes, none .memory, none .room, d)
+    (record {
+      printed = rw t printed;
+      over = rw t;
+      stage = rw t;
+      bytes = rw t (sym (put-nil kept 0));
+      room = rw (none .silent p (stateOf b kept) m) (sym (put-nil w 0));
+      sound = sound;
+    })

@@ -1,0 +1,59 @@
+-- `turns::answering::answered` meets its contract. Assumes nothing.
+use lib.ListN.{length}
+use Prim.Native.Nat.{_≤_}
+use mathlib.Core.Path.{sym, _∙_}
+use lib.Seq.{length-take-le}
+use native.Mathlib.Omega.{arith}
+use Rattle.turns.proofs.Turning.{no-line, a-line}
+use borrow.Author.Needs.{needs}
+use Rattle.turns.proofs.answering.answered.Statement.{statement}
+use Rattle.turns.proofs.answering.answered.Tie as tie
+use Rattle.turns.proofs.answering.answered.Reads as reads
+use Rattle.turns.proofs.answering.answered.Lts as lts
+use Rattle.turns.proofs.answering.after.Reads as after-reads
+use Rattle.turns.proofs.answering.sent.Reads as sent-reads
+use Rattle.tape.proofs.reply_line.Reads as reply-line-reads
+
+-- the reply lies in its room
+few : (c : tie.After-sent) → c .sent .result ≤ length (c .before .before .before .before .args .reply .now)
+few c = rw (c .sent .ensures) (c .before .before .before .before .pre .room)
+
+sent-requires : tie.Need-sent-requires
+sent-requires c κs = search needs
+
+after-requires : tie.Need-after-requires
+after-requires c κs = search needs
+
+returns : tie.Need-returns
+returns c = no-line _ _ _ _ _ _ _ (c .before .before .sent .ensures) (c .after .ensures) (c .before .if1 .taken) (omega (arith, c .before .before .before .before .before .before .pre .space))
+
+slice-aggregate-reply-line : tie.Need-slice-aggregate-reply-line
+slice-aggregate-reply-line c = sym (length-take-le _ _ (few (c .before .before)))
+
+reply-line-requires : tie.Need-reply-line-requires
+reply-line-requires c κs =
+    let u = c .before .before .before in
+    let p = u .before .before .before .before .pre in
+    omega (arith, length-take-le (u .sent .result) (u .before .before .before .before .args .reply .now) (few u), u .sent .ensures, p .few, p .space)
+
+after-requires-2 : tie.Need-after-requires-2
+after-requires-2 c κs = search needs
+
+same-length : tie.Need-same-length
+same-length c = search needs
+
+returns-2 : tie.Need-returns-2
+returns-2 c = a-line _ _ _ _ _ _ _ (c .before .before .before .before .before .before .before .sent .ensures) _ _ (c .after2 .ensures) (c .before .before .before .before .before .before .if1 .left) (few (c .before .before .before .before .before .before .before)) (c .before .before .before .reply-line .ensures)
+
+pub answered-spec : {M : Type 1} → statement M
+answered-spec =
+    tie.close
+    (tie.spec
+    sent-requires
+    after-requires
+    returns
+    slice-aggregate-reply-line
+    reply-line-requires
+    after-requires-2
+    same-length
+    returns-2)

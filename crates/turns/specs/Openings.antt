@@ -1,0 +1,50 @@
+-- The first record of a tape (01, "plate .., first and once"). Assumes nothing.
+use Prim.Native.Nat.{ℕ, _≤_}
+use mathlib.Core.Path.{_≡_}
+use mathlib.Core.Bool.{true}
+use mathlib.Core.List.{List, []}
+use lib.ListN.{length}
+use Rattle.meaning.specs.Bytes.{pick, zeros}
+use Rattle.meaning.specs.State as meaning
+use Rattle.meaning.specs.State.{plateOk, fresh}
+use Rattle.meaning.specs.Fields.{imageLength}
+use Rattle.line.specs.declared.plate.Plate.{Plate}
+use Rattle.line.specs.Line.{plateOf}
+use Rattle.tape.specs.Records.{wholeLength}
+use Rattle.tape.specs.Kinds.{Said, plate, call, unfit}
+use Rattle.tape.specs.Answers.{opening, running, bad, turn}
+use Rattle.tape.specs.Passes as passes
+use Rattle.turns.specs.Hearing.{Told, not-yet, tells}
+use Rattle.turns.specs.declared.opening.Opened.{Opened}
+use Rattle.turns.specs.declared.opening.Opened.the-variants as opened
+
+unfoldable pub checked : meaning.Plate → ℕ → Opened
+checked p next =
+    pick (plateOk p) (opened.Plate (record { total = p .total; bits = p .bits; address = p .address; ticks = p .ticks; pause = p .pause }) next) opened.Bad
+
+abbrev pub begunBy : Said → ℕ → Opened
+begunBy (plate p) next = checked p next
+begunBy (call g) next = opened.Bad
+begunBy unfit next = opened.Bad
+
+abbrev pub openedBy : Told → Opened
+openedBy not-yet = opened.More
+openedBy (tells x next) = begunBy x next
+
+-- the window begins with a good plate
+pub record Begins (window : List ℕ) (p : Plate) (next : ℕ) (x : Said) : Type 0 where
+  pub good : plateOk (plateOf p) ≡ true
+  pub heard : passes.heard window ≡ passes.said x
+  pub turned : (place : ℕ) → turn opening place x ≡ record { stage = running (plateOf p) (fresh (plateOf p)) (zeros (imageLength (p .total))); printed = [] }
+  pub whole : next ≡ wholeLength window
+  pub inside : next ≤ length window
+
+-- or with a record that is bad there
+pub record Fails (window : List ℕ) (x : Said) : Type 0 where
+  pub heard : passes.heard window ≡ passes.said x
+  pub turned : (place : ℕ) → turn opening place x ≡ bad place
+
+abbrev pub Opens : List ℕ → Opened → Type 0
+Opens window (opened.Plate p next) = (x : Said) × Begins window p next x
+Opens window opened.More = passes.heard window ≡ passes.nothing
+Opens window opened.Bad = (x : Said) × Fails window x

@@ -1,0 +1,175 @@
+// One record of a running board: what the board answers, what is printed.
+ghost use mathlib.Core.Path.{_≡_};
+ghost use mathlib.Core.Bool.{true, false};
+ghost use Prim.Native.Nat.{_+_, _≤_};
+ghost use lib.ListN.{length};
+ghost use Rattle.line.specs.Line.{plateOf, Fits};
+ghost use Rattle.board.specs.Board.{stateOf};
+ghost use Rattle.tape.specs.Answers.{running};
+ghost use Rattle.tape.specs.Reader.{saidOf, Printed};
+ghost use Rattle.tape.specs.Passes.{longestLine};
+ghost use Rattle.turns.specs.Turns.{Sound, Quickens, Calls, Turns, sentOf, Fitting, Answered};
+use board::Board;
+use board::Outcome;
+use board::Stepped;
+use line::Frame;
+use line::Plate;
+use tape::Event;
+
+// A record that closes no frame went into the frame's numbers; any other is slow.
+pub enum Pace {
+    Went(Frame),
+    Slow,
+}
+
+// The board after a record, how much of the room is used, and whether the record was bad.
+pub struct Turned {
+    pub board: Board,
+    pub used: usize,
+    pub over: bool,
+}
+
+// What the board's call brought, and the tick that its line begins with; or the record was bad and nothing was called.
+struct Called {
+    stepped: Stepped,
+    tick: u32,
+    bad: bool,
+}
+
+// Most records are characters inside a frame: they touch the frame's numbers and a kept byte, and no refusal has to be tried.
+pub fn quick(plate: Plate, frame: Frame, event: Event, kept: &mut [u8]) -> Pace
+    requires { ⌜ Fits frame (now kept) ⌝ }
+    ensures { λ r. ⌜ Quickens plate frame (now (kept .entry)) (saidOf event) r (now (kept .exit)) ⌝ }
+{
+    match event {
+        Event::Character {
+            tick,
+            value,
+            parity,
+        } => {
+            if frame.is_over(plate, tick) {
+                return Pace::Slow;
+            }
+            Pace::Went(frame.with_character(tick, value, parity, kept))
+        }
+        Event::Poll { tick } => {
+            if frame.is_over(plate, tick) {
+                return Pace::Slow;
+            }
+            Pace::Went(frame)
+        }
+        _ => Pace::Slow,
+    }
+}
+
+// The length of the reply that a call brought.
+fn sent(outcome: Outcome) -> usize
+    ensures { λ r. ⌜ r ≡ sentOf outcome ⌝ }
+{
+    match outcome {
+        Outcome::Refused(_) => 0,
+        Outcome::Still => 0,
+        Outcome::Over(n) => n,
+    }
+}
+
+fn after(board: Board, used: usize, over: bool) -> Turned
+    ensures { λ r. ⌜ r ≡ record { board = board; used = used; over = over } ⌝ }
+{
+    Turned { board, used, over }
+}
+
+// 01, "per reply": a line for a reply, none for silence.
+fn answered(tick: u32, stepped: Stepped, reply: &[u8], out: &mut [u8], used: usize) -> Turned
+    requires { ⌜ Fitting (sentOf (stepped .outcome)) (now reply) (now out) used ⌝ }
+    ensures { λ r. ⌜ Answered tick stepped (now (reply .entry)) (now (out .entry)) used r (now (out .exit)) ⌝ }
+{
+    let board = stepped.board;
+    let outcome = stepped.outcome;
+    let n = sent(outcome);
+    if n == 0 {
+        return after(board, used, false);
+    }
+    let end = tape::reply_line(tick, &reply[..n], out, used);
+    after(board, end, false)
+}
+
+fn brought(stepped: Stepped, tick: u32) -> Called
+    ensures { λ r. ⌜ r ≡ record { stepped = stepped; tick = tick; bad = false } ⌝ }
+{
+    Called {
+        stepped,
+        tick,
+        bad: false,
+    }
+}
+
+fn not_called(board: Board) -> Called
+    ensures { λ r. ⌜ r .bad ≡ true ⌝ }
+{
+    let stepped = Stepped {
+        board,
+        outcome: Outcome::Still,
+    };
+    Called {
+        stepped,
+        tick: 0,
+        bad: true,
+    }
+}
+
+// The board's call for what a record says; a second plate and an unfit record are none. Only a character and a poll bring a line.
+fn ask(
+    plate: Plate,
+    board: Board,
+    event: Event,
+    kept: &mut [u8],
+    memory: &mut [u8],
+    reply: &mut [u8],
+) -> Called
+    requires { ⌜ Sound plate board (now kept) (now memory) (now reply) ⌝ }
+    ensures { λ r. ⌜ Calls plate board (saidOf event) (now (kept .entry)) (now (memory .entry)) (now (reply .entry)) r (now (kept .exit)) (now (memory .exit)) (now (reply .exit)) ⌝ }
+{
+    match event {
+        Event::Character {
+            tick,
+            value,
+            parity,
+        } => {
+            let stepped = board::character(plate, board, tick, value, parity, kept, memory, reply);
+            brought(stepped, tick)
+        }
+        Event::Poll { tick } => {
+            let stepped = board::poll(plate, board, tick, kept, memory, reply);
+            brought(stepped, tick)
+        }
+        Event::Measured { position } => brought(board::measured(plate, board, position), 0),
+        Event::Fault { code } => brought(board::fault(plate, board, code), 0),
+        Event::PowerOn => brought(board::power_on(plate, board), 0),
+        _ => not_called(board),
+    }
+}
+
+// Any record of a running board: what the board answers is printed; a record that does not fit, or a second plate, is bad.
+pub fn turn(
+    plate: Plate,
+    board: Board,
+    place: u64,
+    event: Event,
+    kept: &mut [u8],
+    memory: &mut [u8],
+    reply: &mut [u8],
+    out: &mut [u8],
+    used: usize,
+) -> Turned
+    requires { ⌜ Sound plate board (now kept) (now memory) (now reply) ⌝ }
+    requires { ⌜ used + longestLine ≤ length (now out) ⌝ }
+    ensures { λ r. ⌜ Turns plate (running (plateOf plate) (stateOf board (now (kept .entry))) (now (memory .entry))) place (saidOf event) (now (kept .entry)) (now (reply .entry)) (now (out .entry)) used r (now (kept .exit)) (now (memory .exit)) (now (reply .exit)) (now (out .exit)) ⌝ }
+{
+    let call = ask(plate, board, event, kept, memory, reply);
+    if call.bad {
+        let end = tape::bad_line(place, out, used);
+        return after(board, end, true);
+    }
+    answered(call.tick, call.stepped, reply, out, used)
+}
