@@ -1,13 +1,14 @@
 #!/usr/bin/env python3
-"""Lists the public functions of every crate, and fails if docs/CONTRACTS.md lacks a row for one, or has one for none.
+"""Lists the public functions of every crate, and fails if docs/CONTRACTS.md lacks a row for one, has one for none, or cites what is not there.
 
 contracts.py [--list]
 
 Public is what a crate hands out: a function that lib.rt passes on by `pub use` or that stands in a `pub mod`, a method of a type
 that is handed out so, and an exported `extern "C"` function. A row of the table begins with the function's name in backquotes,
-as `crate::Type::method`.
+as `crate::Type::method`. What its last two columns cite, a word with a hyphen or an underscore, is a law, a must-fail edit or a stored tape.
 """
 
+import glob
 import os
 import re
 import sys
@@ -19,6 +20,8 @@ IMPL = re.compile(r"^impl (\w+) \{")
 TEST_LIBRARIES = ["script", "desk", "trial"]
 FUNCTION = re.compile(r"^(\s*)pub (extern \"C\" )?fn (\w+)")
 PASSED_ON = re.compile(r"^pub use (\w+)::(\w+);")
+LAW = re.compile(r"^\s*(?:pub )?([a-z0-9-]+)(?: \{\S+\})? :", re.M)
+CITED = re.compile(r"[a-z0-9]+(?:[-_][a-z0-9]+)+")
 OPEN_MODULE = re.compile(r"^pub mod (\w+);")
 
 
@@ -78,6 +81,27 @@ def rows():
         return [line.split("`")[1] for line in file if line.startswith("| `")]
 
 
+def named_files(pattern):
+    return {os.path.splitext(os.path.basename(path))[0] for path in glob.glob(os.path.join(ROOT, pattern))}
+
+
+def laws():
+    """The names that the crates' proofs define."""
+    found = set()
+    for path in glob.glob(os.path.join(ROOT, "crates", "*", "proofs", "**", "*.antt"), recursive=True):
+        with open(path, encoding="utf-8") as file:
+            found.update(LAW.findall(file.read()))
+    return found
+
+
+def missing_citations():
+    there = laws() | named_files("crates/*/must-fail/*.edit") | named_files("tapes/*.tape")
+    with open(TABLE, encoding="utf-8") as file:
+        cells = [line.split("|")[5:7] for line in file if line.startswith("| `")]
+    cited = {word for row in cells for cell in row for word in CITED.findall(cell)}
+    return sorted(cited - there)
+
+
 def main():
     found = [name for crate in libraries() for name in public_functions(crate)]
     if "--list" in sys.argv:
@@ -87,6 +111,7 @@ def main():
     wrong = ["no row for " + name for name in found if name not in told]
     wrong += ["a row for what is not there: " + name for name in told if name not in found]
     wrong += ["two rows for " + name for name in sorted(set(told)) if told.count(name) > 1]
+    wrong += ["it cites %s, which is not there" % name for name in missing_citations()]
     if wrong:
         sys.exit("docs/CONTRACTS.md: " + "\ndocs/CONTRACTS.md: ".join(wrong))
     print("contracts: %d public functions, a row each" % len(found))

@@ -1,1 +1,2 @@
+-- The definitions of `answer`, file by file.
 pub mod Program

@@ -1,38 +1,34 @@
 -- A pass from the plate on, and of a board at work, over the front of the lent memory. Assumes nothing.
-use Prim.Native.Nat.{ℕ, zero, suc, _+_, _-_, _*_, _≤_, _<_}
+use Prim.Native.Nat.{ℕ, zero, suc, _+_, _-_, _≤_, _<_}
 use mathlib.Core.Path.{_≡_, refl, sym, ap, _∙_}
-use mathlib.Core.Bool.{Bool, true, false}
+use mathlib.Core.Bool.{true}
 use mathlib.Core.List.{List, [], _∷_, _++_}
-use native.Mathlib.Nat.{add-zero, zero-add, add-assoc}
+use native.Mathlib.Nat.{add-zero, zero-add}
 use native.Mathlib.Omega.{arith}
-use lib.ListN.{length, take, drop, replicate, length-take, length-drop, length-replicate}
+use lib.ListN.{length, take, drop, length-take, length-drop}
 use lib.Seq.{take-at, length-take-le}
-use lib.Dec.{T}
 use Rattle.meaning.specs.Bytes.{zeros, put}
 use Rattle.meaning.specs.State as meaning
 use Rattle.meaning.specs.State.{plateOk, stateOk, fresh}
 use Rattle.meaning.specs.Fields.{imageLength}
 use Rattle.meaning.proofs.Limits.{fresh-within}
-use Rattle.meaning.proofs.Calls.{put-front}
 use Rattle.line.specs.declared.plate.Plate.{Plate}
 use Rattle.line.specs.Line.{plateOf}
 use Rattle.line.proofs.Limits.{total-fits}
 use Rattle.board.specs.declared.limits.Board.{Board}
 use Rattle.board.specs.Board.{stateOf}
-use Rattle.board.specs.Promises.{Within}
 use Rattle.tape.specs.Records.{wholeLength}
 use Rattle.tape.specs.Kinds.{Said}
 use Rattle.tape.specs.Text.{badLine}
 use Rattle.tape.specs.Answers.{Stage, opening, running, ended, Turn, bad, turn}
 use Rattle.tape.specs.Passes as passes
 use Rattle.tape.specs.Passes.{Pass, pass, stopped, after, heard, nothing, said, longestLine}
-use Rattle.tape.specs.Reader.{Printed}
 use Rattle.tape.proofs.Rooms.{put-nil}
 use Rattle.tape.proofs.Streams.{pass-enough}
-use Rattle.turns.specs.Turns.{Sound, keptIn, isEnded, lastOf}
+use Rattle.turns.specs.Turns.{keptIn, isEnded, lastOf}
 use Rattle.answers.specs.Beginnings.{Working, goes-on, begins, Idle}
 use Rattle.answers.specs.Holding.{Held, holds, heldAfter, heldBy}
-use Rattle.answers.specs.Sessions.{largestImage, stageFrom, stageOf, stopTold, phaseAfter, eatenBy, Plays, Steady, Ready, passOver, heldOver, Stands, Eats, Playable, passFrom, heldFrom, GoesOn, Refuses}
+use Rattle.answers.specs.Sessions.{largestImage, stageOf, stopTold, phaseAfter, eatenBy, Plays, Steady, Ready, passOver, heldOver, Stands, Eats, Playable, passFrom, heldFrom, GoesOn, Refuses}
 use Rattle.turns.specs.Openings.{Begins, Fails}
 use Rattle.answers.specs.declared.session.Phase.{Phase}
 use Rattle.answers.specs.declared.session.Phase.the-variants.{Opening, Running, Ended}
@@ -44,6 +40,8 @@ use Rattle.answers.specs.declared.passes.Eaten.{Eaten}
 use Rattle.answers.proofs.Closings.{no-text}
 use Rattle.answers.proofs.Holding.{held-parts, held-full, held-more, held-bad, held-good, held-enough}
 use Rattle.answers.proofs.Playing.{pass-full, pass-more, pass-turn}
+use Rattle.meaning.proofs.Puts.{put-front}
+use Rattle.meaning.proofs.Choices.{told-true}
 
 -- ---- the front of the lent memory
 
@@ -214,10 +212,6 @@ take-zeros (suc n) (suc k) h = ap (λ (l : List ℕ). 0 ∷ l) (take-zeros n k (
 abbrev ahead : ℕ → Pass → Pass
 ahead n q = record { stage = q .stage; read = n + q .read; printed = q .printed; stop = q .stop }
 
-yes-it-is : (b : Bool) → T b → b ≡ true
-yes-it-is true h = refl
-yes-it-is false h = absurd h
-
 module _ (s : Session) (window kept m w out : List ℕ) (used : ℕ) (ready : Ready s window kept m w out used) (first : s .phase ≡ Opening)
     (p : Plate) (next : ℕ) (x : Said) (begins : Begins window p next x) (b : Board) (fresh-board : (k : List ℕ) → stateOf b k ≡ fresh (plateOf p)) where
   blank : take (imageLength (p .total)) m ≡ zeros (imageLength (p .total))
@@ -236,7 +230,7 @@ module _ (s : Session) (window kept m w out : List ℕ) (used : ℕ) (ready : Re
     sound = record {
       within = record {
         plate = begins .good;
-        state = rw (fresh-board kept) (yes-it-is (stateOk (plateOf p) (fresh (plateOf p))) (fresh-within (plateOf p)));
+        state = rw (fresh-board kept) (told-true (stateOk (plateOf p) (fresh (plateOf p))) (fresh-within (plateOf p)));
         few = few;
         places = ready .lent;
         size = length-take-le (imageLength (p .total)) m (front-fits p m (begins .good) (ready .size));

@@ -1,3 +1,4 @@
+-- The definitions of `answers`, file by file.
 pub mod Holding
 pub mod Beginnings
 pub mod Sessions

@@ -1,3 +1,4 @@
+-- The laws of `bench`, file by file.
 pub mod Laws
 pub mod Requests
 pub mod Tight

@@ -1,5 +1,5 @@
 -- No two differing outcomes satisfy a public contract of the bench (01, "How tightly the contracts bind"). Assumes nothing.
-use mathlib.Core.Path.{_≡_, refl, sym, ap, _∙_}
+use mathlib.Core.Path.{_≡_, refl, ap}
 use mathlib.Core.List.{List}
 use Prim.Native.Nat.{ℕ}
 use lib.Dec.{eqb}

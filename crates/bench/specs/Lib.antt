@@ -1,1 +1,2 @@
+-- The definitions of `bench`, file by file.
 pub mod Outcomes

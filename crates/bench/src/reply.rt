@@ -6,7 +6,7 @@ ghost use Prim.Native.Nat.{ℕ, _+_, _%_, _≤_};
 ghost use lib.Dec.{eqb};
 ghost use lib.ListN.{length};
 ghost use denote.Ref.{ptr};
-ghost use Rattle.meaning.specs.Bytes.{both, either, arg, part};
+ghost use Rattle.meaning.specs.Bytes.{both, either, part};
 ghost use Rattle.meaning.specs.Bench.{boardByte, addressByte, written, fromAsked, errorReply, content, handed};
 ghost use Rattle.meaning.specs.Bench as meaning;
 ghost use Rattle.bench.specs.Outcomes.{verdictOf, withoutData, Ordinary};

@@ -13,7 +13,8 @@ use Rattle.meaning.specs.State as meaning
 use Rattle.meaning.specs.State.{none, ownByte}
 use Rattle.meaning.specs.Commands as commands
 use Rattle.meaning.specs.Commands.{commandOf, asked, row, lengthFits, unknown, worked}
-use Rattle.meaning.specs.Frames.{commandByte, dataOf, closed, message, warned, still, outcome, leaves, work}
+use Rattle.meaning.specs.Characters.{closed}
+use Rattle.meaning.specs.Frames.{commandByte, dataOf, message, warned, still, outcome, leaves, work}
 use Rattle.meaning.proofs.Puts.{length-put}
 use Rattle.meaning.proofs.Limits as limits
 use Rattle.frame.specs.declared.answer.Answer.{Answer}

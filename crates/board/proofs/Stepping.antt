@@ -13,7 +13,8 @@ use lib.Seq.{take-all}
 use Rattle.meaning.specs.Bytes.{pick, put}
 use Rattle.meaning.specs.State as meaning
 use Rattle.meaning.specs.State.{Plate, none, withLine, withMeasured, fresh, noted, poweredOn}
-use Rattle.meaning.specs.Frames.{Outcome, over, more, taken, closed, work, resting, still, upTo}
+use Rattle.meaning.specs.Characters.{over, more, taken, closed}
+use Rattle.meaning.specs.Frames.{Outcome, work, resting, still, upTo}
 use Rattle.meaning.specs.Frames as frames
 use Rattle.meaning.specs.Run as run
 use Rattle.meaning.specs.Run.{Call, Held, step, called, closes, refusedBy}

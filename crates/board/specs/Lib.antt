@@ -1,3 +1,4 @@
+-- The definitions of `board`, file by file.
 pub mod Board
 pub mod Work
 pub mod Promises

@@ -10,7 +10,8 @@ use Rattle.meaning.specs.State.{none, plateOk}
 use Rattle.meaning.specs.Fields.{imageLength}
 use Rattle.meaning.specs.Commands.{commandOf, asked}
 use Rattle.meaning.specs.Commands as commands
-use Rattle.meaning.specs.Frames.{closed, message, work}
+use Rattle.meaning.specs.Characters.{closed}
+use Rattle.meaning.specs.Frames.{message, work}
 use Rattle.frame.specs.declared.answer.Answer.{Answer}
 use Rattle.frame.specs.declared.answer.Answer.the-variants.{Refuse, Accept, Quiet}
 use Rattle.frame.specs.Answers.{memoryAfter, stateAfter, Works}

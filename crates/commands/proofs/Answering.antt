@@ -1,13 +1,12 @@
 -- A command's ways out: refused, accepted, quiet; and the bytes that it puts into the room. Assumes nothing.
-use Prim.Native.Nat.{ℕ, _+_, _≤_, _%_, _/_}
+use Prim.Native.Nat.{ℕ, _≤_, _%_, _/_}
 use native.Mathlib.Omega.{arith}
 use native.Mathlib.Nat.{add-zero}
 use mathlib.Core.Path.{_≡_, refl, sym, ap, _∙_}
 use mathlib.Core.Bool.{Bool, true, false, not}
-use mathlib.Core.List.{List, [], _∷_, append-assoc}
+use mathlib.Core.List.{List, [], _∷_}
 use lib.Dec.{eqb}
-use lib.ListN.{length, getD, take, drop, set, take-append-drop}
-use lib.Seq.{sets, sets-eq}
+use lib.ListN.{length, getD, take, set, take-append-drop}
 use Rattle.meaning.specs.Bytes.{differ, put, bytes3, bytes4}
 use Rattle.meaning.specs.State.{Line}
 use Rattle.meaning.specs.Commands as commands

@@ -2,9 +2,8 @@
 ghost use mathlib.Core.Path.{_≡_};
 ghost use mathlib.Core.Bool.{not};
 ghost use mathlib.Core.List.{[]};
-ghost use Prim.Native.Nat.{ℕ, _<_};
-ghost use lib.ListN.{drop};
-ghost use Rattle.meaning.specs.Bytes.{arg, among};
+ghost use Prim.Native.Nat.{_<_};
+ghost use Rattle.meaning.specs.Bytes.{among};
 ghost use Rattle.meaning.specs.State.{State, queued, noted, apart};
 ghost use Rattle.meaning.specs.Frames.{warned};
 ghost use Rattle.meaning.specs.Demands.{waits};

@@ -1,8 +1,8 @@
 // The board's state but for the open frame (01, "Fresh state"). State values are made in this file only.
 ghost use mathlib.Core.Path.{_≡_};
-ghost use Prim.Native.Nat.{ℕ, _≤_, _<_, _^_};
-ghost use lib.ListN.{length, getD, set};
-ghost use Rattle.meaning.specs.State.{Plate, Line, fresh, stateOk, withCodes, withCounter, withOffset, withMeasured, withLine, none, noted, poweredOn};
+ghost use Prim.Native.Nat.{_≤_, _<_, _^_};
+ghost use lib.ListN.{length, set};
+ghost use Rattle.meaning.specs.State.{Plate, Line, fresh, stateOk, withCodes, withCounter, withOffset, withMeasured, none, noted, poweredOn};
 ghost use Rattle.commands.specs.State.{stateWith};
 ghost use Rattle.commands.specs.Queue.{holding};
 use crate::faults::Faults;

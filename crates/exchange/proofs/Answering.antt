@@ -11,7 +11,8 @@ use lib.Seq.{take-length, take-append-seam}
 use borrow.Author.Tests.{eqb-true}
 use Rattle.meaning.specs.Bytes.{pick, both, either, among, put}
 use Rattle.meaning.specs.State.{Plate, State, Line, none, withLine, plateOk, between}
-use Rattle.meaning.specs.Frames.{Outcome, still, resting, over}
+use Rattle.meaning.specs.Characters.{over}
+use Rattle.meaning.specs.Frames.{Outcome, still, resting}
 use Rattle.meaning.specs.Run.{poll, step, runFrom, closes}
 use Rattle.meaning.specs.Bench.{addressFor, request, judge}
 use Rattle.meaning.specs.Demands.{meant}

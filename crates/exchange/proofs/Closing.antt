@@ -12,7 +12,9 @@ use Rattle.meaning.specs.Bytes.{pick, either, arg}
 use Rattle.meaning.specs.State.{Plate, State, ownByte}
 use Rattle.meaning.specs.Fields.{imageLength}
 use Rattle.meaning.specs.Commands.{commandOf, worked}
-use Rattle.meaning.specs.Frames.{sealed, closed, ours, ending, leaves, still, work, resting, upTo}
+use Rattle.meaning.specs.Characters.{closed}
+use Rattle.meaning.specs.Frames.{sealed, ours, ending, leaves, still, work, resting, upTo}
+use Rattle.meaning.specs.Characters as characters
 use Rattle.meaning.specs.Frames as frames
 use Rattle.meaning.specs.Run.{Call, poll, step, runFrom, closes}
 use Rattle.meaning.specs.Bench.{addressOk, addressFor, allowed, request, written, refusal, judge, bad}
@@ -24,7 +26,7 @@ use Rattle.exchange.specs.Passing.{reached, answerTo, verdictOn}
 use Rattle.exchange.proofs.Running.{kept-begun, Runs, runs, pause-closes, begun-then, sent-is-told}
 
 -- 01, "judged in this order", 1: a frame of three bytes or more for another address
-elsewhere : (p : Plate) (s : State) (m : List ℕ) (now : ℕ) (q : List ℕ) → frames.over p s now ≡ true → s .line .kept ≡ q → 3 ≤ length q
+elsewhere : (p : Plate) (s : State) (m : List ℕ) (now : ℕ) (q : List ℕ) → characters.over p s now ≡ true → s .line .kept ≡ q → 3 ≤ length q
     → ours p (resting s) q ≡ false → step p s m (poll now) ≡ still (resting s) m
 unfolding step upTo frames.close work ending closed leaves ours still ownByte resting
 elsewhere p s m now q o e long away = rw (o, e, le-ltb (length q) 3 long, away)
@@ -53,10 +55,10 @@ module _ (p : Plate) (s : State) (m : List ℕ) (tick spacing : ℕ) (a c : ℕ)
   one-last : length q ≡ suc (length q - 1)
   one-last = omega (arith, request-long a c d)
 
-  pub over-now : frames.over p ((runFrom p s m gs) .state) now ≡ true
+  pub over-now : characters.over p ((runFrom p s m gs) .state) now ≡ true
   over-now =
       let e = one-last in
-      subst (λ (n : ℕ). frames.over p ((runFrom p s m (sending tick spacing q n)) .state) now ≡ true) (sym e)
+      subst (λ (n : ℕ). characters.over p ((runFrom p s m (sending tick spacing q n)) .state) now ≡ true) (sym e)
       (pause-closes p s m tick spacing q idle low close short (length q - 1) (omega (arith, e)) few)
 
   begun-now : (runFrom p s m gs) .state .line .begun ≡ true
@@ -74,7 +76,7 @@ module _ (p : Plate) (s : State) (m : List ℕ) (tick spacing : ℕ) (a c : ℕ)
   answered-here h =
       let w : Sent p s m a c d = record { address = home; size = size; ours = h; may = may } in
       let t = sent-is-told p s m tick spacing q idle low close short a c d refl w in
-      let o : T (frames.over p ((runFrom p s m gs) .state) now) = rw over-now tt in
+      let o : T (characters.over p ((runFrom p s m gs) .state) now) = rw over-now tt in
       ap (λ (x : List ℕ). step p ((runFrom p s m gs) .state) x (poll now)) (sym (all .memory))
       ∙ poll-works p s m gs a c d t now o
       ∙ ap (λ (x : State). meant p x m c d) (all .rests)

@@ -1,3 +1,4 @@
+-- The laws of `exchange`, file by file.
 pub mod Stamps
 pub mod Running
 pub mod Closing

@@ -11,7 +11,8 @@ use lib.Seq.{take-suc, take-length, length-take-le}
 use borrow.Author.Tests.{lt-ltb, lt-leb, le-leb}
 use Rattle.meaning.specs.Bytes.{pick, arg}
 use Rattle.meaning.specs.State.{Plate, State, none, withLine}
-use Rattle.meaning.specs.Frames.{Outcome, gap, over, more, taken, still, resting, upTo}
+use Rattle.meaning.specs.Characters.{gap, over, more, taken}
+use Rattle.meaning.specs.Frames.{Outcome, still, resting, upTo}
 use Rattle.meaning.specs.Run.{character, step, runFrom, closes}
 use Rattle.meaning.specs.Bench.{request}
 use Rattle.meaning.specs.Demands.{Sent, Told, spoken, calm, unbroken}

@@ -4,7 +4,7 @@ use mathlib.Core.Path.{_≡_, refl, ap, _∙_}
 use native.Mathlib.Omega.{arith}
 use native.Mathlib.Numerals.{add-one}
 use native.Mathlib.Nat.{mod-lt, mod-add-mod, add-mod-right}
-use Rattle.meaning.specs.Frames.{gap}
+use Rattle.meaning.specs.Characters.{gap}
 use Rattle.exchange.specs.Calls.{stampOf}
 
 -- the next stamp by wrapping add, the gap by wrapping subtract: the spacing modulo 2^32, from every tick

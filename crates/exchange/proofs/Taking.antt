@@ -9,7 +9,8 @@ use lib.ListN.{length, take}
 use lib.Seq.{length-take-le}
 use Rattle.meaning.specs.Bytes.{put, arg}
 use Rattle.meaning.specs.State.{Plate, State}
-use Rattle.meaning.specs.Frames.{Outcome, taken, still}
+use Rattle.meaning.specs.Characters.{taken}
+use Rattle.meaning.specs.Frames.{Outcome, still}
 use Rattle.meaning.specs.Run.{Call, character, step, runFrom}
 use Rattle.meaning.proofs.Puts.{drop-put-low, put-front}
 use Rattle.commands.proofs.Answering.{put-nothing}

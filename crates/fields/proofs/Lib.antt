@@ -1,3 +1,4 @@
+-- The laws of `fields`, file by file.
 pub mod Walk
 pub mod Tables
 pub mod Pieces

@@ -1,10 +1,10 @@
 -- Bytes put into a list one by one, and parts of a list lent and come back. Assumes nothing.
 use Prim.Native.Nat.{ℕ, zero, suc, _+_, _≤_}
 use mathlib.Core.Path.{_≡_, ap, _∙_}
-use mathlib.Core.List.{List, [], _∷_, _++_, append-assoc}
+use mathlib.Core.List.{List, [], _∷_, append-assoc}
 use native.Mathlib.Omega.{arith}
-use lib.ListN.{length, take, drop, length-append, length-take, length-drop, take-append-drop}
-use lib.Seq.{sets, sets-eq, take-at, take-nil, take-take, take-add, drop-drop, drop-append-add, drop-append-le}
+use lib.ListN.{length, take, drop, length-take, length-drop, take-append-drop}
+use lib.Seq.{take-nil, take-take, take-add, drop-drop, drop-append-le}
 use borrow.Rule.Slice.PartMut.{putMid, midOf}
 use Rattle.meaning.specs.Bytes.{put}
 

@@ -1,13 +1,13 @@
 -- Laws of the checksum's loop, of bytes put into a room, and of a frame that is sealed round its data. Assumes nothing.
-use mathlib.Core.Path.{_≡_, refl, sym, ap, _∙_}
+use mathlib.Core.Path.{_≡_, refl, sym, _∙_}
 use mathlib.Core.Bool.{Bool, true, false}
 use mathlib.Core.List.{List, [], _∷_, _++_, append-nil}
-use Prim.Native.Nat.{ℕ, zero, suc, _+_, _-_, _<_, _≤_}
+use Prim.Native.Nat.{ℕ, suc, _+_, _-_, _<_, _≤_}
 use native.Mathlib.Numerals.{add-one}
 use native.Mathlib.Nat.{zero-add}
 use native.Mathlib.Omega.{arith}
 use lib.ListN.{length, take, drop, getD, set, length-append, length-take, length-drop}
-use lib.Seq.{drop-cons, take-suc, set-at, set-split, append-snoc, length-take-le, take-length, drop-length, take-at, drop-drop}
+use lib.Seq.{drop-cons, take-suc, set-at, set-split, append-snoc, length-take-le, take-length, drop-length, drop-drop}
 use lib.Bits.{bitXor, xor-self}
 use lib.Dec.{eqb}
 use borrow.Author.Tests.{le-leb, lt-leb, eq-eqb, ne-eqb, eqb-true, eqb-false}

@@ -1,2 +1,3 @@
+-- The definitions of `frame`, file by file.
 pub mod Table
 pub mod Answers

@@ -12,15 +12,15 @@ use lib.ListN.{length, take, drop, set, length-set}
 use lib.Seq.{take-append-add, drop-append-add}
 use Rattle.meaning.specs.Bytes.{arg, put, pick}
 use Rattle.meaning.specs.State.{Line, none}
-use Rattle.meaning.specs.Frames.{more}
+use Rattle.meaning.specs.Characters.{more}
 use Rattle.meaning.proofs.Puts.{length-put}
 use Rattle.line.specs.declared.characters.Frame.{Frame}
 use Rattle.line.specs.Line.{lineOf, noFrame, Fits, Extends}
 use Rattle.line.proofs.Kept.{has-room, has-none}
-use Rattle.image.specs.Image.{low4, flagByte, isImage, frameIn, keptIn, lineBytes, frameRow, frameBytes, Open, Takes, PutsFrame}
+use Rattle.image.specs.Image.{low4, flagByte, frameIn, keptIn, lineBytes, frameRow, frameBytes, Open, Takes, PutsFrame}
 use Rattle.image.proofs.Standing.{flag-back, line-row}
 use Rattle.image.proofs.Parts.{front-length, kept-length, laid-out, takes, takes-of}
-use Rattle.image.proofs.Round.{Good, good}
+use Rattle.image.proofs.Round.{good}
 
 -- the first of a frame
 pub begins : (img : List ℕ) (tick v : ℕ) (bad : Bool) {n r : Frame} {kept img′ : List ℕ} → length img ≡ 165 → n ≡ noFrame

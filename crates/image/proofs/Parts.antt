@@ -1,12 +1,9 @@
 -- The parts of an image: what its front, its frame's numbers and its places hold after a part was written, and written anew as they were. Assumes nothing.
 use Prim.Native.Nat.{ℕ, zero, suc, _+_, _<_, _≤_, _^_}
 use native.Mathlib.Omega.{arith}
-use native.Mathlib.Nat.{zero-add, suc-add}
-use native.Mathlib.Numerals.{add-one}
 use mathlib.Core.Path.{_≡_, refl, sym, ap, _∙_}
-use mathlib.Core.Bool.{Bool, true, false}
 use mathlib.Core.List.{List, [], _∷_, _++_, append-nil}
-use lib.ListN.{length, getD, take, drop, drop-of-length-le, length-take, length-drop, length-append, take-append-drop}
+use lib.ListN.{length, take, drop, drop-of-length-le, length-take, length-drop, length-append, take-append-drop}
 use lib.Seq.{take-all, take-at, drop-at, drop-drop, drop-cons, take-take, take-append-le, getD-take, length-take-le}
 use Rattle.meaning.specs.Bytes.{arg, part, put, little}
 use Rattle.meaning.specs.State.{Line, none}
@@ -16,7 +13,7 @@ use Rattle.commands.specs.declared.state.State.{State}
 use Rattle.commands.specs.State.{stateWith}
 use Rattle.line.specs.declared.characters.Frame.{Frame}
 use Rattle.line.specs.Line.{lineOf, Fits, Extends}
-use Rattle.image.specs.Image.{low4, flagByte, isImage, stateIn, frameIn, keptIn, stateBytes, lineBytes, frameRow, frameBytes, imageOf, heldIn, Takes, PutsState, PutsFrame, PutsBoard}
+use Rattle.image.specs.Image.{low4, stateIn, frameIn, keptIn, stateBytes, lineBytes, frameRow, frameBytes, Takes, PutsState, PutsFrame, PutsBoard}
 use Rattle.image.proofs.Standing.{places, byte-0, byte-1, byte-2, byte-3, flag-back, line-row, frame-again}
 
 -- the state is read from the front alone

@@ -2,22 +2,21 @@
 use Prim.Native.Nat.{ℕ, _+_, _<_, _≤_, _^_}
 use native.Mathlib.Omega.{arith}
 use native.Mathlib.Nat.{zero-add}
-use mathlib.Core.Path.{_≡_, refl, sym, ap, _∙_}
+use mathlib.Core.Path.{_≡_, sym, ap, _∙_}
 use mathlib.Core.Bool.{Bool, true}
-use mathlib.Core.List.{List, [], _∷_, _++_}
+use mathlib.Core.List.{List, _++_}
 use borrow.Author.Tests.{eqb-true, leb-true}
 use lib.Dec.{eqb, leb}
-use lib.ListN.{length, take, drop, take-append-drop, length-append, length-drop}
-use lib.Seq.{take-all, drop-drop, length-take-le}
+use lib.ListN.{length, take, drop, take-append-drop}
+use lib.Seq.{length-take-le}
 use Rattle.meaning.specs.Bytes.{arg, part, put, both}
-use Rattle.meaning.specs.State.{Line}
 use Rattle.commands.specs.declared.state.State.{State}
 use Rattle.commands.specs.State.{stateWith}
 use Rattle.line.specs.declared.characters.Frame.{Frame}
 use Rattle.line.specs.Line.{lineOf, Fits}
-use Rattle.image.specs.Image.{flagByte, flagsOk, isImage, stateIn, frameIn, keptIn, heldIn, stateBytes, lineBytes, frameRow, frameBytes, imageOf}
+use Rattle.image.specs.Image.{flagsOk, isImage, stateIn, frameIn, keptIn, heldIn, stateBytes, lineBytes, frameBytes, imageOf}
 use Rattle.image.proofs.Standing.{Typed, state-first, frame-again, line-row}
-use Rattle.image.proofs.Parts.{whole-front, whole-rest, whole-kept, whole-length, kept-length, front-length, line-length, state-as-it-was, frame-as-it-was, parts-joined, state-length}
+use Rattle.image.proofs.Parts.{whole-front, whole-rest, whole-kept, whole-length, kept-length, line-length, state-as-it-was, frame-as-it-was, parts-joined, state-length}
 use Rattle.meaning.proofs.Choices.{both-left, both-right}
 
 -- what an image is

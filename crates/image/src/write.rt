@@ -6,7 +6,7 @@ ghost use mathlib.Core.Bool.{true};
 ghost use mathlib.Core.List.{_∷_, []};
 ghost use Rattle.meaning.specs.Bytes.{pick, put};
 ghost use Rattle.meaning.specs.State.{Line, none};
-ghost use Rattle.meaning.specs.Frames.{more};
+ghost use Rattle.meaning.specs.Characters.{more};
 ghost use Rattle.line.specs.Line.{lineOf};
 ghost use Rattle.commands.specs.State.{stateWith};
 ghost use Rattle.image.specs.Image.{flagByte, low4, isImage, frameIn, keptIn, stateBytes, frameRow, Open, PutsState, PutsFrame, PutsBoard, Takes};

@@ -12,7 +12,9 @@ use Rattle.meaning.specs.Bytes.{pick, either, arg, differ}
 use Rattle.meaning.specs.State.{Plate, State, ownByte}
 use Rattle.meaning.specs.Commands as meaning
 use Rattle.meaning.specs.Commands.{commandOf, row, asked, lengthFits, error, worked}
-use Rattle.meaning.specs.Frames.{commandByte, dataOf, closed, ours, ending, short, elsewhere, answered}
+use Rattle.meaning.specs.Characters.{closed}
+use Rattle.meaning.specs.Frames.{commandByte, dataOf, ours, ending, short, elsewhere, answered}
+use Rattle.meaning.specs.Characters as characters
 use Rattle.meaning.specs.Frames as frames
 use Rattle.frame.specs.declared.table.Row.{Row}
 use Rattle.frame.specs.Table.{lengthOf, rowOf}
@@ -107,7 +109,7 @@ module _ (own : ℕ) (f : Frame) (kept : List ℕ) (fits : Fits f kept) where
               requested g = rw (long, to, a, b, c, d, command, known, e, right, g)
 
 -- 01, "judged in this order": the meaning's ending is the one that the judgement names
-pub ends-as-judged : (p : Plate) (s : State) (m : List ℕ) (b : frames.Frame) → ending p s m b ≡ endingBy p s m b (judgementOf (ownByte p s) b)
+pub ends-as-judged : (p : Plate) (s : State) (m : List ℕ) (b : characters.Frame) → ending p s m b ≡ endingBy p s m b (judgementOf (ownByte p s) b)
 unfolding ending judgementOf ours addressed frames.judged error
 ends-as-judged p s m b =
     go (worked (commandOf (commandByte (b .bytes))) p s m (dataOf (b .bytes))) refl (ltb (length (b .bytes)) 3)
@@ -139,12 +141,12 @@ asked-for n (Fault e) = n
 asked-for n (Request c) = c
 
 -- a request is one that its row allows
-pub record Asks (b : frames.Frame) (c : ℕ) : Type 0 where
+pub record Asks (b : characters.Frame) (c : ℕ) : Type 0 where
   pub long : ltb (length (b .bytes)) 3 ≡ false
   pub byte : commandByte (b .bytes) ≡ c
   pub right : asked (commandOf (commandByte (b .bytes))) (dataOf (b .bytes)) ≡ true
 
-pub request-fits : (own : ℕ) (b : frames.Frame) {c : ℕ} → judgementOf own b ≡ Request c → Asks b c
+pub request-fits : (own : ℕ) (b : characters.Frame) {c : ℕ} → judgementOf own b ≡ Request c → Asks b c
 unfolding judgementOf
 request-fits own b {c} e =
     go (ltb (length (b .bytes)) 3) (not (addressed (arg (b .bytes) 0) own)) (b .parity) (differ (b .sum) 0) (b .longer)

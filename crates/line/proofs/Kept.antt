@@ -13,7 +13,7 @@ use lib.ListN.{length, take, set, length-append, drop-of-length-le}
 use lib.Seq.{take-suc-set, set-split, length-take-le, take-all}
 use Rattle.meaning.specs.Bytes.{pick, put, either}
 use Rattle.meaning.specs.State.{none}
-use Rattle.meaning.specs.Frames.{more}
+use Rattle.meaning.specs.Characters.{more}
 use Rattle.line.specs.declared.characters.Frame.{Frame}
 use Rattle.line.specs.Line.{lineOf, noFrame, Fits, Starts, Extends}
 use Rattle.meaning.proofs.Choices.{either-true, either-false}

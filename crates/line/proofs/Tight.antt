@@ -9,7 +9,7 @@ use lib.Seq.{length-take-le}
 use Rattle.meaning.specs.Bytes.{put}
 use Rattle.meaning.specs.State as meaning
 use Rattle.meaning.specs.State.{Line, fresh, ownByte, withLine}
-use Rattle.meaning.specs.Frames.{over}
+use Rattle.meaning.specs.Characters.{over}
 use Rattle.line.specs.declared.plate.Plate.{Plate}
 use Rattle.line.specs.declared.characters.Frame.{Frame}
 use Rattle.line.specs.Line.{plateOf, lineOf, Extends}

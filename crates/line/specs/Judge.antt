@@ -7,7 +7,8 @@ use lib.ListN.{length}
 use Rattle.meaning.specs.Bytes.{pick, either, arg, differ}
 use Rattle.meaning.specs.State.{Plate, State}
 use Rattle.meaning.specs.Commands.{commandOf, row, asked, refuse, worked}
-use Rattle.meaning.specs.Frames.{Frame, commandByte, dataOf, Ending, short, elsewhere, answered}
+use Rattle.meaning.specs.Characters.{Frame}
+use Rattle.meaning.specs.Frames.{commandByte, dataOf, Ending, short, elsewhere, answered}
 use Rattle.line.specs.declared.judge.Judgement.{Judgement}
 use Rattle.line.specs.declared.judge.Judgement.the-variants.{Short, Elsewhere, Fault, Request}
 

@@ -1,2 +1,3 @@
+-- The definitions of `line`, file by file.
 pub mod Line
 pub mod Judge

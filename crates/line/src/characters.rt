@@ -4,7 +4,7 @@ ghost use mathlib.Core.List.{List};
 ghost use Prim.Native.Nat.{ℕ};
 ghost use Rattle.meaning.specs.Bytes.{pick};
 ghost use Rattle.meaning.specs.State.{State, none};
-ghost use Rattle.meaning.specs.Frames.{over, more};
+ghost use Rattle.meaning.specs.Characters.{over, more};
 ghost use Rattle.line.specs.Line.{plateOf, lineOf, noFrame, Fits, Starts, Extends};
 use crate::plate::Plate;
 use crate::stamps::gap;

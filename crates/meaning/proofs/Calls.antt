@@ -1,16 +1,14 @@
 -- A refused call touches nothing; any other fills the front of the room and leaves the rest. Assumes nothing.
-use Prim.Native.Nat.{ℕ, _+_}
-use mathlib.Core.Path.{_≡_, refl, sym, ap, _∙_}
+use Prim.Native.Nat.{ℕ}
+use mathlib.Core.Path.{_≡_, refl}
 use mathlib.Core.Bool.{Bool, true, false, not}
-use mathlib.Core.List.{List, [], _∷_, _++_}
-use native.Mathlib.Nat.{zero-add}
+use mathlib.Core.List.{List}
 use lib.Dec.{T, eqb}
-use lib.ListN.{length, take, drop}
+use lib.ListN.{length, drop}
 use lib.Seq.{drop-append-seam, take-append-seam}
 use Rattle.meaning.specs.Bytes.{pick, put}
-use Rattle.meaning.specs.State.{Plate, State, none, withLine}
-use Rattle.meaning.specs.Characters.{more, taken}
-use Rattle.meaning.specs.Run.{Call, step, refusedBy, Held, called}
+use Rattle.meaning.specs.Characters.{taken}
+use Rattle.meaning.specs.Run.{step, refusedBy, Held, called}
 use Rattle.meaning.specs.Demands.{RefusedUntouched, Served, ServedOtherwise, OpensEmpty}
 use Rattle.meaning.proofs.Puts.{put-front}
 

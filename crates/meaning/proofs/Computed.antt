@@ -1,10 +1,11 @@
 -- The bench sheet, every row of the table, and the gaps of 219 and 220 ticks, computed. Assumes nothing.
-use Rattle.meaning.specs.Bytes.{same, pick, both, either, part, put, zeros, blank, xorFrom, xorAll, among, bytes3, bytes4, number}
-use Rattle.meaning.specs.State.{Plate, State, fresh, none, withLine, ownByte, withCodes, withCounter, withOffset, withQueue, code, queued, position, offsetFor}
-use Rattle.meaning.specs.Fields.{imageLength, blocks, coded, codeNo, writable, exists, table, fieldCount, used, sound, freeBlocks, statusAt, start, survey, clear, putStatus}
+use Rattle.meaning.specs.Bytes.{same, part, put, blank, xorFrom, xorAll, among, bytes3, bytes4, number}
+use Rattle.meaning.specs.State.{fresh, none, withLine, ownByte, withCodes, withCounter, withOffset, withQueue, code, queued, position, offsetFor}
+use Rattle.meaning.specs.Fields.{blocks, coded, codeNo, writable, exists, table, fieldCount, used, sound, freeBlocks, statusAt, start, survey, clear, putStatus}
 use Rattle.meaning.specs.Commands.{commandOf, row, lengthFits, asked, error, choose, wrongCode, readPosition, setPosition, readCounter, stepCounter, clearCounter, onField, readField, storeField, fieldStatus, create, resize, modify, delete, shapeField, freeByte, memoryStatus, setCode, readFault, reset, worked}
-use Rattle.meaning.specs.Run.{character, poll, step, runFrom, run}
-use Rattle.meaning.specs.Frames.{gap, over, more, taken, closed, resting, close, upTo, commandByte, dataOf, ours, judged, ending, sealed, warned, message, Outcome, still, outcome, leaves, whole, work}
+use Rattle.meaning.specs.Run.{step, runFrom, run}
+use Rattle.meaning.specs.Characters.{gap, over, more, taken, closed, whole}
+use Rattle.meaning.specs.Frames.{resting, close, upTo, commandByte, dataOf, ours, judged, ending, sealed, warned, message, still, outcome, leaves, work}
 use Rattle.meaning.specs.Sheet.{fits, holds, allHold, sheet, SheetHolds, rows, shows, shown, allShown, RowsReached, polled, GapsClose}
 
 pub sheet-holds : SheetHolds

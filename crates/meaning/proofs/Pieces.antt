@@ -2,17 +2,16 @@
 use Prim.Native.Nat.{ℕ, zero, suc, _+_, _-_, _≤_}
 use mathlib.Core.Path.{_≡_, refl, sym, ap, _∙_}
 use mathlib.Core.Bool.{Bool, true, false}
-use mathlib.Core.List.{List, [], _∷_, _++_}
+use mathlib.Core.List.{List, [], _∷_}
 use native.Mathlib.Omega.{arith}
 use lib.Dec.{T, eqb, leb, leb→le, eqb→eq, le→leb}
 use lib.ListN.{length, getD, take, drop}
-use lib.Seq.{getD-take, getD-drop}
+use lib.Seq.{getD-drop}
 use Rattle.meaning.specs.Bytes.{pick, both, either, arg, part, xorAll}
-use Rattle.meaning.specs.State.{between}
 use Rattle.meaning.specs.Commands.{commandOf}
 use Rattle.meaning.specs.Frames.{commandByte, dataOf}
 use Rattle.meaning.specs.Bench.{allowed, addressOk, addressFor, boardByte, addressByte, request, written, Verdict, refusal, done, failed, judge, pieceOf, handed}
-use Rattle.meaning.specs.Demands.{Grounds, contents, PieceIsData, BenchWrote, OnlyRequestsPass}
+use Rattle.meaning.specs.Demands.{Grounds, contents, PieceIsData, OnlyRequestsPass}
 use Rattle.meaning.proofs.Steps.{both-0, both-1}
 use Rattle.meaning.proofs.Fitting.{only-if-fits}
 use Rattle.meaning.proofs.Bytewise.{written-is-request}

@@ -1,8 +1,8 @@
 -- The bytes that 4Ah brings are those that the traffic tells. Assumes nothing.
 use Prim.Native.Nat.{ℕ, _+_, _-_, _*_, _≤_, _<_}
-use mathlib.Core.Path.{_≡_, refl, sym, ap, _∙_}
-use mathlib.Core.Bool.{Bool, true, false, not}
-use mathlib.Core.List.{List, [], _∷_}
+use mathlib.Core.Path.{_≡_, ap, _∙_}
+use mathlib.Core.Bool.{Bool, not}
+use mathlib.Core.List.{List}
 use native.Mathlib.Omega.{arith}
 use lib.Dec.{T, leb, ltb, nleb→lt, nltb→le}
 use lib.ListN.{length, getD, take, drop}
@@ -10,8 +10,8 @@ use lib.Seq.{getD-take, getD-drop}
 use Rattle.meaning.specs.Bytes.{arg, part}
 use Rattle.meaning.specs.State.{Plate, State}
 use Rattle.meaning.specs.Fields.{blocks, table, used, fieldCount, statusAt, survey}
-use Rattle.meaning.specs.Commands.{Answer, error, outside, onField, readField}
-use Rattle.meaning.specs.Run.{Call, run, Heard, traffic}
+use Rattle.meaning.specs.Commands.{Answer, error, onField, readField}
+use Rattle.meaning.specs.Run.{run, Heard, traffic}
 use Rattle.meaning.specs.Ledger.{byteOf, BringsTold, ReadsByTraffic}
 use Rattle.meaning.proofs.Invariant.{Inv, count-tb, status-tb, first-tb}
 use Rattle.meaning.proofs.Honest.{through}

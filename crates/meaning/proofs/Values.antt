@@ -1,17 +1,16 @@
 -- Values of the definitions, computed: for each the two that tell it from a wrong one (docs/CONTRACTS.md, "Rules out"). Assumes nothing.
-use Prim.Native.Nat.{ℕ, _+_, _*_, _/_, _%_, _^_, _-_}
+use Prim.Native.Nat.{ℕ, _+_, _^_, _-_}
 use mathlib.Core.Path.{_≡_, refl}
-use mathlib.Core.Bool.{Bool, true, false, not}
+use mathlib.Core.Bool.{true, false}
 use mathlib.Core.List.{List, [], _∷_, _++_}
-use lib.ListN.{length, getD, take, drop, replicate, set}
-use Rattle.meaning.specs.Bytes.{zeros, put, part, blank, among, number, bytes3, bytes4, xorFrom, xorAll, same}
-use Rattle.meaning.specs.State.{Plate, State, Line, none, plateOk, fresh, withCodes, withCounter, withOffset, withMeasured, withQueue, withLock, withLine, locks, queueable, apart, stateOk, code, queued, noted, poweredOn, position, offsetFor, ownByte}
-use Rattle.meaning.specs.Fields.{imageLength, blocks, coded, codeNo, writable, exists, table, fieldCount, used, sound, freeBlocks, statusAt, Survey, survey, clear, putStatus}
-use Rattle.meaning.specs.Commands.{commandOf, lengthFits, counted, row, asked, Answer, refuse, accept, error, choose, wrongCode, readPosition, setPosition, readCounter, stepCounter, clearCounter, onField, readField, storeField, fieldStatus, create, resize, modify, delete, shapeField, freeByte, memoryStatus, setCode, readFault, reset, worked}
-use Rattle.meaning.specs.Characters.{gap, over, more, Frame}
-use Rattle.meaning.specs.Frames.{commandByte, dataOf, ours, judged, Ending, short, elsewhere, answered, ending, warned}
-use Rattle.meaning.specs.Run.{Call, poll, measured, lends, refusedBy}
-use Rattle.meaning.specs.Bench.{writes, request, addressFor, addressOk, allowed, inRange}
+use Rattle.meaning.specs.Bytes.{zeros, blank, among, number, bytes3, bytes4}
+use Rattle.meaning.specs.State.{Plate, State, none, plateOk, fresh, withCodes, withCounter, withOffset, withMeasured, withQueue, withLock, withLine, locks, queueable, apart, stateOk, code, queued, noted, poweredOn, position, offsetFor, ownByte}
+use Rattle.meaning.specs.Fields.{blocks, coded, codeNo, writable, exists, table, fieldCount, used, sound, freeBlocks, statusAt, survey}
+use Rattle.meaning.specs.Commands.{commandOf, lengthFits, counted, row, asked, Answer, refuse, accept, error, choose, wrongCode, readPosition, setPosition, readCounter, stepCounter, clearCounter, onField, readField, storeField, fieldStatus, freeByte, memoryStatus, setCode, readFault, reset}
+use Rattle.meaning.specs.Characters.{gap, over, more}
+use Rattle.meaning.specs.Frames.{commandByte, ours, judged, elsewhere, answered, ending, warned}
+use Rattle.meaning.specs.Run.{poll, measured, lends, refusedBy}
+use Rattle.meaning.specs.Bench.{writes, addressOk, allowed, inRange}
 
 -- the plate of the sheet with eight blocks, its fresh state and blank memory
 abbrev eight : Plate

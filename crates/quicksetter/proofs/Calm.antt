@@ -1,16 +1,16 @@
 -- An image with no code waiting, within the limits: nothing is refused. Assumes nothing.
 use Prim.Native.Nat.{ℕ, _+_, _*_, _<_, _≤_, _^_}
 use native.Mathlib.Omega.{arith}
-use mathlib.Core.Path.{_≡_, refl, sym, ap, _∙_}
-use mathlib.Core.Bool.{Bool, true, false, false≢true}
-use mathlib.Core.List.{List, [], _∷_}
+use mathlib.Core.Path.{_≡_, sym, _∙_}
+use mathlib.Core.Bool.{true, false, false≢true}
+use mathlib.Core.List.{List, []}
 use borrow.Author.Tests.{eq-eqb, le-leb, lt-ltb, le-ltb}
-use lib.Dec.{eqb, leb, ltb}
+use lib.Dec.{eqb}
 use lib.ListN.{length, take, length-take}
-use Rattle.meaning.specs.Bytes.{pick, arg}
+use Rattle.meaning.specs.Bytes.{arg}
 use Rattle.meaning.specs.State.{Plate, plateOk, stateOk, apart}
 use Rattle.meaning.specs.Fields.{imageLength}
-use Rattle.meaning.specs.Run.{Call, lends, refusedBy}
+use Rattle.meaning.specs.Run.{lends, refusedBy}
 use Rattle.meaning.proofs.Choices.{pick-same}
 use Rattle.frame.proofs.Numbers.{low-first, little-at}
 use Rattle.commands.specs.Queue.{waiting, queueOf}

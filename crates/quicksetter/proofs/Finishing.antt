@@ -1,6 +1,6 @@
 -- The board's outcome, case by case, as the number for C and the image. Assumes nothing.
 use Prim.Native.Nat.{ℕ, _+_}
-use mathlib.Core.Path.{_≡_, refl, sym, ap, _∙_, subst}
+use mathlib.Core.Path.{_≡_, refl, sym, ap, subst}
 use mathlib.Core.List.{List}
 use Rattle.board.specs.declared.limits.Outcome.{Outcome}
 use Rattle.board.specs.declared.limits.Outcome.the-variants.{Refused, Still, Over}

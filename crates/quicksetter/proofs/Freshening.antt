@@ -1,14 +1,14 @@
 -- A fresh image. Assumes nothing.
-use Prim.Native.Nat.{ℕ, _+_, _≤_}
+use Prim.Native.Nat.{ℕ, _+_}
 use native.Mathlib.Omega.{arith}
 use mathlib.Core.Path.{_≡_, refl, sym, ap, _∙_}
-use mathlib.Core.Bool.{Bool, true, false}
-use mathlib.Core.List.{List, [], _++_}
+use mathlib.Core.Bool.{true, false}
+use mathlib.Core.List.{List, _++_}
 use borrow.Author.Tests.{eq-eqb, ne-eqb}
 use lib.Dec.{eqb}
 use lib.ListN.{length, take, drop, length-replicate}
 use lib.Seq.{take-at, drop-at, length-take-le}
-use Rattle.meaning.specs.Bytes.{pick, part, put, zeros, little}
+use Rattle.meaning.specs.Bytes.{part, put, zeros, little}
 use Rattle.meaning.specs.State as meaning
 use Rattle.meaning.specs.State.{Plate, none, plateOk, fresh}
 use Rattle.commands.specs.declared.state.State.{State}
@@ -16,9 +16,9 @@ use Rattle.commands.specs.State.{stateWith}
 use Rattle.commands.specs.Queue.{queueOf, waiting}
 use Rattle.commands.proofs.Answering.{put-nothing}
 use Rattle.line.specs.declared.characters.Frame.{Frame}
-use Rattle.line.specs.Line.{lineOf, noFrame}
+use Rattle.line.specs.Line.{noFrame}
 use Rattle.image.specs.Image.{flagByte, stateIn, frameIn, keptIn, heldIn, stateBytes, lineBytes, frameRow, frameBytes, imageOf, PutsBoard}
-use Rattle.image.proofs.Standing.{part-filled, put-whole}
+use Rattle.image.proofs.Standing.{put-whole}
 use Rattle.image.proofs.Parts.{kept-length}
 use Rattle.quicksetter.specs.Calls.{freshOk, Freshens}
 

@@ -1,21 +1,22 @@
 -- What a call leaves: what is no image; the board's call, written back; a character that is taken in place. Assumes nothing.
-use Prim.Native.Nat.{ℕ, _+_, _<_, _≤_, _^_}
+use Prim.Native.Nat.{ℕ, _+_, _<_, _≤_}
 use native.Mathlib.Omega.{arith}
 use mathlib.Core.Path.{_≡_, refl, sym, ap, _∙_, subst}
 use mathlib.Core.Bool.{Bool, true, false, false≢true}
-use mathlib.Core.List.{List, [], _∷_, _++_}
+use mathlib.Core.List.{List, [], _++_}
 use borrow.Author.Tests.{eq-eqb, ne-eqb, le-leb, eqb-true}
-use lib.Dec.{eqb, leb}
+use lib.Dec.{eqb}
 use lib.ListN.{length, take, drop, length-take}
 use lib.Seq.{take-at, drop-at, length-take-le}
 use Rattle.meaning.specs.Bytes.{pick, put, arg}
 use Rattle.meaning.specs.State as meaning
 use Rattle.meaning.specs.State.{Plate, Line, none, withLine}
-use Rattle.meaning.specs.Frames.{Outcome, over, more, taken, still, upTo}
+use Rattle.meaning.specs.Characters.{over, more, taken}
+use Rattle.meaning.specs.Frames.{Outcome, still, upTo}
 use Rattle.meaning.specs.Run.{Call, character, poll, measured, fault, power-on, Held, step, called, closes, refusedBy}
 use Rattle.meaning.proofs.Puts.{length-put}
 use Rattle.line.specs.declared.characters.Frame.{Frame}
-use Rattle.line.specs.Line.{lineOf, Fits}
+use Rattle.line.specs.Line.{lineOf}
 use Rattle.commands.specs.declared.state.State.{State}
 use Rattle.commands.specs.State.{stateWith}
 use Rattle.commands.proofs.Answering.{put-nothing}
@@ -23,10 +24,10 @@ use Rattle.board.specs.declared.limits.Board.{Board}
 use Rattle.board.specs.declared.limits.Outcome as code
 use Rattle.board.specs.declared.limits.Outcome.the-variants.{Refused, Still, Over}
 use Rattle.board.specs.declared.limits.Stepped.{Stepped}
-use Rattle.board.specs.Board.{stateOf, fitsIn, calledOn, outcomeOf, Steps}
+use Rattle.board.specs.Board.{fitsIn, calledOn, outcomeOf, Steps}
 use Rattle.image.specs.Image.{isImage, stateIn, frameIn, keptIn, heldIn, stateBytes, lineBytes, frameBytes, imageOf, Takes, PutsBoard}
 use Rattle.image.proofs.Standing.{line-row}
-use Rattle.image.proofs.Parts.{kept-length, front-length, line-length, state-as-it-was, same-front, whole-front}
+use Rattle.image.proofs.Parts.{kept-length, front-length, state-as-it-was, same-front}
 use Rattle.image.proofs.Round.{good, kept-stays, lent-back, image-as-it-was}
 use Rattle.quicksetter.specs.Calls.{callOf, calledBy, numberOf, imageAfter, Called, outcomeNumber, LeftBy, Finishes}
 

@@ -1,17 +1,17 @@
 -- A host that starts fresh and only calls holds an image within the limits, and is never refused (demand 1). Assumes nothing.
 use Prim.Native.Nat.{ℕ, _≤_}
 use native.Mathlib.Omega.{arith}
-use mathlib.Core.Path.{_≡_, refl, sym, ap, _∙_}
+use mathlib.Core.Path.{_≡_, refl, ap, _∙_}
 use mathlib.Core.Bool.{Bool, true, false, false≢true}
-use mathlib.Core.List.{List, _++_}
-use borrow.Author.Tests.{eq-eqb, le-leb, le-ltb, eqb-true}
+use mathlib.Core.List.{List}
+use borrow.Author.Tests.{eq-eqb, le-leb, le-ltb}
 use lib.Dec.{T, eqb, leb}
 use lib.ListN.{length, length-replicate}
-use Rattle.meaning.specs.Bytes.{pick, both, put, zeros}
+use Rattle.meaning.specs.Bytes.{pick, put, zeros}
 use Rattle.meaning.specs.State as meaning
 use Rattle.meaning.specs.State.{Plate, plateOk, stateOk, fresh, none}
 use Rattle.meaning.specs.Fields.{imageLength}
-use Rattle.meaning.specs.Run.{Call, Held, step, lends, refusedBy, called}
+use Rattle.meaning.specs.Run.{Call, step, lends, refusedBy}
 use Rattle.meaning.proofs.Calls.{served-otherwise}
 use Rattle.meaning.proofs.Choices.{told-true, true-told, pick-same, both-left}
 use Rattle.meaning.proofs.Limits.{to-lim, keeps-limits, fresh-within, replies-fit}
@@ -20,7 +20,7 @@ use Rattle.meaning.proofs.Puts.{length-put}
 use Rattle.image.specs.Image.{flagByte, flagsOk, isImage, heldIn, keptIn, stateBytes, lineBytes, imageOf}
 use Rattle.image.proofs.Parts.{kept-length}
 use Rattle.image.proofs.Round.{good}
-use Rattle.quicksetter.specs.Calls.{calledBy, imageAfter, freshOk, Called, Freshens}
+use Rattle.quicksetter.specs.Calls.{imageAfter, freshOk, Called, Freshens}
 use Rattle.quicksetter.specs.Promises.{Reached, start, next, NeverRefused}
 use Rattle.quicksetter.proofs.Freshening.{fresh-holds}
 use Rattle.quicksetter.proofs.Theorems.{on-image, qs-steps}

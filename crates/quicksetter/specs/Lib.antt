@@ -1,3 +1,4 @@
+-- The definitions of `quicksetter`, file by file.
 pub mod Calls
 pub mod Verdicts
 pub mod Promises

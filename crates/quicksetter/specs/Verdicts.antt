@@ -8,7 +8,6 @@ use Rattle.meaning.specs.Bytes.{pick}
 use Rattle.meaning.specs.Bench as meaning
 use Rattle.bench.specs.declared.request.Written.{Written}
 use Rattle.bench.specs.declared.request.Written.the-variants.{Request, R4, R5}
-use Rattle.bench.specs.declared.reply.Refusal.{Refusal}
 use Rattle.bench.specs.declared.reply.Verdict.{Verdict}
 use Rattle.bench.specs.declared.reply.Verdict.the-variants.{Done, DoneWithWarning, Error, ErrorWithWarning, Refused}
 use Rattle.bench.specs.Outcomes.{numberOf}

@@ -1,5 +1,4 @@
 // A fresh image; a measured position, a fault code and power-on (01, "Fresh state", "Faults").
-ghost use mathlib.Core.Path.{_≡_};
 ghost use mathlib.Core.List.{List};
 ghost use Prim.Native.Nat.{ℕ};
 ghost use Rattle.meaning.specs.Run as run;

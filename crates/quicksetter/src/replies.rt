@@ -1,6 +1,5 @@
 // The bench: requests written, replies judged, and the data part of a reply (01, "The bench").
 ghost use mathlib.Core.Path.{_≡_};
-ghost use mathlib.Core.List.{List};
 ghost use Prim.Native.Nat.{_<_};
 ghost use lib.ListN.{length};
 ghost use Rattle.meaning.specs.Bench as meaning;

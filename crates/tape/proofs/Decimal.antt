@@ -1,6 +1,6 @@
 -- The decimal digits of a number, counted and written from the last. Assumes nothing.
 use Prim.Native.Nat.{ℕ, zero, suc, _+_, _-_, _*_, _/_, _%_, _^_, _≤_, _<_}
-use mathlib.Core.Path.{_≡_, refl, sym, ap, _∙_}
+use mathlib.Core.Path.{_≡_, refl, sym}
 use mathlib.Core.List.{List, [], _∷_, _++_}
 use native.Mathlib.Numerals.{add-one}
 use native.Mathlib.Omega.{arith}
@@ -8,7 +8,6 @@ use native.Mathlib.Numerals.{unary-clauses}
 use native.Mathlib.Nat.{pow-suc, one-le-pow, zero-lt-suc, pow-le-pow-right}
 use native.Mathlib.Decide.{decLe}
 use lib.ListN.{length, set, length-append}
-use lib.Dec.{ltb}
 use borrow.Author.Tests.{lt-ltb, le-ltb}
 use Rattle.io.specs.Digits.{glyph, digits, Fewest}
 use Rattle.meaning.specs.Bytes.{put}

@@ -1,16 +1,14 @@
 -- What the body at a place of the window says, kind by kind. Assumes nothing.
 use Prim.Native.Nat.{ℕ, _+_, _≤_, _<_}
-use mathlib.Core.Path.{_≡_, refl, sym, ap, _∙_}
-use mathlib.Core.Bool.{Bool, true, false}
+use mathlib.Core.Path.{_≡_, sym, ap, _∙_}
 use mathlib.Core.List.{List}
 use native.Mathlib.Nat.{add-zero}
 use native.Mathlib.Omega.{arith}
 use lib.ListN.{length, getD}
-use lib.Dec.{eqb, leb}
+use lib.Dec.{eqb}
 use borrow.Author.Tests.{eq-eqb, ne-eqb, lt-leb, le-leb}
 use Rattle.meaning.specs.Bytes.{part, arg, little}
-use Rattle.meaning.specs.State.{Plate}
-use Rattle.meaning.specs.Run.{character, poll, measured, fault, power-on}
+use Rattle.meaning.specs.Run.{character, fault}
 use Rattle.tape.specs.Kinds.{Said, plate, call, unfit, plateIn, characterIn, sized}
 use Rattle.tape.proofs.Bytes.{length-part, part-byte, part-front}
 

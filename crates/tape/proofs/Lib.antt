@@ -1,3 +1,4 @@
+-- The laws of `tape`, file by file.
 pub mod Bytes
 pub mod Rooms
 pub mod Decimal

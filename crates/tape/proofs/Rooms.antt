@@ -1,12 +1,12 @@
 -- Bytes put into a room one after another, from the front and from the back. Assumes nothing.
-use Prim.Native.Nat.{ℕ, zero, suc, _+_, _-_, _*_, _/_, _%_, _≤_, _<_}
+use Prim.Native.Nat.{ℕ, suc, _+_, _-_, _*_, _/_, _%_, _≤_, _<_}
 use mathlib.Core.Path.{_≡_, refl, sym, ap, _∙_}
-use mathlib.Core.List.{List, [], _∷_, _++_, append-assoc, append-nil}
+use mathlib.Core.List.{List, [], _∷_, _++_, append-assoc}
 use native.Mathlib.Numerals.{add-one}
 use native.Mathlib.Nat.{add-assoc, add-zero}
 use native.Mathlib.Omega.{arith}
-use lib.ListN.{length, getD, take, drop, set, length-append, length-take, length-drop, length-set, take-append-drop, drop-of-length-le}
-use lib.Seq.{drop-cons, take-at, drop-at, drop-drop, set-split, length-take-le, take-set-le, drop-set-lt, set-at, append-snoc}
+use lib.ListN.{length, getD, take, drop, set, length-append, length-drop, length-set, take-append-drop, drop-of-length-le}
+use lib.Seq.{drop-cons, take-at, drop-at, drop-drop, set-split, length-take-le, take-set-le, append-snoc}
 use Rattle.meaning.specs.Bytes.{put}
 use Rattle.meaning.proofs.Puts.{length-put}
 use Rattle.tape.specs.Text.{digitOf, hexOf}

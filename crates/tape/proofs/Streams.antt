@@ -1,22 +1,21 @@
 -- The tape fed in any parts prints what the whole tape prints. Assumes nothing.
-use Prim.Native.Nat.{ℕ, zero, suc, _+_, _-_, _*_, _≤_, _<_}
+use Prim.Native.Nat.{ℕ, zero, suc, _+_, _-_, _≤_, _<_}
 use mathlib.Core.Path.{_≡_, refl, sym, ap, _∙_}
 use mathlib.Core.Bool.{Bool, true, false}
 use mathlib.Core.List.{List, [], _∷_, _++_, append-assoc, append-nil}
 use native.Mathlib.Nat.{add-assoc, add-zero}
 use native.Mathlib.Omega.{arith}
-use lib.ListN.{length, take, drop, length-append, length-take, length-drop}
+use lib.ListN.{length, take, drop, length-append, length-drop}
 use lib.Seq.{take-append-le, drop-append-le, drop-drop}
 use lib.Dec.{ltb, leb, eqb}
 use borrow.Author.Tests.{ltb-true, ltb-false, leb-true, leb-false, le-leb, ne-eqb}
 use Rattle.meaning.specs.Bytes.{pick, both, part, little}
-use Rattle.meaning.specs.State.{Plate, State, plateOk}
-use Rattle.tape.specs.Records.{lengthAt, wholeLength, Found, whole, cut, recordAt}
-use Rattle.tape.specs.Kinds.{Said, plate, call, unfit, sized, callOf, saidBy}
-use Rattle.tape.specs.Text.{firstLine, badLine}
-use Rattle.tape.specs.Answers.{Stage, opening, running, ended, Turn, bad, turn, answersFrom, answersOf}
+use Rattle.tape.specs.Records.{lengthAt, wholeLength, whole, cut, recordAt}
+use Rattle.tape.specs.Kinds.{Said, unfit, sized, callOf, saidBy}
+use Rattle.tape.specs.Text.{firstLine}
+use Rattle.tape.specs.Answers.{Stage, opening, running, ended, bad, turn, answersFrom, answersOf}
 use Rattle.tape.specs.Reader.{readAt}
-use Rattle.tape.specs.Passes.{longest, longestLine, Heard, nothing, said, heardBy, heard, Stop, more, full, over, Pass, stopped, after, hearing, pass, closing, Feed, Fed, fed, tapeOf, Settled, read-all, was-bad, AnyParts}
+use Rattle.tape.specs.Passes.{longest, longestLine, Heard, nothing, said, heardBy, heard, Stop, more, full, Pass, stopped, after, hearing, pass, closing, Feed, fed, tapeOf, Settled, read-all, was-bad, AnyParts}
 use Rattle.tape.specs.declared.record.Read.the-variants.{Record, More, Bad}
 use Rattle.tape.proofs.Bytes.{length-part}
 

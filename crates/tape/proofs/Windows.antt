@@ -1,16 +1,16 @@
 -- What the reader answers, by the tests on its way. Assumes nothing.
 use Prim.Native.Nat.{ℕ, _+_, _-_, _≤_, _<_}
-use mathlib.Core.Path.{_≡_, refl, sym, ap, _∙_}
+use mathlib.Core.Path.{_≡_, refl, sym, ap}
 use mathlib.Core.Bool.{Bool, true, false}
 use mathlib.Core.List.{List}
 use native.Mathlib.Omega.{arith}
-use lib.ListN.{length, take, drop, length-drop}
+use lib.ListN.{length, drop, length-drop}
 use lib.Dec.{ltb}
 use borrow.Author.Tests.{lt-ltb, le-ltb, ltb-false}
 use Rattle.meaning.specs.Bytes.{pick, part, little}
 use Rattle.tape.specs.Records.{lengthAt, wholeLength}
 use Rattle.tape.specs.Reader.{readAt}
-use Rattle.tape.specs.Passes.{longest, Heard, heardBy, heard}
+use Rattle.tape.specs.Passes.{longest, heardBy, heard}
 use Rattle.tape.specs.declared.record.Cursor.{Cursor}
 use Rattle.tape.specs.declared.record.Read.{Read}
 use Rattle.tape.specs.declared.record.Read.the-variants.{Record, More, Bad}

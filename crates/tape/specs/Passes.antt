@@ -1,5 +1,5 @@
 -- The tape read in parts: a pass over the bytes at hand, and any number of passes (01, "The answer program"). Assumes nothing.
-use Prim.Native.Nat.{ℕ, zero, suc, _+_, _-_, _≤_}
+use Prim.Native.Nat.{ℕ, zero, suc, _+_, _-_}
 use mathlib.Core.Path.{_≡_}
 use mathlib.Core.List.{List, [], _∷_, _++_}
 use lib.ListN.{length, drop}
@@ -8,7 +8,7 @@ use Rattle.meaning.specs.Bytes.{pick, part}
 use Rattle.tape.specs.Records.{wholeLength}
 use Rattle.tape.specs.Kinds.{Said, unfit, callOf}
 use Rattle.tape.specs.Text.{firstLine, badLine}
-use Rattle.tape.specs.Answers.{Stage, opening, running, ended, Turn, turn, answersOf}
+use Rattle.tape.specs.Answers.{Stage, opening, running, ended, turn, answersOf}
 use Rattle.tape.specs.Reader.{readAt}
 use Rattle.tape.specs.declared.record.Read.{Read}
 use Rattle.tape.specs.declared.record.Read.the-variants.{Record, More, Bad}

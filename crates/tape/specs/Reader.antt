@@ -2,7 +2,7 @@
 use Prim.Native.Nat.{ℕ, _+_, _-_, _≤_}
 use mathlib.Core.Path.{_≡_}
 use mathlib.Core.List.{List}
-use lib.ListN.{length, drop}
+use lib.ListN.{length}
 use lib.Dec.{ltb}
 use Rattle.meaning.specs.Bytes.{pick, part, put, little}
 use Rattle.meaning.specs.Run.{character, poll, measured, fault, power-on}

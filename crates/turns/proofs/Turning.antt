@@ -7,17 +7,16 @@ use native.Mathlib.Omega.{arith}
 use native.Mathlib.Nat.{add-zero}
 use lib.ListN.{length, take, drop, take-append-drop}
 use lib.Seq.{length-take-le, take-append-seam}
-use lib.Dec.{T}
 use types.Run.{OneOf, miss}
 use denote.Enum.Declared.{tagOf}
 use Rattle.meaning.specs.Bytes.{pick, put}
 use Rattle.meaning.specs.State as meaning
-use Rattle.meaning.specs.State.{none, withLine, stateOk}
-use Rattle.meaning.specs.Frames.{over, more, taken, still, upTo}
+use Rattle.meaning.specs.State.{none, withLine}
+use Rattle.meaning.specs.Characters.{over, more, taken}
+use Rattle.meaning.specs.Frames.{still, upTo}
 use Rattle.meaning.specs.Run.{Call, character, poll, measured, fault, power-on, step, closes}
 use Rattle.meaning.proofs.Limits.{keeps-limits, replies-fit}
-use Rattle.meaning.proofs.Puts.{length-put}
-use Rattle.meaning.proofs.Calls.{put-front}
+use Rattle.meaning.proofs.Puts.{length-put, put-front}
 use Rattle.line.specs.declared.plate.Plate.{Plate}
 use Rattle.line.specs.declared.characters.Frame.{Frame}
 use Rattle.line.specs.Line.{plateOf, lineOf, Extends, Fits}
@@ -28,7 +27,7 @@ use Rattle.board.specs.declared.limits.Outcome.the-variants.{Over, Still}
 use Rattle.board.specs.declared.limits.Stepped.{Stepped}
 use Rattle.board.specs.Board as board
 use Rattle.board.specs.Board.{stateOf, refusalOn}
-use Rattle.board.specs.Promises.{DoesStep, Within}
+use Rattle.board.specs.Promises.{DoesStep}
 use Rattle.board.proofs.Stepping.{held-on}
 use Rattle.board.proofs.Promises.{does-step, unrefused, stays-within}
 use Rattle.tape.specs.declared.kinds.Event.{Event}
@@ -44,10 +43,7 @@ use Rattle.tape.proofs.Rooms.{put-nil}
 use Rattle.tape.proofs.kinds.Event.{the-type}
 use Rattle.turns.specs.Turns.{Sound, quickly, Quiet, Steps, Refuses, Turns, sentOf, Fitting, Answered}
 use Rattle.turns.specs.declared.answering.Turned.{Turned}
-
-yes-it-is : (b : Bool) → T b → b ≡ true
-yes-it-is true h = refl
-yes-it-is false h = absurd h
+use Rattle.meaning.proofs.Choices.{told-true}
 
 -- a call that closes nothing brings no reply
 silent-still : (p : meaning.Plate) (s : meaning.State) (m : List ℕ) (g : Call) → closes p s g ≡ false → (step p s m g) .reply ≡ []
@@ -78,7 +74,7 @@ module _ (p : Plate) (f g : Frame) (kept kept′ : List ℕ) (t v : ℕ) (bad : 
     within = λ s m h. record {
       plate = h .plate;
       state = rw (← grows s m)
-          (yes-it-is _ (keeps-limits (plateOf p) (stateWith s (lineOf f kept)) m (character t v bad) (rw (h .state) tt)));
+          (told-true _ (keeps-limits (plateOf p) (stateWith s (lineOf f kept)) m (character t v bad) (rw (h .state) tt)));
       few = grown .few;
       places = lent;
       size = h .size;

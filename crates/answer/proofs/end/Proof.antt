@@ -1,3 +1,4 @@
+-- `answer::end` meets its contract. Assumes nothing.
 use Rattle.tape.proofs.Texts.{same-room}
 use mathlib.Core.List.{[]}
 use native.Mathlib.Omega.{arith}

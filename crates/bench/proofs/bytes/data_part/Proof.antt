@@ -3,7 +3,7 @@ use Rattle.meaning.specs.Frames.{dataOf}
 use lib.ListN.{length, take, drop}
 use Prim.Native.Nat.{ℕ, _-_}
 use native.Mathlib.Omega.{arith}
-use mathlib.Core.Path.{_≡_, refl, sym, ap}
+use mathlib.Core.Path.{_≡_, refl, ap}
 use borrow.Author.Needs.{needs}
 use Rattle.bench.proofs.bytes.data_part.Statement.{statement}
 use Rattle.bench.proofs.bytes.data_part.Tie as tie

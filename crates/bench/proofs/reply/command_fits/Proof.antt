@@ -1,6 +1,5 @@
 -- `bench::reply::command_fits` meets its contract. Assumes nothing.
 use borrow.Author.Tests.{eq-eqb, ne-eqb}
-use borrow.Author.Needs.{needs}
 use Rattle.bench.proofs.reply.command_fits.Statement.{statement}
 use Rattle.bench.proofs.reply.command_fits.Tie as tie
 use Rattle.bench.proofs.reply.command_fits.Reads as reads

@@ -8,8 +8,7 @@ use lib.ListN.{length, take}
 use borrow.Author.Tests.{not-true, not-false}
 use Prim.Native.Nat.{ℕ}
 use mathlib.Core.List.{List}
-use mathlib.Core.Bool.{true, false}
-use mathlib.Core.Path.{_≡_, refl, sym, _∙_, ap, ap₂}
+use mathlib.Core.Path.{_≡_, sym, _∙_, ap, ap₂}
 use borrow.Author.Needs.{needs}
 use Rattle.bench.proofs.reply.done_verdict.Statement.{statement}
 use Rattle.bench.proofs.reply.done_verdict.Tie as tie

@@ -1,7 +1,6 @@
 -- `bench::reply::is_board` meets its contract. Assumes nothing.
 use Rattle.meaning.specs.Bench.{boardByte}
 use borrow.Author.Tests.{lt-leb, le-leb}
-use borrow.Author.Needs.{needs}
 use Rattle.bench.proofs.reply.is_board.Statement.{statement}
 use Rattle.bench.proofs.reply.is_board.Tie as tie
 use Rattle.bench.proofs.reply.is_board.Reads as reads

@@ -1,6 +1,5 @@
 -- `bench::reply::is_error` meets its contract. Assumes nothing.
 use borrow.Author.Tests.{eq-eqb, ne-eqb}
-use borrow.Author.Needs.{needs}
 use Rattle.bench.proofs.reply.is_error.Statement.{statement}
 use Rattle.bench.proofs.reply.is_error.Tie as tie
 use Rattle.bench.proofs.reply.is_error.Reads as reads

@@ -3,7 +3,7 @@ use Rattle.meaning.specs.Bench.{written}
 use Rattle.meaning.specs.Frames.{commandByte}
 use Rattle.meaning.specs.Bytes.{xorAll}
 use borrow.Author.Tests.{le-leb, lt-leb, eq-eqb, ne-eqb, not-true, not-false}
-use mathlib.Core.Path.{_≡_, _∙_, sym}
+use mathlib.Core.Path.{_∙_, sym}
 use borrow.Author.Needs.{needs}
 use Rattle.bench.proofs.reply.is_written.Statement.{statement}
 use Rattle.bench.proofs.reply.is_written.Tie as tie

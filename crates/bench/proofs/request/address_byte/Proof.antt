@@ -3,7 +3,6 @@ use Rattle.bench.proofs.Laws.{address-small}
 use Rattle.meaning.specs.Bench.{addressFor}
 use borrow.Author.Tests.{eq-eqb, ne-eqb}
 use native.Mathlib.Omega.{arith}
-use borrow.Author.Needs.{needs}
 use Rattle.bench.proofs.request.address_byte.Statement.{statement}
 use Rattle.bench.proofs.request.address_byte.Tie as tie
 use Rattle.bench.proofs.request.address_byte.Reads as reads

@@ -1,7 +1,6 @@
 -- `bench::request::address_ok` meets its contract. Assumes nothing.
 use Rattle.meaning.specs.Bench.{addressOk}
 use borrow.Author.Tests.{lt-leb, le-leb}
-use borrow.Author.Needs.{needs}
 use Rattle.bench.proofs.request.address_ok.Statement.{statement}
 use Rattle.bench.proofs.request.address_ok.Tie as tie
 use Rattle.bench.proofs.request.address_ok.Reads as reads

@@ -1,7 +1,7 @@
 -- `frame::room::fill` meets its contract: the front is copied, the rest is as it was. Assumes nothing.
 use borrow.Author.Needs.{needs}
 use native.Mathlib.Omega.{arith}
-use mathlib.Core.Path.{_≡_, _∙_, sym, ap}
+use mathlib.Core.Path.{_≡_, _∙_, sym}
 use mathlib.Core.List.{_++_}
 use Prim.Native.Nat.{_≤_, _-_}
 use lib.ListN.{length, drop, take, length-set}

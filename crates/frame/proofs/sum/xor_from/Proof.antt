@@ -1,7 +1,6 @@
 -- `frame::sum::xor_from` meets its contract: what is left to pass, from the sum so far, comes to the whole checksum. Assumes nothing.
 use borrow.Author.Needs.{needs}
-use native.Mathlib.Omega.{arith}
-use mathlib.Core.Path.{_≡_, _∙_, sym, ap}
+use mathlib.Core.Path.{_≡_, _∙_}
 use Prim.Native.Nat.{_≤_, _-_}
 use lib.ListN.{length, drop, drop-of-length-le}
 use Rattle.meaning.specs.Bytes.{xorFrom}

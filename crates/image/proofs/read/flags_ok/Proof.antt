@@ -1,3 +1,4 @@
+-- `image::read::flags_ok` meets its contract. Assumes nothing.
 use Prim.Native.Nat.{ℕ}
 use mathlib.Core.Path.{sym, ap, _∙_}
 use lib.Bits.{bitAnd}

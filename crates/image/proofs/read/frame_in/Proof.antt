@@ -1,3 +1,4 @@
+-- `image::read::frame_in` meets its contract. Assumes nothing.
 use Rattle.image.specs.Image.{frameIn}
 use borrow.Author.Needs.{needs}
 use Rattle.image.proofs.read.frame_in.Statement.{statement}

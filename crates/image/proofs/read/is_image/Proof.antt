@@ -1,3 +1,4 @@
+-- `image::read::is_image` meets its contract. Assumes nothing.
 use mathlib.Core.Path.{sym, _∙_}
 use borrow.Author.Tests.{lt-leb, le-leb, eq-eqb, ne-eqb, not-true, not-false}
 use Rattle.image.specs.Image.{isImage}

@@ -1,3 +1,4 @@
+-- `image::read::state_in` meets its contract. Assumes nothing.
 use Rattle.image.specs.Image.{stateIn}
 use borrow.Author.Needs.{needs}
 use Rattle.image.proofs.read.state_in.Statement.{statement}

@@ -1,3 +1,4 @@
+-- `image::write::begin` meets its contract. Assumes nothing.
 use denote.Ref.{now}
 use Rattle.image.proofs.Going.{begins, nothing-fits}
 use borrow.Author.Needs.{needs}

@@ -1,5 +1,5 @@
+-- `image::write::flag_byte` meets its contract. Assumes nothing.
 use Rattle.image.specs.Image.{flagByte}
-use borrow.Author.Needs.{needs}
 use Rattle.image.proofs.write.flag_byte.Statement.{statement}
 use Rattle.image.proofs.write.flag_byte.Tie as tie
 use Rattle.image.proofs.write.flag_byte.Reads as reads

@@ -1,3 +1,4 @@
+-- `image::write::frame_row` meets its contract. Assumes nothing.
 use mathlib.Core.Path.{refl}
 use Rattle.image.specs.Image.{frameRow}
 use borrow.Author.Needs.{needs}

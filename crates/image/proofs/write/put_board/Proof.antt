@@ -1,3 +1,4 @@
+-- `image::write::put_board` meets its contract. Assumes nothing.
 use Rattle.image.proofs.Parts.{puts-board}
 use borrow.Author.Needs.{needs}
 use Rattle.image.proofs.write.put_board.Statement.{statement}

@@ -1,3 +1,4 @@
+-- `image::write::put_frame` meets its contract. Assumes nothing.
 use Prim.Native.Nat.{_<_, _^_}
 use denote.Ref.{now}
 use Rattle.image.proofs.Standing.{puts-frame}

@@ -1,3 +1,4 @@
+-- `image::write::put_stamp` meets its contract. Assumes nothing.
 use mathlib.Core.Path.{refl}
 use denote.Ref.{now}
 use Rattle.image.proofs.Standing.{part-filled}

@@ -1,3 +1,4 @@
+-- `image::write::put_state` meets its contract. Assumes nothing.
 use Rattle.image.proofs.Standing.{puts-state, Typed}
 use borrow.Author.Needs.{needs}
 use Rattle.image.proofs.write.put_state.Statement.{statement}

@@ -1,3 +1,4 @@
+-- `image::write::state_row` meets its contract. Assumes nothing.
 use Rattle.image.proofs.Standing.{state-row}
 use borrow.Author.Needs.{needs}
 use Rattle.image.proofs.write.state_row.Statement.{statement}

@@ -1,6 +1,6 @@
 -- `line::stamps::gap` meets its contract. Assumes nothing.
 use native.Mathlib.Omega.{arith}
-use Rattle.meaning.specs.Frames.{gap}
+use Rattle.meaning.specs.Characters.{gap}
 use borrow.Author.Needs.{needs}
 use Rattle.line.proofs.stamps.gap.Statement.{statement}
 use Rattle.line.proofs.stamps.gap.Tie as tie

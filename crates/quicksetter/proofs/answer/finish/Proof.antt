@@ -1,3 +1,4 @@
+-- `quicksetter::answer::finish` meets its contract. Assumes nothing.
 use Rattle.quicksetter.proofs.Finishing.{left-alone, written-still, written-over}
 use borrow.Author.Needs.{needs}
 use Rattle.quicksetter.proofs.answer.finish.Statement.{statement}

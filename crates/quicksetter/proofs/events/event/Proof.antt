@@ -1,9 +1,10 @@
+-- `quicksetter::events::event` meets its contract. Assumes nothing.
 use borrow.Rule.Slice.PartMut.{same-len-mid}
 use mathlib.Core.Path.{_≡_, refl, sym, _∙_}
 use mathlib.Core.Bool.{true}
 use native.Mathlib.Omega.{arith}
 use denote.Ref.{now}
-use borrow.Author.Tests.{not-true, not-false, leb-true}
+use borrow.Author.Tests.{not-true, not-false}
 use Rattle.image.specs.Image.{isImage}
 use Rattle.image.proofs.Round.{good}
 use Rattle.quicksetter.proofs.Leaving.{no-image, finished, polled, stepped}

@@ -1,3 +1,4 @@
+-- `quicksetter::events::is_over` meets its contract. Assumes nothing.
 use Rattle.quicksetter.proofs.Leaving.{over-in}
 use borrow.Author.Needs.{needs}
 use Rattle.quicksetter.proofs.events.is_over.Statement.{statement}

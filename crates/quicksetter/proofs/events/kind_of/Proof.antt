@@ -1,5 +1,5 @@
+-- `quicksetter::events::kind_of` meets its contract. Assumes nothing.
 use Rattle.quicksetter.specs.Calls.{callOf}
-use borrow.Author.Needs.{needs}
 use Rattle.quicksetter.proofs.events.kind_of.Statement.{statement}
 use Rattle.quicksetter.proofs.events.kind_of.Tie as tie
 use Rattle.quicksetter.proofs.events.kind_of.Reads as reads

@@ -1,3 +1,4 @@
+-- `quicksetter::events::qs_poll` meets its contract. Assumes nothing.
 use mathlib.Core.Path.{refl, sym, _∙_}
 use native.Mathlib.Omega.{arith}
 use denote.Ref.{now}

@@ -1,3 +1,4 @@
+-- `quicksetter::notes::qs_fresh` meets its contract. Assumes nothing.
 use mathlib.Core.Path.{sym, _∙_}
 use denote.Ref.{now}
 use borrow.Author.Tests.{not-true, not-false}

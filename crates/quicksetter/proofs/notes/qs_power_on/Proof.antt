@@ -1,8 +1,9 @@
+-- `quicksetter::notes::qs_power_on` meets its contract. Assumes nothing.
 use mathlib.Core.Path.{_≡_, sym, _∙_}
 use mathlib.Core.Bool.{true}
 use native.Mathlib.Omega.{arith}
 use denote.Ref.{now}
-use borrow.Author.Tests.{not-true, not-false, leb-true}
+use borrow.Author.Tests.{not-true, not-false}
 use Rattle.image.specs.Image.{isImage}
 use Rattle.image.proofs.Round.{good}
 use Rattle.quicksetter.proofs.Leaving.{no-image, finished-here}

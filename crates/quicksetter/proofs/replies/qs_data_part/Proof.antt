@@ -1,3 +1,4 @@
+-- `quicksetter::replies::qs_data_part` meets its contract. Assumes nothing.
 use Rattle.bench.proofs.Verdicts.{tag-refused, tag-accepted, accepted-fits, handed-refused, handed-accepted}
 use borrow.Author.Needs.{needs}
 use Rattle.quicksetter.proofs.replies.qs_data_part.Statement.{statement}

@@ -1,3 +1,4 @@
+-- `quicksetter::replies::qs_judge` meets its contract. Assumes nothing.
 use Rattle.quicksetter.proofs.Judging.{judged}
 use borrow.Author.Needs.{needs}
 use Rattle.quicksetter.proofs.replies.qs_judge.Statement.{statement}

@@ -1,3 +1,4 @@
+-- `quicksetter::replies::qs_request` meets its contract. Assumes nothing.
 use Rattle.quicksetter.proofs.Judging.{writes}
 use borrow.Author.Needs.{needs}
 use Rattle.quicksetter.proofs.replies.qs_request.Statement.{statement}

@@ -1,3 +1,4 @@
+-- `quicksetter::replies::verdict_code` meets its contract. Assumes nothing.
 use borrow.Author.Needs.{needs}
 use Rattle.quicksetter.proofs.replies.verdict_code.Statement.{statement}
 use Rattle.quicksetter.proofs.replies.verdict_code.Tie as tie

@@ -1,5 +1,4 @@
 -- `tape::kinds::event_of` meets its contract. Assumes nothing.
-use mathlib.Core.Path.{_≡_, sym, _∙_}
 use borrow.Author.Tests.{ne-eqb}
 use Rattle.tape.proofs.Bytes.{length-part}
 use Rattle.tape.specs.Kinds.{callOf, sized}

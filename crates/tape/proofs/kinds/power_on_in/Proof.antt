@@ -1,6 +1,5 @@
 -- `tape::kinds::power_on_in` meets its contract. Assumes nothing.
 use borrow.Author.Tests.{eq-eqb, ne-eqb}
-use borrow.Author.Needs.{needs}
 use Rattle.tape.proofs.kinds.power_on_in.Statement.{statement}
 use Rattle.tape.proofs.kinds.power_on_in.Tie as tie
 use Rattle.tape.proofs.kinds.power_on_in.Reads as reads

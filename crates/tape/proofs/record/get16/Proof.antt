@@ -1,6 +1,5 @@
 -- `tape::record::get16` meets its contract. Assumes nothing.
 use native.Mathlib.Omega.{arith}
-use mathlib.Core.Path.{sym}
 use Rattle.tape.proofs.Bytes.{little-two}
 use borrow.Author.Needs.{needs}
 use Rattle.tape.proofs.record.get16.Statement.{statement}

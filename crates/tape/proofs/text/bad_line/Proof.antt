@@ -1,5 +1,5 @@
 -- `tape::text::bad_line` meets its contract. Assumes nothing.
-use mathlib.Core.Path.{_≡_, _∙_}
+use mathlib.Core.Path.{_∙_}
 use lib.ListN.{length-set}
 use native.Mathlib.Omega.{arith}
 use Rattle.tape.proofs.Texts.{same-room, bad-printed}

@@ -1,7 +1,7 @@
 -- `tape::text::reply_line` meets its contract. Assumes nothing.
 use lib.ListN.{length}
 use Prim.Native.Nat.{_<_}
-use mathlib.Core.Path.{_≡_, _∙_}
+use mathlib.Core.Path.{_∙_}
 use lib.ListN.{length-set}
 use native.Mathlib.Omega.{arith}
 use Rattle.tape.proofs.Rooms.{length-hex}

@@ -3,7 +3,7 @@ use mathlib.Core.Path.{sym, ap}
 use borrow.Author.Tests.{le-leb, lt-leb}
 use Rattle.line.proofs.Product.{below}
 use Rattle.meaning.specs.State.{Line}
-use Rattle.meaning.specs.Frames.{over}
+use Rattle.meaning.specs.Characters.{over}
 use borrow.Author.Needs.{needs}
 use Rattle.line.proofs.characters.Frame.is_over.Statement.{statement}
 use Rattle.line.proofs.characters.Frame.is_over.Tie as tie

@@ -1,7 +1,5 @@
 -- `tape::record::Cursor::read` meets its contract. Assumes nothing.
-use Prim.Native.Nat.{_+_, _-_, _<_}
-use mathlib.Core.Path.{_≡_, sym, _∙_, ap}
-use lib.ListN.{length}
+use Prim.Native.Nat.{_-_}
 use native.Mathlib.Omega.{arith}
 use Rattle.tape.proofs.Windows.{few-left, no-kind, too-long, wants-more, all-there}
 -- `tape::record::Cursor::read` meets its contract. Assumes nothing.
