@@ -56,9 +56,6 @@ pub granted : (x y : ℕ) → accessOf (differ x y) ≡ Granted → eqb x y ≡ 
 unfolding right
 granted x y e = by-access (eqb x y) ∙ ap right e
 
-pub put-one : (w : List ℕ) (a : ℕ) → 134 ≤ length w → set w 2 a ≡ put w 2 (a ∷ [])
-put-one w a h = stored-is-put w 2 (a ∷ []) (omega arith)
-
 pub put-three : (w : List ℕ) (x : ℕ) {a b c : ℕ} → 134 ≤ length w → a ≡ x / 65536 % 256 → b ≡ x / 256 % 256 → c ≡ x % 256
     → set (set (set w 2 a) 3 b) 4 c ≡ put w 2 (bytes3 x)
 unfolding bytes3

@@ -1,5 +1,5 @@
 -- What the proofs of several functions use, and the laws that callers cite.
-mod Places
+pub mod Places
 mod States
 mod Turns
 pub mod Answering

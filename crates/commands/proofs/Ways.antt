@@ -1,5 +1,6 @@
 -- The ways out of each command that works on the state alone, by the facts on the way (01, "The commands"). Assumes nothing.
 use Prim.Native.Nat.{ℕ, _+_, _^_, _≤_}
+use native.Mathlib.Omega.{arith}
 use mathlib.Core.Path.{_≡_, refl, sym, ap, _∙_}
 use mathlib.Core.Bool.{Bool, true, false, not}
 use mathlib.Core.List.{List, [], _∷_}
@@ -19,7 +20,8 @@ use Rattle.commands.specs.declared.rows.Access.the-variants.{Granted, De
 use Rattle.commands.specs.Queue.{queueOf, holding, Queues, Reads}
 use Rattle.commands.specs.State.{stateWith}
 use Rattle.commands.specs.Rows.{accessOf, Answers}
-use Rattle.commands.proofs.Answering.{refuses, accepts, accepts-bare, quiets, denied, granted, put-one, first-four}
+use Rattle.commands.proofs.Answering.{refuses, accepts, accepts-bare, quiets, denied, granted, first-four}
+use Rattle.meaning.proofs.Puts.{put-one}
 
 -- a check that passes
 passes : (e : ℕ) (t : Bool) (a : commands.Answer) → t ≡ false → error e t a ≡ a
@@ -110,7 +112,7 @@ module _ (p : Plate) (s : State) (l : Line) (m d w : List ℕ) {r : Worked} wher
         → Answers (setCode p (stateWith s l) m d) s l w r (set w 2 (getD d 0 0))
     unfolding setCode error code
     set-4F h k b q =
-        accepts _ s l w (getD d 0 0 ∷ []) m k (rw (e, granted (getD d 1 0) (getD (s .codes) (getD d 0 0) 0) b) (ap (λ (x : meaning.State). accept (getD d 0 0 ∷ []) x m) (sym q))) refl (put-one w (getD d 0 0) h)
+        accepts _ s l w (getD d 0 0 ∷ []) m k (rw (e, granted (getD d 1 0) (getD (s .codes) (getD d 0 0) 0) b) (ap (λ (x : meaning.State). accept (getD d 0 0 ∷ []) x m) (sym q))) refl (put-one w 2 (getD d 0 0) (omega arith))
 
   pub told-50 : {t : State} {o : Oldest} → 134 ≤ length w → r ≡ (record { state = t; answer = Accept 1 }) → Reads (s .faults) o
       → stateWith t l ≡ holding (stateWith s l) (o .faults) → Answers (readFault p (stateWith s l) m d) s l w r (set w 2 (o .code))
@@ -118,7 +120,7 @@ module _ (p : Plate) (s : State) (l : Line) (m d w : List ℕ) {r : Worked} wher
   told-50 {t} {o} h k b q =
       let z : stateWith t l ≡ withQueue (stateWith s l) (drop 1 (queueOf (s .faults))) =
       q ∙ queue-alone (stateWith s l) (s .faults) (o .faults) (drop 1 (queueOf (s .faults))) refl (b .rest) in
-      accepts _ s l w (o .code ∷ []) m k (rw (← b .oldest) (ap (λ (x : meaning.State). accept (o .code ∷ []) x m) (sym z))) refl (put-one w (o .code) h)
+      accepts _ s l w (o .code ∷ []) m k (rw (← b .oldest) (ap (λ (x : meaning.State). accept (o .code ∷ []) x m) (sym z))) refl (put-one w 2 (o .code) (omega arith))
 
 pub quiet-53 : (p : Plate) (s : State) (l : Line) (m d w : List ℕ) {t : State} (f : Faults) → Queues (s .faults) [] f
     → stateWith t l ≡ holding (stateWith s l) f → Answers (reset p (stateWith s l) m d) s l w (record { state = t; answer = Quiet }) w

@@ -5,7 +5,6 @@ use native.Mathlib.Nat.{div-div-eq-div-mul, div-add-mod', mod-eq-of-lt, zero-add
 use mathlib.Core.Path.{_≡_, refl, sym, ap, _∙_}
 use mathlib.Core.Bool.{Bool, true, false}
 use mathlib.Core.List.{List, [], _∷_, _++_, append-nil}
-use borrow.Author.Tests.{eqb-true}
 use lib.Dec.{eqb}
 use lib.ListN.{length, take, drop, drop-of-length-le, length-drop}
 use lib.Seq.{drop-drop, length-take-le}
@@ -20,15 +19,7 @@ use Rattle.commands.specs.State.{stateWith}
 use Rattle.line.specs.declared.characters.Frame.{Frame}
 use Rattle.line.specs.Line.{lineOf, Fits}
 use Rattle.image.specs.Image.{low4, flagByte, stateIn, stateBytes, frameIn, lineBytes, frameRow, frameBytes, PutsState, PutsFrame}
-
-first-place : (c : ℕ) (q : List ℕ) → arg (waiting c q) 0 ≡ c
-unfolding waiting
-first-place c [] = go (eqb c 0) refl
-  where
-    go : (t : Bool) → eqb c 0 ≡ t → arg (pick t [] (c ∷ [])) 0 ≡ c
-    go true e = sym (eqb-true c 0 e)
-    go false e = refl
-first-place c (x ∷ q) = refl
+use Rattle.commands.proofs.Places.{front}
 
 later-place : (c i : ℕ) (q : List ℕ) → arg (waiting c q) (suc i) ≡ arg q i
 unfolding waiting
@@ -50,10 +41,10 @@ pub places : (f : Faults) → Places f
 unfolding queueOf
 places f =
     record {
-      first = first-place (f .first) _;
-      second = later-place (f .first) 0 _ ∙ first-place (f .second) _;
-      third = later-place (f .first) 1 _ ∙ later-place (f .second) 0 _ ∙ first-place (f .third) _;
-      fourth = later-place (f .first) 2 _ ∙ later-place (f .second) 1 _ ∙ later-place (f .third) 0 _ ∙ first-place (f .fourth) _;
+      first = front (f .first) _;
+      second = later-place (f .first) 0 _ ∙ front (f .second) _;
+      third = later-place (f .first) 1 _ ∙ later-place (f .second) 0 _ ∙ front (f .third) _;
+      fourth = later-place (f .first) 2 _ ∙ later-place (f .second) 1 _ ∙ later-place (f .third) 0 _ ∙ front (f .fourth) _;
     }
 
 -- four bytes and back

@@ -1,14 +1,14 @@
 -- Bytes put into a room one after another, from the front and from the back. Assumes nothing.
 use Prim.Native.Nat.{ℕ, suc, _+_, _-_, _*_, _/_, _%_, _≤_, _<_}
 use mathlib.Core.Path.{_≡_, refl, sym, ap, _∙_}
-use mathlib.Core.List.{List, [], _∷_, _++_, append-assoc}
+use mathlib.Core.List.{List, [], _∷_, _++_}
 use native.Mathlib.Numerals.{add-one}
-use native.Mathlib.Nat.{add-assoc, add-zero}
+use native.Mathlib.Nat.{add-zero}
 use native.Mathlib.Omega.{arith}
 use lib.ListN.{length, getD, take, drop, set, length-append, length-drop, length-set, take-append-drop, drop-of-length-le}
-use lib.Seq.{drop-cons, take-at, drop-at, drop-drop, set-split, length-take-le, take-set-le, append-snoc}
+use lib.Seq.{drop-cons, drop-at, set-split, length-take-le, take-set-le, append-snoc}
 use Rattle.meaning.specs.Bytes.{put}
-use Rattle.meaning.proofs.Puts.{length-put}
+use Rattle.meaning.proofs.Puts.{length-put, put-put, put-one}
 use Rattle.tape.specs.Text.{digitOf, hexOf}
 
 -- nothing put
@@ -16,31 +16,14 @@ pub put-nil : (room : List ℕ) (at : ℕ) → put room at [] ≡ room
 unfolding put
 put-nil room at = rw (add-zero at) (take-append-drop at room)
 
--- one text behind another
-pub put-put : (room : List ℕ) (at : ℕ) (xs ys : List ℕ) → at + length xs + length ys ≤ length room
-    → put (put room at xs) (at + length xs) ys ≡ put room at (xs ++ ys)
-unfolding put
-put-put room at xs ys h =
-    let k : length (take at room) ≡ at = length-take-le at room (omega arith) in
-    let j : length (take at room ++ xs) ≡ at + length xs = simp (length-append, k) in
-    let e : take at room ++ (xs ++ drop (at + length xs) room) ≡ (take at room ++ xs) ++ drop (at + length xs) room = sym (append-assoc (take at room) xs _) in
-    let f : drop (at + length xs + length ys) ((take at room ++ xs) ++ drop (at + length xs) room) ≡ drop (at + (length xs + length ys)) room
-    = rw (← drop-drop (length ys) (at + length xs) ((take at room ++ xs) ++ drop (at + length xs) room), drop-at (take at room ++ xs) (drop (at + length xs) room) (at + length xs) j, drop-drop (length ys) (at + length xs) room, add-assoc at) in
-    rw (e, take-at (take at room ++ xs) (drop (at + length xs) room) (at + length xs) j, f, length-append xs ys, append-assoc (take at room) xs, append-assoc xs ys)
-
--- one byte is a store
-pub put-one : (room : List ℕ) (at b : ℕ) → at < length room → set room at b ≡ put room at (b ∷ [])
-unfolding put
-put-one room at b h = rw (add-one at) (set-split room at b h)
-
 -- a byte in front of the rest
 pub put-next : (room : List ℕ) (at b : ℕ) (bs : List ℕ) → at + 1 + length bs ≤ length room → put (set room at b) (at + 1) bs ≡ put room at (b ∷ bs)
-put-next room at b bs h = rw (put-one room at b (omega arith)) (put-put room at (b ∷ []) bs (omega arith))
+put-next room at b bs h = rw (put-one room at b (omega arith)) (put-put room at (b ∷ []) bs (at + 1) refl (omega arith))
 
 -- a byte behind the rest, stored before it or after it
 pub put-last : (room : List ℕ) (at z : ℕ) (bs : List ℕ) → at + length bs < length room → set (put room at bs) (at + length bs) z ≡ put room at (bs ++ (z ∷ []))
 put-last room at z bs h =
-    put-one (put room at bs) (at + length bs) z (rw (length-put room at bs (omega arith)) h) ∙ put-put room at bs (z ∷ []) (omega arith)
+    put-one (put room at bs) (at + length bs) z (rw (length-put room at bs (omega arith)) h) ∙ put-put room at bs (z ∷ []) (at + length bs) refl (omega arith)
 
 pub put-back : (room : List ℕ) (at z : ℕ) (bs : List ℕ) → at + length bs < length room → put (set room (at + length bs) z) at bs ≡ put room at (bs ++ (z ∷ []))
 unfolding put

@@ -1,15 +1,15 @@
 -- Texts written one behind another. Assumes nothing.
 use Prim.Native.Nat.{ℕ, zero, suc, _+_, _-_, _≤_, _<_}
-use mathlib.Core.Path.{_≡_, sym, ap, _∙_}
+use mathlib.Core.Path.{_≡_, refl, sym, ap, _∙_}
 use mathlib.Core.List.{List, [], _∷_, _++_, append-assoc}
 use native.Mathlib.Omega.{arith}
 use lib.ListN.{length, set, length-append}
 use Rattle.meaning.specs.Bytes.{put}
-use Rattle.meaning.proofs.Puts.{length-put}
+use Rattle.meaning.proofs.Puts.{length-put, put-put}
 use Rattle.tape.specs.Text.{decimalOf, hexOf, lineOf, badLine}
 use Rattle.tape.specs.Reader.{Printed}
 use Rattle.io.specs.Digits.{digits, Fewest}
-use Rattle.tape.proofs.Rooms.{put-nil, put-put, put-last}
+use Rattle.tape.proofs.Rooms.{put-nil, put-last}
 use Rattle.tape.proofs.Decimal.{same-digits, length-digits}
 
 pub same-room : {text room : List ℕ} {at r : ℕ} {room′ : List ℕ} → Printed text room at r room′ → length room′ ≡ length room
@@ -20,7 +20,7 @@ joined {x} {y} {room} {room′} {room″} {at} {r} {q} p k =
     let l = same-room p in
     let n : at + length x + length y ≤ length room = omega (arith, p .next, k .next, k .within) in
     let b : room″ ≡ put (put room at x) (at + length x) y = k .bytes ∙ rw (p .bytes, p .next) in
-    record { next = rw (length-append x y) (omega (arith, p .next, k .next)); bytes = b ∙ put-put room at x y n; within = omega (arith, k .within) }
+    record { next = rw (length-append x y) (omega (arith, p .next, k .next)); bytes = b ∙ put-put room at x y (at + length x) refl (omega (arith, n)); within = omega (arith, k .within) }
 
 pub closed : {x room room′ : List ℕ} {at r : ℕ} (z : ℕ) → Printed x room at r room′ → r < length room → Printed (x ++ (z ∷ [])) room at (r + 1) (set room′ r z)
 closed {x} {room} {room′} {at} {r} z p h =
