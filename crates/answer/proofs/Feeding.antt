@@ -1,6 +1,6 @@
 -- What a pass leaves of the program's buffers. Assumes nothing.
 use Prim.Native.Nat.{ℕ, _+_, _-_, _≤_, _<_}
-use mathlib.Core.Path.{_≡_, refl, sym, ap, _∙_}
+use mathlib.Core.Path.{_≡_, ap, _∙_}
 use mathlib.Core.List.{List, [], _∷_}
 use native.Mathlib.Omega.{arith}
 use lib.ListN.{length, take, drop, length-take, length-drop, length-replicate}
@@ -10,7 +10,7 @@ use Rattle.tape.specs.Text.{firstLine}
 use Rattle.tape.specs.Reader.{Printed}
 use Rattle.tape.proofs.Texts.{same-room}
 use Rattle.answers.specs.declared.session.Phase.{Phase}
-use Rattle.answers.specs.declared.session.Phase.the-variants.{Opening, Running, Ended}
+use Rattle.answers.specs.declared.session.Phase.the-variants.{Ended}
 use Rattle.answers.specs.declared.session.Session.{Session}
 use Rattle.answers.specs.declared.passes.Eaten.{Eaten}
 use Rattle.answers.specs.Sessions.{largestImage, Starts, Ready, Eats}

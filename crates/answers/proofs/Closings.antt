@@ -1,6 +1,6 @@
 -- What the end of a tape prints. Assumes nothing.
-use Prim.Native.Nat.{ℕ, suc, _+_, _≤_, _<_}
-use mathlib.Core.Path.{_≡_, refl, sym, ap, _∙_}
+use Prim.Native.Nat.{ℕ, _≤_}
+use mathlib.Core.Path.{_≡_, refl, sym}
 use mathlib.Core.List.{List, [], _∷_}
 use native.Mathlib.Nat.{add-zero}
 use native.Mathlib.Omega.{arith}
@@ -11,7 +11,6 @@ use Rattle.meaning.specs.Fields.{imageLength}
 use Rattle.line.specs.declared.plate.Plate.{Plate}
 use Rattle.board.specs.declared.limits.Board.{Board}
 use Rattle.tape.specs.Text.{badLine}
-use Rattle.tape.specs.Answers.{Stage, opening, running, ended}
 use Rattle.tape.specs.Passes.{closing}
 use Rattle.tape.specs.Reader.{Printed}
 use Rattle.tape.proofs.Rooms.{put-nil}

@@ -1,11 +1,11 @@
 -- A pass from the plate on, and of a board at work, over the front of the lent memory. Assumes nothing.
-use Prim.Native.Nat.{ℕ, zero, suc, _+_, _-_, _*_, _≤_, _<_}
+use Prim.Native.Nat.{ℕ, zero, suc, _+_, _-_, _≤_, _<_}
 use mathlib.Core.Path.{_≡_, refl, sym, ap, _∙_}
 use mathlib.Core.Bool.{Bool, true, false}
 use mathlib.Core.List.{List, [], _∷_, _++_}
-use native.Mathlib.Nat.{add-zero, zero-add, add-assoc}
+use native.Mathlib.Nat.{add-zero, zero-add}
 use native.Mathlib.Omega.{arith}
-use lib.ListN.{length, take, drop, replicate, length-take, length-drop, length-replicate}
+use lib.ListN.{length, take, drop, length-take, length-drop}
 use lib.Seq.{take-at, length-take-le}
 use lib.Dec.{T}
 use Rattle.meaning.specs.Bytes.{zeros, put}
@@ -19,20 +19,18 @@ use Rattle.line.specs.Line.{plateOf}
 use Rattle.line.proofs.Limits.{total-fits}
 use Rattle.board.specs.declared.limits.Board.{Board}
 use Rattle.board.specs.Board.{stateOf}
-use Rattle.board.specs.Promises.{Within}
 use Rattle.tape.specs.Records.{wholeLength}
 use Rattle.tape.specs.Kinds.{Said}
 use Rattle.tape.specs.Text.{badLine}
 use Rattle.tape.specs.Answers.{Stage, opening, running, ended, Turn, bad, turn}
 use Rattle.tape.specs.Passes as passes
 use Rattle.tape.specs.Passes.{Pass, pass, stopped, after, heard, nothing, said, longestLine}
-use Rattle.tape.specs.Reader.{Printed}
 use Rattle.tape.proofs.Rooms.{put-nil}
 use Rattle.tape.proofs.Streams.{pass-enough}
-use Rattle.turns.specs.Turns.{Sound, keptIn, isEnded, lastOf}
+use Rattle.turns.specs.Turns.{keptIn, isEnded, lastOf}
 use Rattle.answers.specs.Beginnings.{Working, goes-on, begins, Idle}
 use Rattle.answers.specs.Holding.{Held, holds, heldAfter, heldBy}
-use Rattle.answers.specs.Sessions.{largestImage, stageFrom, stageOf, stopTold, phaseAfter, eatenBy, Plays, Steady, Ready, passOver, heldOver, Stands, Eats, Lends, passFrom, heldFrom, GoesOn, Refuses}
+use Rattle.answers.specs.Sessions.{largestImage, stageOf, stopTold, phaseAfter, eatenBy, Plays, Steady, Ready, passOver, heldOver, Stands, Eats, Lends, passFrom, heldFrom, GoesOn, Refuses}
 use Rattle.turns.specs.Openings.{Begins, Fails}
 use Rattle.answers.specs.declared.session.Phase.{Phase}
 use Rattle.answers.specs.declared.session.Phase.the-variants.{Opening, Running, Ended}

@@ -1,11 +1,11 @@
 -- The loop of a pass: what was read and printed so far, and what is left, come to the whole pass. Assumes nothing.
 use Prim.Native.Nat.{ℕ, zero, suc, _+_, _-_, _≤_, _<_}
 use mathlib.Core.Path.{_≡_, refl, sym, ap, _∙_}
-use mathlib.Core.Bool.{Bool, true, false}
-use mathlib.Core.List.{List, [], _∷_, _++_, append-assoc, append-nil}
+use mathlib.Core.Bool.{true, false}
+use mathlib.Core.List.{List, [], _++_, append-assoc, append-nil}
 use native.Mathlib.Nat.{add-assoc, add-zero, zero-add}
 use native.Mathlib.Omega.{arith}
-use lib.ListN.{length, drop, length-drop}
+use lib.ListN.{length, drop}
 use lib.Seq.{drop-drop}
 use borrow.Author.Tests.{lt-ltb, le-ltb}
 use Rattle.meaning.specs.Bytes.{put}
@@ -29,7 +29,7 @@ use Rattle.turns.specs.Turns.{Sound, runs, keptIn, isEnded, lastOf, quickly, Qu
 use Rattle.turns.proofs.Tight.{not-both}
 use Rattle.answers.specs.Holding.{Held, holds, heldAfter, heldBy}
 use Rattle.answers.proofs.Holding.{held-parts, held-full, held-more, held-bad, held-good}
-use Rattle.answers.specs.Sessions.{Plays, Playable, stopTold, stageFrom, phaseAfter}
+use Rattle.answers.specs.Sessions.{Plays, Playable, stopTold, phaseAfter}
 use Rattle.answers.proofs.Closings.{no-text}
 use Rattle.answers.specs.declared.passes.Played.{Played}
 use Rattle.turns.specs.declared.answering.Pace.{Pace}

@@ -1,13 +1,12 @@
 -- A run of passes prints what the whole tape prints. Assumes nothing.
-use Prim.Native.Nat.{ℕ, suc, _+_, _-_}
-use mathlib.Core.Path.{_≡_, refl, sym, ap, _∙_}
-use mathlib.Core.List.{List, [], _∷_, _++_}
-use lib.ListN.{length, drop}
-use Rattle.tape.specs.Text.{firstLine}
-use Rattle.tape.specs.Answers.{Stage, opening}
-use Rattle.tape.specs.Passes.{Pass, Feed, Fed, fed, Settled, closing}
+use Prim.Native.Nat.{ℕ, _+_}
+use mathlib.Core.Path.{_≡_, refl, ap, _∙_}
+use mathlib.Core.List.{List, [], _++_}
+use lib.ListN.{drop}
+use Rattle.tape.specs.Answers.{opening}
+use Rattle.tape.specs.Passes.{Feed, Fed, fed}
 use Rattle.tape.proofs.Streams.{any-parts}
-use Rattle.answers.specs.Sessions.{stageFrom, stageOf, passOver}
+use Rattle.answers.specs.Sessions.{stageOf, passOver}
 use Rattle.answers.specs.Runs.{Stand, Run, rest, pass, RunPrints}
 
 -- where a run ends and what it prints are the meaning's

@@ -13,7 +13,7 @@ use Rattle.board.specs.declared.limits.Board.{Board}
 use Rattle.board.specs.Board.{stateOf}
 use Rattle.tape.specs.Answers.{Stage, opening, running, ended}
 use Rattle.tape.specs.Passes as passes
-use Rattle.tape.specs.Passes.{Pass, pass, longestLine}
+use Rattle.tape.specs.Passes.{Pass, pass}
 use Rattle.tape.specs.Text.{badLine}
 use Rattle.tape.specs.Reader.{Printed}
 use Rattle.turns.specs.Turns.{Sound}

@@ -1,5 +1,4 @@
 // Where a tape stands between two of its parts.
-ghost use mathlib.Core.Path.{_≡_};
 ghost use Rattle.answers.specs.Sessions.{Starts};
 use board::Board;
 use line::Plate;

@@ -1,10 +1,9 @@
 -- The first record of a tape is a good plate, or bad. Assumes nothing.
-use Prim.Native.Nat.{ℕ, _≤_}
+use Prim.Native.Nat.{ℕ}
 use mathlib.Core.Path.{_≡_, refl, sym, subst, _∙_}
 use mathlib.Core.Bool.{Bool, true, false}
 use mathlib.Core.List.{List, [], _∷_}
 use native.Mathlib.Nat.{zero-add}
-use lib.ListN.{length}
 use types.Run.{OneOf, miss}
 use denote.Enum.Declared.{tagOf}
 use Rattle.meaning.specs.Bytes.{pick}
@@ -16,7 +15,7 @@ use Rattle.tape.specs.Answers.{turn, begun}
 use Rattle.tape.specs.Reader.{saidOf}
 use Rattle.tape.specs.Passes.{heard, said}
 use Rattle.tape.proofs.kinds.Event.{the-type}
-use Rattle.turns.specs.Hearing.{Told, not-yet, tells, toldAt, heardIn, Past, Onward, Hears}
+use Rattle.turns.specs.Hearing.{Told, not-yet, tells, toldAt, Past, Hears}
 use Rattle.turns.specs.Openings.{checked, begunBy, openedBy, Opens}
 use Rattle.turns.specs.declared.opening.Opened.{Opened}
 use Rattle.turns.specs.declared.opening.Opened.the-variants as opened

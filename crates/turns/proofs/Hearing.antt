@@ -1,5 +1,5 @@
 -- What is heard at a place of the window, and of the first record. Assumes nothing.
-use Prim.Native.Nat.{ℕ, _+_, _-_, _≤_, _<_}
+use Prim.Native.Nat.{ℕ, _+_, _≤_}
 use mathlib.Core.Path.{_≡_, refl, sym, ap, _∙_}
 use mathlib.Core.List.{List}
 use native.Mathlib.Omega.{arith}
@@ -13,7 +13,7 @@ use Rattle.tape.specs.declared.record.Read.{Read}
 use Rattle.tape.specs.declared.record.Read.the-variants.{Record, More, Bad}
 use Rattle.tape.proofs.Bytes.{part-drop}
 use Rattle.tape.proofs.Windows.{Whole, record-read, heard-at}
-use Rattle.turns.specs.Hearing.{Told, not-yet, tells, toldOf, toldBy, toldAt, heardIn, Past, Onward, Hears}
+use Rattle.turns.specs.Hearing.{Told, tells, toldOf, toldBy, toldAt, heardIn, Past, Onward, Hears}
 use Rattle.turns.specs.declared.reading.Heard.{Heard}
 
 module _ (at : ℕ) (s : List ℕ) where

@@ -19,11 +19,11 @@ use Rattle.board.specs.declared.limits.Board.{Board}
 use Rattle.board.specs.Board.{stateOf}
 use Rattle.board.proofs.Promises.{same-state-same-board}
 use Rattle.tape.specs.Kinds.{Said}
-use Rattle.tape.specs.Answers.{Stage, opening, running, ended, Turn, turn}
+use Rattle.tape.specs.Answers.{Stage, opening, running, ended, Turn}
 use Rattle.tape.proofs.Tight.{eventBack, event-back, printed-tight}
 use Rattle.turns.specs.Hearing.{Told, not-yet, tells, toldOf, toldAt}
 use Rattle.turns.specs.Openings.{openedBy}
-use Rattle.turns.specs.Turns.{Quiet, Waits, Quickens, Turns}
+use Rattle.turns.specs.Turns.{Quiet, Quickens, Turns}
 use Rattle.turns.specs.declared.reading.Heard.{Heard}
 use Rattle.turns.specs.declared.reading.Heard.the-variants.{Nothing, Said as Tells}
 use Rattle.turns.specs.declared.opening.Opened.{Opened}

@@ -1,5 +1,5 @@
 -- What one record does to a running board. Assumes nothing.
-use Prim.Native.Nat.{ℕ, _+_, _-_, _≤_, _<_}
+use Prim.Native.Nat.{ℕ, _+_, _≤_, _<_}
 use mathlib.Core.Path.{_≡_, refl, sym, ap, _∙_}
 use mathlib.Core.Bool.{Bool, true, false, not}
 use mathlib.Core.List.{List, [], _∷_}
@@ -12,7 +12,7 @@ use types.Run.{OneOf, miss}
 use denote.Enum.Declared.{tagOf}
 use Rattle.meaning.specs.Bytes.{pick, put}
 use Rattle.meaning.specs.State as meaning
-use Rattle.meaning.specs.State.{none, withLine, stateOk}
+use Rattle.meaning.specs.State.{none, withLine}
 use Rattle.meaning.specs.Frames.{over, more, taken, still, upTo}
 use Rattle.meaning.specs.Run.{Call, character, poll, measured, fault, power-on, step, closes}
 use Rattle.meaning.proofs.Limits.{keeps-limits, replies-fit}
@@ -28,7 +28,7 @@ use Rattle.board.specs.declared.limits.Outcome.the-variants.{Over, Still}
 use Rattle.board.specs.declared.limits.Stepped.{Stepped}
 use Rattle.board.specs.Board as board
 use Rattle.board.specs.Board.{stateOf, refusalOn}
-use Rattle.board.specs.Promises.{DoesStep, Within}
+use Rattle.board.specs.Promises.{DoesStep}
 use Rattle.board.proofs.Stepping.{held-on}
 use Rattle.board.proofs.Promises.{does-step, unrefused, stays-within}
 use Rattle.tape.specs.declared.kinds.Event.{Event}

@@ -6,7 +6,7 @@ ghost use lib.ListN.{length};
 ghost use Rattle.line.specs.Line.{plateOf, Fits};
 ghost use Rattle.board.specs.Board.{stateOf};
 ghost use Rattle.tape.specs.Answers.{running};
-ghost use Rattle.tape.specs.Reader.{saidOf, Printed};
+ghost use Rattle.tape.specs.Reader.{saidOf};
 ghost use Rattle.tape.specs.Passes.{longestLine};
 ghost use Rattle.turns.specs.Turns.{Sound, Quickens, Calls, Turns, sentOf, Fitting, Answered};
 use board::Board;

@@ -1,5 +1,4 @@
 -- `answer::refill` meets its contract: the bytes in front are not lent. Assumes nothing.
-use native.Mathlib.Omega.{arith}
 use Rattle.answer.proofs.Windows.{front-kept}
 use borrow.Author.Needs.{needs}
 use Rattle.answer.proofs.refill.Statement.{statement}

@@ -1,9 +1,9 @@
 -- `answer::run` meets its contract: the buffers are ready at every turn. Assumes nothing.
-use Prim.Native.Nat.{_≤_, _-_}
+use Prim.Native.Nat.{_≤_}
 use mathlib.Core.Path.{_≡_, refl, sym, _∙_}
 use mathlib.Core.List.{[]}
 use native.Mathlib.Omega.{arith}
-use lib.ListN.{length, length-take, length-drop}
+use lib.ListN.{length, length-take}
 use lib.Seq.{length-take-le}
 use Rattle.tape.proofs.Texts.{same-room}
 use Rattle.answers.specs.Sessions.{Ready}

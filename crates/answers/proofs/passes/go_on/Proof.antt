@@ -1,5 +1,5 @@
 -- `answers::passes::go_on` meets its contract: the front of the lent memory goes out and comes back. Assumes nothing.
-use mathlib.Core.Path.{sym, _∙_}
+use mathlib.Core.Path.{sym}
 use native.Mathlib.Omega.{arith}
 use lib.Seq.{length-take-le}
 use Rattle.line.proofs.Limits.{total-fits}

@@ -1,6 +1,5 @@
 -- `answers::passes::refuse` meets its contract. Assumes nothing.
-use mathlib.Core.Path.{sym, _∙_, ap, refl}
-use Rattle.answers.specs.declared.passes.Eaten.{Eaten}
+use mathlib.Core.Path.{refl}
 -- `answers::passes::refuse` meets its contract. Assumes nothing.
 use borrow.Author.Needs.{needs}
 use Rattle.answers.proofs.passes.refuse.Statement.{statement}
