@@ -28,7 +28,7 @@ use Rattle.tape.proofs.Streams.{pass-enough}
 use Rattle.turns.specs.Turns.{keptIn, isEnded, lastOf}
 use Rattle.answers.specs.Beginnings.{Working, goes-on, begins, Idle}
 use Rattle.answers.specs.Holding.{Held, holds, heldAfter, heldBy}
-use Rattle.answers.specs.Sessions.{largestImage, stageOf, stopTold, phaseAfter, eatenBy, Plays, Steady, Ready, passOver, heldOver, Stands, Eats, Playable, passFrom, heldFrom, GoesOn, Refuses}
+use Rattle.answers.specs.Sessions.{largestImage, stageOf, stopTold, phaseAfter, eatenBy, Plays, Steady, Ready, passOver, heldOver, Stands, Eats, Lends, passFrom, heldFrom, GoesOn, Refuses}
 use Rattle.turns.specs.Openings.{Begins, Fails}
 use Rattle.answers.specs.declared.session.Phase.{Phase}
 use Rattle.answers.specs.declared.session.Phase.the-variants.{Opening, Running, Ended}
@@ -49,9 +49,9 @@ pub front-fits : (p : Plate) (m : List ℕ) → plateOk (plateOf p) ≡ true →
 front-fits p m ok e = omega (arith, total-fits (plateOf p) ok)
 
 module _ (p : Plate) (b : Board) (place : ℕ) (window : List ℕ) (from : ℕ) (kept m w out : List ℕ) (used : ℕ)
-    (n : ℕ) (here : n ≡ imageLength (p .total)) (ready : Playable p b place window from kept m w out used) where
+    (n : ℕ) (here : n ≡ imageLength (p .total)) (ready : Lends p b place window from kept m w out used) where
   pub in-front : n ≤ length m
-  in-front = rw here (front-fits p m (ready .sound .within .plate) (ready .size))
+  in-front = rw here (front-fits p m (ready .playable .sound .within .plate) (ready .size))
 
   module _ (r : Played) (kept′ mp w′ out′ : List ℕ)
       (played : Plays p (pass (suc (length window)) (length out - used) (running (plateOf p) (stateOf b kept) (take n m)) (place + from) (drop from window))
@@ -106,8 +106,8 @@ at-work Running p b kept m w k h = refl
 at-work Ended p b kept m w k h = absurd h
 
 module _ (s : Session) (window kept m w out : List ℕ) (used : ℕ) (ready : Ready s window kept m w out used) where
-  playable : s .phase ≡ Running → Playable (s .plate) (s .board) (s .place) window 0 kept m w out used
-  playable e = record { sound = rw e at (ready .steady); size = ready .size; starts = omega arith; space = ready .space; places = ready .place }
+  lends : s .phase ≡ Running → Lends (s .plate) (s .board) (s .place) window 0 kept m w out used
+  lends e = record { playable = record { sound = rw e at (ready .steady); starts = omega arith; space = ready .space; places = ready .place }; size = ready .size }
 
   eats-on : (r : Eaten) (kept′ m′ w′ out′ : List ℕ) → s .phase ≡ Running → GoesOn (s .plate) (s .board) (s .place) window 0 kept m w out used r kept′ m′ w′ out′
       → Eats s window kept m w out used r kept′ m′ w′ out′
@@ -225,22 +225,24 @@ module _ (s : Session) (window kept m w out : List ℕ) (used : ℕ) (ready : Re
       let e : take (b .frame .len) kept ≡ [] = ap (λ (y : meaning.State). y .line .kept) (fresh-board kept) in
       omega (arith, ap length e, length-take (b .frame .len) kept, ready .lent)
 
-  fresh-playable : Playable p b (s .place) window next kept m w out used
-  fresh-playable = record {
-    sound = record {
-      within = record {
-        plate = begins .good;
-        state = rw (fresh-board kept) (told-true (stateOk (plateOf p) (fresh (plateOf p))) (fresh-within (plateOf p)));
-        few = few;
-        places = ready .lent;
-        size = length-take-le (imageLength (p .total)) m (front-fits p m (begins .good) (ready .size));
+  fresh-lends : Lends p b (s .place) window next kept m w out used
+  fresh-lends = record {
+    playable = record {
+      sound = record {
+        within = record {
+          plate = begins .good;
+          state = rw (fresh-board kept) (told-true (stateOk (plateOf p) (fresh (plateOf p))) (fresh-within (plateOf p)));
+          few = few;
+          places = ready .lent;
+          size = length-take-le (imageLength (p .total)) m (front-fits p m (begins .good) (ready .size));
+        };
+        room = ready .room;
       };
-      room = ready .room;
+      starts = begins .inside;
+      space = ready .space;
+      places = ready .place;
     };
     size = ready .size;
-    starts = begins .inside;
-    space = ready .space;
-    places = ready .place;
   }
 
   -- the first record is the plate, and the board's pass begins behind it
@@ -303,9 +305,9 @@ module _ (s : Session) (window kept m w out : List ℕ) (used : ℕ) (ready : Re
   at-work-now : (s .phase ≡ Opening → ⊥) → s .phase ≡ Running
   at-work-now k = at-work (s .phase) (s .plate) (s .board) kept m w k (ready .steady)
 
-  pub works-playable : (p : Plate) (b : Board) (from : ℕ) → Working s window (length out - used) p b from → Playable p b (s .place) window from kept m w out used
-  works-playable p b from (goes-on k i j l) = rw (i, j, l) (playable s window kept m w out used ready (at-work-now k))
-  works-playable p b from (begins first space x h fresh) = fresh-playable s window kept m w out used ready first p from x h b fresh
+  pub works-lend : (p : Plate) (b : Board) (from : ℕ) → Working s window (length out - used) p b from → Lends p b (s .place) window from kept m w out used
+  works-lend p b from (goes-on k i j l) = rw (i, j, l) (lends s window kept m w out used ready (at-work-now k))
+  works-lend p b from (begins first space x h fresh) = fresh-lends s window kept m w out used ready first p from x h b fresh
 
   pub eats-works : (p : Plate) (b : Board) (from : ℕ) (r : Eaten) (kept′ m′ w′ out′ : List ℕ) → Working s window (length out - used) p b from
       → GoesOn p b (s .place) window from kept m w out used r kept′ m′ w′ out′ → Eats s window kept m w out used r kept′ m′ w′ out′

@@ -15,6 +15,7 @@ use Rattle.line.specs.declared.characters.Frame.{Frame}
 use Rattle.line.specs.Line.{plateOf, lineOf}
 use Rattle.commands.specs.declared.state.State.{State}
 use Rattle.commands.specs.State.{stateWith}
+use Rattle.board.specs.declared.limits.Board.{Board}
 use Rattle.tape.specs.Records.{wholeLength}
 use Rattle.tape.specs.Kinds.{Said, unfit}
 use Rattle.tape.specs.Answers.{Stage, opening, running, ended, Turn, bad, turn}
@@ -28,7 +29,7 @@ use Rattle.turns.specs.Turns.{Sound, runs, keptIn, isEnded, lastOf, quickly, Qu
 use Rattle.turns.proofs.Tight.{not-both}
 use Rattle.answers.specs.Holding.{Held, holds, heldAfter, heldBy}
 use Rattle.answers.proofs.Holding.{held-parts, held-full, held-more, held-bad, held-good}
-use Rattle.answers.specs.Sessions.{Plays, stopTold, phaseAfter}
+use Rattle.answers.specs.Sessions.{Plays, Playable, stopTold, phaseAfter}
 use Rattle.answers.proofs.Closings.{no-text}
 use Rattle.answers.specs.declared.passes.Played.{Played}
 use Rattle.turns.specs.declared.answering.Pace.{Pace}
@@ -100,17 +101,16 @@ pub record Going (p : Plate) (place : ℕ) (window : List ℕ) (from : ℕ) (kep
   pub held : heldBy (suc (length window)) (length out₀ - start) (place + from) (drop from window) (holds (runs p s₀ f₀ kept₀ m₀) kept₀ w₀)
       ≡ heldBy (suc fuel) (length out - used) (place + at) (drop at window) (holds (runs p s f kept m) kept w)
 
-pub begins : (p : Plate) (place : ℕ) (window : List ℕ) (from : ℕ) (kept m w out : List ℕ) (start : ℕ) (s : State) (f : Frame)
-    → Sound p (record { state = s; frame = f }) kept m w → from ≤ length window → start ≤ length out
-    → Going p place window from kept m w out start s f kept m w out s f from start
-begins p place window from kept m w out start s f sound h k = record {
+pub begins : (p : Plate) (place : ℕ) (window : List ℕ) (from : ℕ) (kept m w out : List ℕ) (start : ℕ) (b : Board) → Playable p b place window from kept m w out start
+    → Going p place window from kept m w out start (b .state) (b .frame) kept m w out (b .state) (b .frame) from start
+begins p place window from kept m w out start b ready = record {
   fuel = length window;
   read = 0;
   text = [];
-  sound = sound;
-  printed = no-text out start refl k;
+  sound = ready .sound;
+  printed = no-text out start refl (ready .space);
   far = sym (add-zero from);
-  inside = h;
+  inside = ready .starts;
   enough = omega arith;
   whole = rw zero-add;
   held = refl;

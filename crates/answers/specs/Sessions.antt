@@ -131,13 +131,17 @@ pub record Eats (s : Session) (window kept m w out : List ℕ) (used : ℕ) (r :
   pub reply : w′ ≡ (heldOver s window kept m w out used) .room
   pub steady : (r .session .phase ≡ Ended → ⊥) → Steady (r .session .phase) (r .session .plate) (r .session .board) kept′ m′ w′
 
--- a board at work, with the lent memory of which it uses the front
+-- a board at work
 pub record Playable (p : Plate) (b : Board) (place : ℕ) (window : List ℕ) (from : ℕ) (kept m w out : List ℕ) (used : ℕ) : Type 0 where
-  pub sound : Sound p b kept (take (imageLength (p .total)) m) w
-  pub size : length m ≡ largestImage
+  pub sound : Sound p b kept m w
   pub starts : from ≤ length window
   pub space : used ≤ length out
   pub places : place + length window < 2 ^ 64
+
+-- .. that uses the front of the lent memory
+pub record Lends (p : Plate) (b : Board) (place : ℕ) (window : List ℕ) (from : ℕ) (kept m w out : List ℕ) (used : ℕ) : Type 0 where
+  pub playable : Playable p b place window from kept (take (imageLength (p .total)) m) w out used
+  pub size : length m ≡ largestImage
 
 -- the pass of such a board over the window from a place on
 abbrev pub passFrom : Plate → Board → ℕ → List ℕ → ℕ → List ℕ → List ℕ → List ℕ → ℕ → Pass

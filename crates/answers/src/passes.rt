@@ -9,17 +9,14 @@ ghost use Rattle.board.specs.Board.{stateOf};
 ghost use Rattle.tape.specs.Answers.{running};
 ghost use Rattle.tape.specs.Passes.{pass, closing};
 ghost use Rattle.tape.specs.Reader.{Printed};
-ghost use Rattle.turns.specs.Turns.{Sound};
 ghost use Rattle.answers.specs.Holding.{holds, heldBy};
-ghost use Rattle.answers.specs.Sessions.{stageOf, phaseAfter, eatenBy, Plays, Playable, GoesOn, Refuses, Ready, Eats};
+ghost use Rattle.answers.specs.Sessions.{stageOf, phaseAfter, eatenBy, Plays, Playable, Lends, GoesOn, Refuses, Ready, Eats};
 use crate::beginning::Way;
 use crate::beginning::begin;
 use crate::session::Phase;
 use crate::session::Session;
 use crate::session::Stop;
 use board::Board;
-use commands::State;
-use line::Frame;
 use line::Plate;
 use turns::Heard;
 use turns::Pace;
@@ -42,10 +39,9 @@ pub struct Eaten {
     pub stop: Stop,
 }
 
-fn halt(state: State, frame: Frame, at: usize, used: usize, stop: Stop) -> Played
-    ensures { λ r. ⌜ r ≡ record { board = record { state = state; frame = frame }; at = at; used = used; stop = stop } ⌝ }
+fn halt(board: Board, at: usize, used: usize, stop: Stop) -> Played
+    ensures { λ r. ⌜ r ≡ record { board = board; at = at; used = used; stop = stop } ⌝ }
 {
-    let board = Board { state, frame };
     Played {
         board,
         at,
@@ -67,32 +63,28 @@ fn play(
     out: &mut [u8],
     start: usize,
 ) -> Played
-    requires { ⌜ Sound plate first (now kept) (now memory) (now reply) ⌝ }
-    requires { ⌜ (from ≤ length (now window)) × (start ≤ length (now out)) × (place + length (now window) < 2 ^ 64) ⌝ }
+    requires { ⌜ Playable plate first place (now window) from (now kept) (now memory) (now reply) (now out) start ⌝ }
     ensures { λ r. ⌜ Plays plate (pass (suc (length (now (window .entry)))) (length (now (out .entry)) - start) (running (plateOf plate) (stateOf first (now (kept .entry))) (now (memory .entry))) (place + from) (drop from (now (window .entry)))) (heldBy (suc (length (now (window .entry)))) (length (now (out .entry)) - start) (place + from) (drop from (now (window .entry))) (holds (running (plateOf plate) (stateOf first (now (kept .entry))) (now (memory .entry))) (now (kept .entry)) (now (reply .entry)))) from (now (window .entry)) (now (out .entry)) start r (now (kept .exit)) (now (memory .exit)) (now (reply .exit)) (now (out .exit)) ⌝ }
 {
-    let mut state = first.state;
-    let mut frame = first.frame;
+    let mut board = first;
     let mut at = from;
     let mut used = start;
     loop {
         if out.len() - used < 413 {
-            return halt(state, frame, at, used, Stop::Full);
+            return halt(board, at, used, Stop::Full);
         }
         let Heard::Said { event, next } = hear(window, at) else {
-            return halt(state, frame, at, used, Stop::More);
+            return halt(board, at, used, Stop::More);
         };
-        match quick(plate, frame, event, kept) {
-            Pace::Went(more) => frame = more,
+        match quick(plate, board.frame, event, kept) {
+            Pace::Went(frame) => board.frame = frame,
             Pace::Slow => {
-                let board = Board { state, frame };
                 let here = place + at as u64;
                 let turned = turn(plate, board, here, event, kept, memory, reply, out, used);
-                state = turned.board.state;
-                frame = turned.board.frame;
+                board = turned.board;
                 used = turned.used;
                 if turned.over {
-                    return halt(state, frame, at, used, Stop::Over);
+                    return halt(board, at, used, Stop::Over);
                 }
             }
         }
@@ -165,7 +157,7 @@ fn go_on(
     out: &mut [u8],
     used: usize,
 ) -> Eaten
-    requires { ⌜ Playable plate board place (now window) from (now kept) (now memory) (now reply) (now out) used ⌝ }
+    requires { ⌜ Lends plate board place (now window) from (now kept) (now memory) (now reply) (now out) used ⌝ }
     ensures { λ r. ⌜ GoesOn plate board place (now (window .entry)) from (now (kept .entry)) (now (memory .entry)) (now (reply .entry)) (now (out .entry)) used r (now (kept .exit)) (now (memory .exit)) (now (reply .exit)) (now (out .exit)) ⌝ }
 {
     let size = image_length(plate.total);

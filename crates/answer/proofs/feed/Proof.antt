@@ -1,5 +1,4 @@
 -- `answer::feed` meets its contract: each pass leaves the buffers ready for the next. Assumes nothing.
-use Prim.Native.Nat.{_-_}
 use mathlib.Core.Path.{_≡_, refl, _∙_}
 use native.Mathlib.Omega.{arith}
 use lib.ListN.{length, length-take, length-drop}

@@ -1,6 +1,6 @@
 -- `answers::passes::eat` meets its contract. Assumes nothing.
 use native.Mathlib.Omega.{arith}
-use Rattle.answers.proofs.Eating.{eats-idle, eats-none, works-playable, eats-works}
+use Rattle.answers.proofs.Eating.{eats-idle, eats-none, works-lend, eats-works}
 use borrow.Author.Needs.{needs}
 use Rattle.answers.proofs.passes.eat.Statement.{statement}
 use Rattle.answers.proofs.passes.eat.Tie as tie
@@ -33,7 +33,7 @@ enum-known-way-2 : tie.Need-enum-known-way-2
 enum-known-way-2 c = search needs
 
 go-on-requires : tie.Need-go-on-requires
-go-on-requires c κs = works-playable _ _ _ _ _ _ _ (c .before .before .before .before .before .before .before .before .before .before .before .before .before .pre) _ _ _ (rw (c .before .before .before .before .before .way2 .given .1) at (c .before .before .before .before .before .before .before .begin .ensures))
+go-on-requires c κs = works-lend _ _ _ _ _ _ _ (c .before .before .before .before .before .before .before .before .before .before .before .before .before .pre) _ _ _ (rw (c .before .before .before .before .before .way2 .given .1) at (c .before .before .before .before .before .before .before .begin .ensures))
 
 returns : tie.Need-returns
 returns c = eats-idle _ _ _ _ _ _ _ (c .before .before .before .before .before .before .before .before .before .before .pre) _ _ (rw (c .before .before .way .given .1) at (c .before .before .before .before .begin .ensures)) (c .stopped .ensures)

@@ -14,7 +14,7 @@ use Rattle.answers.proofs.passes.image_length.Reads as image-length-rea
 use Rattle.answers.proofs.passes.play.Reads as play-reads
 
 image-length-requires : tie.Need-image-length-requires
-image-length-requires c κs = total-fits _ (c .before .before .before .before .before .pre .sound .within .plate)
+image-length-requires c κs = total-fits _ (c .before .before .before .before .before .pre .playable .sound .within .plate)
 
 slice-relend-prefix-play : tie.Need-slice-relend-prefix-play
 slice-relend-prefix-play c = in-front _ _ _ _ _ _ _ _ _ _ _ (c .before .image-length .ensures) (c .before .before .before .before .before .before .before .pre)
@@ -23,10 +23,10 @@ slice-aggregate-play : tie.Need-slice-aggregate-play
 slice-aggregate-play c = sym (length-take-le _ _ (in-front _ _ _ _ _ _ _ _ _ _ _ (c .before .before .image-length .ensures) (c .before .before .before .before .before .before .before .before .pre)))
 
 play-requires : tie.Need-play-requires
-play-requires c κs = let a = c .before .before .before .before .before .before .before .before .before .before .pre in (rw (c .before .before .before .before .image-length .ensures) (a .sound), (a .starts, a .space, a .places))
+play-requires c κs = rw (c .before .before .before .before .image-length .ensures) (c .before .before .before .before .before .before .before .before .before .before .pre .playable)
 
 after-pass-requires : tie.Need-after-pass-requires
-after-pass-requires c κs = omega (arith, c .before .before .before .before .before .before .before .before .play .ensures .inside, c .before .before .before .before .before .before .before .before .before .before .before .before .before .before .before .before .before .before .before .pre .places)
+after-pass-requires c κs = omega (arith, c .before .before .before .before .before .before .before .before .play .ensures .inside, c .before .before .before .before .before .before .before .before .before .before .before .before .before .before .before .before .before .before .before .pre .playable .places)
 
 same-length : tie.Need-same-length
 same-length c = search needs

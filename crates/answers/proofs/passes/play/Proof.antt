@@ -16,16 +16,16 @@ use Rattle.turns.proofs.turn.Reads as turn-reads
 use Rattle.turns.proofs.hear.Reads as hear-reads
 
 abbrev Inv-loop : tie.InvT-loop
-Inv-loop plate place window from kept₀ memory₀ reply₀ out₀ start state₀ frame₀ at₀ used₀ kept memory reply out state frame at used =
+Inv-loop plate place window from kept₀ memory₀ reply₀ out₀ start board₀ at₀ used₀ kept memory reply out board at used =
     (length kept ≡ length kept₀) × (length memory ≡ length memory₀) × (length reply ≡ length reply₀) × (length out ≡ length out₀)
-    × Going plate place window from kept₀ memory₀ reply₀ out₀ start state₀ frame₀ kept memory reply out state frame at used
+    × Going plate place window from kept₀ memory₀ reply₀ out₀ start (board₀ .state) (board₀ .frame) kept memory reply out (board .state) (board .frame) at used
 
 abbrev μ-loop : tie.MeasureT-loop
-μ-loop plate place window from kept₀ memory₀ reply₀ out₀ start state₀ frame₀ at₀ used₀ kept memory reply out state frame at used =
+μ-loop plate place window from kept₀ memory₀ reply₀ out₀ start board₀ at₀ used₀ kept memory reply out board at used =
     length window - at
 
 loop-holds : tie.Need-loop-holds Inv-loop μ-loop
-loop-holds c = let a = c .before .before .before .before .before .before .before .pre in (refl, refl, refl, refl, begins _ _ _ _ _ _ _ _ _ _ _ (a .0) (a .1 .0) (a .1 .1))
+loop-holds c = (refl, refl, refl, refl, begins _ _ _ _ _ _ _ _ _ _ (c .before .before .before .before .before .pre))
 
 sub-if1 : tie.Need-sub-if1 Inv-loop μ-loop
 sub-if1 c = let v = c .loop .inv in omega (arith, v .4 .printed .within, v .3)
@@ -78,8 +78,8 @@ returns-2 c = halts-more (c .before .before .before .before .before .loop .inv .
 quick-requires : tie.Need-quick-requires Inv-loop μ-loop
 quick-requires c κs = let w = c .before .before .before .before .before .before .loop .inv .4 .sound .within in record { few = w .few; all = w .places }
 
-enum-known-more : tie.Need-enum-known-more Inv-loop μ-loop
-enum-known-more c = search needs
+enum-known-frame : tie.Need-enum-known-frame Inv-loop μ-loop
+enum-known-frame c = search needs
 
 enum-told-2 : tie.Need-enum-told-2 Inv-loop μ-loop
 enum-told-2 c = search needs
@@ -94,34 +94,34 @@ halt-requires-3 : tie.Need-halt-requires-3 Inv-loop μ-loop
 halt-requires-3 c κs = search needs
 
 same-length-9 : tie.Need-same-length-9 Inv-loop μ-loop
-same-length-9 c = c .before .before .before .before .before .before .before .before .before .before .before .before .turn .kept .1 .1 .1 .1 .0 ∙ c .before .before .before .before .before .before .before .before .before .before .before .before .before .before .before .before .before .before .before .before .before .quick .kept .1 .1 .1 .0 ∙ c .before .before .before .before .before .before .before .before .before .before .before .before .before .before .before .before .before .before .before .before .before .before .before .before .before .before .before .before .loop .inv .0
+same-length-9 c = c .before .before .before .before .before .before .before .before .before .before .before .turn .kept .1 .1 .1 .1 .0 ∙ c .before .before .before .before .before .before .before .before .before .before .before .before .before .before .before .before .before .before .before .before .quick .kept .1 .1 .1 .0 ∙ c .before .before .before .before .before .before .before .before .before .before .before .before .before .before .before .before .before .before .before .before .before .before .before .before .before .before .before .loop .inv .0
 
 same-length-10 : tie.Need-same-length-10 Inv-loop μ-loop
-same-length-10 c = c .before .before .before .before .before .before .before .before .before .before .before .before .turn .kept .1 .1 .1 .1 .1 .0 ∙ c .before .before .before .before .before .before .before .before .before .before .before .before .before .before .before .before .before .before .before .before .before .before .before .before .before .before .before .before .loop .inv .1
+same-length-10 c = c .before .before .before .before .before .before .before .before .before .before .before .turn .kept .1 .1 .1 .1 .1 .0 ∙ c .before .before .before .before .before .before .before .before .before .before .before .before .before .before .before .before .before .before .before .before .before .before .before .before .before .before .before .loop .inv .1
 
 same-length-11 : tie.Need-same-length-11 Inv-loop μ-loop
-same-length-11 c = c .before .before .before .before .before .before .before .before .before .before .before .before .turn .kept .1 .1 .1 .1 .1 .1 .0 ∙ c .before .before .before .before .before .before .before .before .before .before .before .before .before .before .before .before .before .before .before .before .before .before .before .before .before .before .before .before .loop .inv .2
+same-length-11 c = c .before .before .before .before .before .before .before .before .before .before .before .turn .kept .1 .1 .1 .1 .1 .1 .0 ∙ c .before .before .before .before .before .before .before .before .before .before .before .before .before .before .before .before .before .before .before .before .before .before .before .before .before .before .before .loop .inv .2
 
 same-length-12 : tie.Need-same-length-12 Inv-loop μ-loop
-same-length-12 c = c .before .before .before .before .before .before .before .before .before .before .before .before .turn .kept .1 .1 .1 .1 .1 .1 .1 .0 ∙ c .before .before .before .before .before .before .before .before .before .before .before .before .before .before .before .before .before .before .before .before .before .before .before .before .before .before .before .before .loop .inv .3
+same-length-12 c = c .before .before .before .before .before .before .before .before .before .before .before .turn .kept .1 .1 .1 .1 .1 .1 .1 .0 ∙ c .before .before .before .before .before .before .before .before .before .before .before .before .before .before .before .before .before .before .before .before .before .before .before .before .before .before .before .loop .inv .3
 
 returns-3 : tie.Need-returns-3 Inv-loop μ-loop
-returns-3 c = turn-ends (c .before .before .before .before .before .before .before .before .before .before .before .before .before .before .before .before .before .before .before .before .before .before .before .before .before .before .before .before .loop .inv .4) _ _ (slow-keeps _ _ _ _ _ _ (c .before .before .before .before .before .before .before .before .before .before .before .before .before .before .before .before .before .before .before .before .before .quick .ensures) (c .before .before .before .before .before .before .before .before .before .before .before .before .before .before .before .before .before .enum-told2 .given .1)) (c .before .before .before .before .before .before .before .before .before .before .before .before .before .before .before .before .before .before .before .before .before .before .before .before .before .before .before .if1 .left) (sym (hears-as _ _ _ _ (c .before .before .before .before .before .before .before .before .before .before .before .before .before .before .before .before .before .before .before .before .before .before .before .before .before .before .hear .ensures) (c .before .before .before .before .before .before .before .before .before .before .before .before .before .before .before .before .before .before .before .before .before .before .before .before .event .given .1) .heard)) (c .before .before .before .before .before .before .before .before .before .before .before .before .turn .ensures) _ (c .before .if2 .taken) (c .halt3 .ensures)
+returns-3 c = turn-ends (c .before .before .before .before .before .before .before .before .before .before .before .before .before .before .before .before .before .before .before .before .before .before .before .before .before .before .before .loop .inv .4) _ _ (slow-keeps _ _ _ _ _ _ (c .before .before .before .before .before .before .before .before .before .before .before .before .before .before .before .before .before .before .before .before .quick .ensures) (c .before .before .before .before .before .before .before .before .before .before .before .before .before .before .before .before .enum-told2 .given .1)) (c .before .before .before .before .before .before .before .before .before .before .before .before .before .before .before .before .before .before .before .before .before .before .before .before .before .before .if1 .left) (sym (hears-as _ _ _ _ (c .before .before .before .before .before .before .before .before .before .before .before .before .before .before .before .before .before .before .before .before .before .before .before .before .before .hear .ensures) (c .before .before .before .before .before .before .before .before .before .before .before .before .before .before .before .before .before .before .before .before .before .before .before .event .given .1) .heard)) (c .before .before .before .before .before .before .before .before .before .before .before .turn .ensures) _ (c .before .if2 .taken) (c .halt3 .ensures)
 
 loop-less : tie.Need-loop-less Inv-loop μ-loop
-loop-less c = let n = quiet-past (c .before .before .before .before .before .before .before .before .before .before .before .before .loop .inv .4) _ _ (rw (c .before .more .given .1) at (c .before .before .before .before .before .quick .ensures)) (hears-as _ _ _ _ (c .before .before .before .before .before .before .before .before .before .before .hear .ensures) (c .before .before .before .before .before .before .before .before .event .given .1) .next) in omega (arith, n .onward, n .inside)
+loop-less c = let n = quiet-past (c .before .before .before .before .before .before .before .before .before .before .before .before .loop .inv .4) _ _ (rw (c .before .frame .given .1) at (c .before .before .before .before .before .quick .ensures)) (hears-as _ _ _ _ (c .before .before .before .before .before .before .before .before .before .before .hear .ensures) (c .before .before .before .before .before .before .before .before .event .given .1) .next) in omega (arith, n .onward, n .inside)
 
 loop-again : tie.Need-loop-again Inv-loop μ-loop
 loop-again c = let v = c .before .before .before .before .before .before .before .before .before .before .before .before .loop .inv in
-    (c .before .before .before .before .before .quick .kept .1 .1 .1 .0 ∙ v .0, v .1, v .2, v .3, quiet-goes (v .4) _ _ (c .before .before .before .before .before .before .before .before .before .before .before .if1 .left) (sym (hears-as _ _ _ _ (c .before .before .before .before .before .before .before .before .before .before .hear .ensures) (c .before .before .before .before .before .before .before .before .event .given .1) .heard)) (rw (c .before .more .given .1) at (c .before .before .before .before .before .quick .ensures)) (hears-as _ _ _ _ (c .before .before .before .before .before .before .before .before .before .before .hear .ensures) (c .before .before .before .before .before .before .before .before .event .given .1) .next))
+    (c .before .before .before .before .before .quick .kept .1 .1 .1 .0 ∙ v .0, v .1, v .2, v .3, quiet-goes (v .4) _ _ (c .before .before .before .before .before .before .before .before .before .before .before .if1 .left) (sym (hears-as _ _ _ _ (c .before .before .before .before .before .before .before .before .before .before .hear .ensures) (c .before .before .before .before .before .before .before .before .event .given .1) .heard)) (rw (c .before .frame .given .1) at (c .before .before .before .before .before .quick .ensures)) (hears-as _ _ _ _ (c .before .before .before .before .before .before .before .before .before .before .hear .ensures) (c .before .before .before .before .before .before .before .before .event .given .1) .next))
 
 loop-less-2 : tie.Need-loop-less-2 Inv-loop μ-loop
-loop-less-2 c = let n = turn-past (c .before .before .before .before .before .before .before .before .before .before .before .before .before .before .before .before .before .before .before .before .before .before .before .before .before .before .before .loop .inv .4) _ _ (slow-keeps _ _ _ _ _ _ (c .before .before .before .before .before .before .before .before .before .before .before .before .before .before .before .before .before .before .before .before .quick .ensures) (c .before .before .before .before .before .before .before .before .before .before .before .before .before .before .before .before .enum-told2 .given .1)) (c .before .before .before .before .before .before .before .before .before .before .before .before .before .before .before .before .before .before .before .before .before .before .before .before .before .before .if1 .left) (sym (hears-as _ _ _ _ (c .before .before .before .before .before .before .before .before .before .before .before .before .before .before .before .before .before .before .before .before .before .before .before .before .before .hear .ensures) (c .before .before .before .before .before .before .before .before .before .before .before .before .before .before .before .before .before .before .before .before .before .before .before .event .given .1) .heard)) (c .before .before .before .before .before .before .before .before .before .before .before .turn .ensures) _ (c .if2 .left) (hears-as _ _ _ _ (c .before .before .before .before .before .before .before .before .before .before .before .before .before .before .before .before .before .before .before .before .before .before .before .before .before .hear .ensures) (c .before .before .before .before .before .before .before .before .before .before .before .before .before .before .before .before .before .before .before .before .before .before .before .event .given .1) .next) in omega (arith, n .onward, n .inside)
+loop-less-2 c = let n = turn-past (c .before .before .before .before .before .before .before .before .before .before .before .before .before .before .before .before .before .before .before .before .before .before .before .before .before .before .loop .inv .4) _ _ (slow-keeps _ _ _ _ _ _ (c .before .before .before .before .before .before .before .before .before .before .before .before .before .before .before .before .before .before .before .quick .ensures) (c .before .before .before .before .before .before .before .before .before .before .before .before .before .before .before .enum-told2 .given .1)) (c .before .before .before .before .before .before .before .before .before .before .before .before .before .before .before .before .before .before .before .before .before .before .before .before .before .if1 .left) (sym (hears-as _ _ _ _ (c .before .before .before .before .before .before .before .before .before .before .before .before .before .before .before .before .before .before .before .before .before .before .before .before .hear .ensures) (c .before .before .before .before .before .before .before .before .before .before .before .before .before .before .before .before .before .before .before .before .before .before .event .given .1) .heard)) (c .before .before .before .before .before .before .before .before .before .before .turn .ensures) _ (c .if2 .left) (hears-as _ _ _ _ (c .before .before .before .before .before .before .before .before .before .before .before .before .before .before .before .before .before .before .before .before .before .before .before .before .hear .ensures) (c .before .before .before .before .before .before .before .before .before .before .before .before .before .before .before .before .before .before .before .before .before .before .event .given .1) .next) in omega (arith, n .onward, n .inside)
 
 loop-again-2 : tie.Need-loop-again-2 Inv-loop μ-loop
-loop-again-2 c = let v = c .before .before .before .before .before .before .before .before .before .before .before .before .before .before .before .before .before .before .before .before .before .before .before .before .before .before .before .loop .inv in
-    let w = c .before .before .before .before .before .before .before .before .before .before .before .turn .kept in
-    (w .1 .1 .1 .1 .0 ∙ c .before .before .before .before .before .before .before .before .before .before .before .before .before .before .before .before .before .before .before .before .quick .kept .1 .1 .1 .0 ∙ v .0, w .1 .1 .1 .1 .1 .0 ∙ v .1, w .1 .1 .1 .1 .1 .1 .0 ∙ v .2, w .1 .1 .1 .1 .1 .1 .1 .0 ∙ v .3, turn-goes (v .4) _ _ (slow-keeps _ _ _ _ _ _ (c .before .before .before .before .before .before .before .before .before .before .before .before .before .before .before .before .before .before .before .before .quick .ensures) (c .before .before .before .before .before .before .before .before .before .before .before .before .before .before .before .before .enum-told2 .given .1)) (c .before .before .before .before .before .before .before .before .before .before .before .before .before .before .before .before .before .before .before .before .before .before .before .before .before .before .if1 .left) (sym (hears-as _ _ _ _ (c .before .before .before .before .before .before .before .before .before .before .before .before .before .before .before .before .before .before .before .before .before .before .before .before .before .hear .ensures) (c .before .before .before .before .before .before .before .before .before .before .before .before .before .before .before .before .before .before .before .before .before .before .before .event .given .1) .heard)) (c .before .before .before .before .before .before .before .before .before .before .before .turn .ensures) _ (c .if2 .left) (hears-as _ _ _ _ (c .before .before .before .before .before .before .before .before .before .before .before .before .before .before .before .before .before .before .before .before .before .before .before .before .before .hear .ensures) (c .before .before .before .before .before .before .before .before .before .before .before .before .before .before .before .before .before .before .before .before .before .before .before .event .given .1) .next))
+loop-again-2 c = let v = c .before .before .before .before .before .before .before .before .before .before .before .before .before .before .before .before .before .before .before .before .before .before .before .before .before .before .loop .inv in
+    let w = c .before .before .before .before .before .before .before .before .before .before .turn .kept in
+    (w .1 .1 .1 .1 .0 ∙ c .before .before .before .before .before .before .before .before .before .before .before .before .before .before .before .before .before .before .before .quick .kept .1 .1 .1 .0 ∙ v .0, w .1 .1 .1 .1 .1 .0 ∙ v .1, w .1 .1 .1 .1 .1 .1 .0 ∙ v .2, w .1 .1 .1 .1 .1 .1 .1 .0 ∙ v .3, turn-goes (v .4) _ _ (slow-keeps _ _ _ _ _ _ (c .before .before .before .before .before .before .before .before .before .before .before .before .before .before .before .before .before .before .before .quick .ensures) (c .before .before .before .before .before .before .before .before .before .before .before .before .before .before .before .enum-told2 .given .1)) (c .before .before .before .before .before .before .before .before .before .before .before .before .before .before .before .before .before .before .before .before .before .before .before .before .before .if1 .left) (sym (hears-as _ _ _ _ (c .before .before .before .before .before .before .before .before .before .before .before .before .before .before .before .before .before .before .before .before .before .before .before .before .hear .ensures) (c .before .before .before .before .before .before .before .before .before .before .before .before .before .before .before .before .before .before .before .before .before .before .event .given .1) .heard)) (c .before .before .before .before .before .before .before .before .before .before .turn .ensures) _ (c .if2 .left) (hears-as _ _ _ _ (c .before .before .before .before .before .before .before .before .before .before .before .before .before .before .before .before .before .before .before .before .before .before .before .before .hear .ensures) (c .before .before .before .before .before .before .before .before .before .before .before .before .before .before .before .before .before .before .before .before .before .before .event .given .1) .next))
 
 pub play-spec : {M : Type 1} → statement M
 play-spec =
@@ -147,7 +147,7 @@ play-spec =
     same-length-8
     returns-2
     quick-requires
-    enum-known-more
+    enum-known-frame
     enum-told-2
     add-here
     turn-requires
