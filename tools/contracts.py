@@ -17,7 +17,7 @@ ROOT = os.path.dirname(os.path.dirname(os.path.abspath(__file__)))
 TABLE = os.path.join(ROOT, "docs", "CONTRACTS.md")
 IMPL = re.compile(r"^impl (\w+) \{")
 # What only the test programs call: it prints, and is run and compared.
-TEST_LIBRARIES = ["script", "desk", "trial"]
+TEST_LIBRARIES = ["script", "desk", "trial", "verdicts"]
 FUNCTION = re.compile(r"^(\s*)pub (extern \"C\" )?fn (\w+)")
 PASSED_ON = re.compile(r"^pub use (\w+)::(\w+);")
 LAW = re.compile(r"^\s*(?:pub )?([a-z0-9-]+)(?: \{\S+\})? :", re.M)

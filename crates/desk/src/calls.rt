@@ -13,9 +13,9 @@ fn is_character(sign: u8) -> bool {
     }
 }
 
-fn is_poll(sign: u8) -> bool {
+fn is_lent(sign: u8) -> bool {
     match sign {
-        b'?' | b'.' | b',' => true,
+        b'>' | b'!' | b'?' | b'.' | b',' => true,
         _ => false,
     }
 }
@@ -41,7 +41,26 @@ fn told(sign: u8, number: u32, plate: Plate, board: Board) -> Stepped {
     }
 }
 
-// One word: a character, for ! with a parity fault; a poll; or what lends nothing.
+// A character, for ! with a parity fault, or a poll.
+fn lent(
+    sign: u8,
+    number: u32,
+    tick: u32,
+    plate: Plate,
+    board: Board,
+    kept: &mut [u8],
+    memory: &mut [u8],
+    room: &mut [u8],
+) -> Stepped {
+    if is_character(sign) {
+        let value = (number % 256) as u8;
+        let parity = sign == b'!';
+        return board::character(plate, board, tick, value, parity, kept, memory, room);
+    }
+    board::poll(plate, board, moment(sign, tick), kept, memory, room)
+}
+
+// What a word asks of the board; the clock is at @.
 pub fn act(
     sign: u8,
     numbers: &[u32; 256],
@@ -52,14 +71,17 @@ pub fn act(
 ) -> Stepped {
     let plate = plate_of(numbers);
     let number = numbers[sign as usize];
-    let tick = numbers[0x40];
-    if is_character(sign) {
-        let value = (number % 256) as u8;
-        let parity = sign == b'!';
-        return board::character(plate, board, tick, value, parity, kept, memory, room);
-    }
-    if is_poll(sign) {
-        return board::poll(plate, board, moment(sign, tick), kept, memory, room);
+    if is_lent(sign) {
+        return lent(
+            sign,
+            number,
+            numbers[0x40],
+            plate,
+            board,
+            kept,
+            memory,
+            room,
+        );
     }
     told(sign, number, plate, placed(sign, numbers, board))
 }

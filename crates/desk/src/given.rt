@@ -5,7 +5,7 @@ use commands::State;
 use line::Frame;
 use line::Plate;
 
-// T, P, node, unit, gap: total blocks, position bits, address, ticks a bit, pause.
+// The numbers at T, P, N, U and G: total blocks, position bits, address, ticks a bit, pause.
 pub fn plate_of(numbers: &[u32; 256]) -> Plate {
     Plate {
         total: numbers[0x54],
@@ -53,7 +53,7 @@ fn given(counter: u32, offset: u32, queue: u32, bytes: u32) -> Board {
     }
 }
 
-// f and g place another board on the desk.
+// f and g place another board on the desk: a fresh one, or one of the numbers at c, o, q and b.
 pub fn placed(sign: u8, numbers: &[u32; 256], board: Board) -> Board {
     match sign {
         b'f' => fresh(numbers),

@@ -1,121 +1,8 @@
 // Dialogues of the bench with the board, told line by line: the example of document 002, the pallet night, and others on the bus.
-use bench::Verdict;
+ghost use Prim.Native.Nat.{_≤_};
 use board::Board;
-use exchange::Ended;
 use line::Plate;
-
-// The board on the desk, and the tick of the next request's first character.
-struct Desk {
-    board: Board,
-    tick: u32,
-}
-
-fn say(text: &[u8]) {
-    io::write_all(1, text);
-}
-
-fn digit(n: u8) -> u8 {
-    if n < 10 {
-        return 0x30 + n;
-    }
-    if n < 16 {
-        return 0x37 + n;
-    }
-    0x3F
-}
-
-fn say_byte(byte: u8) {
-    let text = [0x20, digit(byte / 16), digit(byte % 16)];
-    io::write_all(1, &text);
-}
-
-// The first n bytes.
-fn say_bytes(bytes: &[u8], n: usize) {
-    let mut i = 0;
-    while i < n {
-        if i < bytes.len() {
-            say_byte(bytes[i]);
-        }
-        i += 1;
-    }
-}
-
-fn check_number(why: bench::Refusal) -> u8 {
-    match why {
-        bench::Refusal::B0 => 0x30,
-        bench::Refusal::B1 => 0x31,
-        bench::Refusal::B2 => 0x32,
-        bench::Refusal::B3 => 0x33,
-        bench::Refusal::B4 => 0x34,
-        bench::Refusal::B5 => 0x35,
-        bench::Refusal::B6 => 0x36,
-    }
-}
-
-fn say_check(why: bench::Refusal) {
-    say(b"refused B");
-    let text = [check_number(why)];
-    io::write_all(1, &text);
-}
-
-fn say_verdict(verdict: Verdict) {
-    match verdict {
-        Verdict::Done => say(b"done"),
-        Verdict::DoneWithWarning => say(b"done with warning"),
-        Verdict::Error(code) => {
-            say(b"error code");
-            say_byte(code);
-        }
-        Verdict::ErrorWithWarning(code) => {
-            say(b"error code");
-            say_byte(code);
-            say(b" with warning");
-        }
-        Verdict::Refused(why) => say_check(why),
-    }
-}
-
-fn say_refusal(why: exchange::Refusal) {
-    match why {
-        exchange::Refusal::R1 => say(b"R1"),
-        exchange::Refusal::R2 => say(b"R2"),
-        exchange::Refusal::R3 => say(b"R3"),
-        exchange::Refusal::R4 => say(b"R4"),
-        exchange::Refusal::R5 => say(b"R5"),
-        exchange::Refusal::FrameOpen => say(b"a frame is open"),
-        exchange::Refusal::TooSlow => say(b"too slow"),
-    }
-}
-
-fn say_reply(room: &[u8], reply: usize) {
-    if reply == 0 {
-        say(b", silence");
-        return;
-    }
-    say(b", reply");
-    say_bytes(room, reply);
-}
-
-fn say_ended(ended: Ended, request: &[u8], room: &[u8]) {
-    match ended {
-        Ended::Heard {
-            request: sent,
-            reply,
-            verdict,
-        } => {
-            say(b"request");
-            say_bytes(request, sent);
-            say_reply(room, reply);
-            say(b": ");
-            say_verdict(verdict);
-        }
-        Ended::Refused(why) => {
-            say(b"not sent: ");
-            say_refusal(why);
-        }
-    }
-    say(b"\n");
-}
+use script::Script;
 
 // Address 0, pause 55, 4 ticks a bit, 24 position bits, 8 blocks.
 fn plate() -> Plate {
@@ -128,144 +15,191 @@ fn plate() -> Plate {
     }
 }
 
-// The tick count wraps around within the first request.
-fn fresh_desk() -> Desk {
-    Desk {
-        board: board::fresh(plate()),
-        tick: 0xFFFFFFF0,
-    }
-}
-
-// One request and what came of it, as a line. A character has 11 bits, 44 ticks; the next request comes some time after.
-fn ask_at(
-    desk: Desk,
+// One request and what came of it. A character has 11 bits, 44 ticks.
+fn ask(
+    board: Board,
+    tick: u32,
     address: u32,
-    command: u8,
-    body: &[u8],
+    bytes: &[u8],
+    count: usize,
     kept: &mut [u8; 135],
     memory: &mut [u8; 136],
-) -> Desk {
+) -> Board {
+    if count < 1 {
+        return board;
+    }
+    if bytes.len() < count {
+        return board;
+    }
     let mut request = [0u8; 135];
     let mut room = [0u8; 134];
-    let board = desk.board;
     let passed = exchange::exchange(
         plate(),
         board,
         address,
-        command,
-        body,
-        desk.tick,
+        bytes[0],
+        &bytes[1..count],
+        tick,
         44,
         &mut request,
         kept,
         memory,
         &mut room,
     );
-    let next = passed.board;
     let ended = passed.ended;
-    say_ended(ended, &request, &room);
-    Desk {
-        board: next,
-        tick: line::stamp_after(desk.tick, 20000),
-    }
-}
-
-fn ask(desk: Desk, command: u8, body: &[u8], kept: &mut [u8; 135], memory: &mut [u8; 136]) -> Desk {
-    ask_at(desk, 0, command, body, kept, memory)
+    verdicts::say_ended(ended, &request, &room);
+    passed.board
 }
 
 // 01, "The host notes codes".
-fn note(desk: Desk, code: u8) -> Desk {
-    let board = desk.board;
-    let tick = desk.tick;
+fn note(board: Board, code: u8) -> Board {
     let stepped = board::fault(plate(), board, code);
-    let noted = stepped.board;
-    Desk { board: noted, tick }
+    stepped.board
+}
+
+// The request's command and data, word by word; the end of its line empties it.
+fn gathered(sign: u8, number: u32, bytes: &mut [u8; 16], count: usize) -> usize
+    ensures { λ r. ⌜ r ≤ 16 ⌝ }
+{
+    if sign == b'.' {
+        return 0;
+    }
+    if 15 < count {
+        return 16;
+    }
+    if sign != b'>' {
+        return count;
+    }
+    bytes[count] = (number % 256) as u8;
+    count + 1
+}
+
+// The next request comes some time after.
+fn later(sign: u8, tick: u32) -> u32 {
+    if sign == b'.' {
+        return line::stamp_after(tick, 20000);
+    }
+    tick
+}
+
+// A request at the end of its line, to the address at N, or the code at n noted.
+fn turn(
+    board: Board,
+    sign: u8,
+    tick: u32,
+    numbers: &[u32; 256],
+    bytes: &[u8; 16],
+    count: usize,
+    kept: &mut [u8; 135],
+    memory: &mut [u8; 136],
+) -> Board {
+    if sign == b'n' {
+        return note(board, (numbers[0x6E] % 256) as u8);
+    }
+    if sign != b'.' {
+        return board;
+    }
+    ask(board, tick, numbers[0x4E], bytes, count, kept, memory)
+}
+
+// The words of a script, one after the other, at a fresh board. The tick count wraps around within the first request.
+fn play(text: &[u8]) {
+    let mut script = Script::start();
+    let mut numbers = [0u32; 256];
+    let mut bytes = [0u8; 16];
+    let mut count: usize = 0;
+    let mut kept = [0u8; 135];
+    let mut memory = [0u8; 136];
+    let mut board = board::fresh(plate());
+    let mut tick = 0xFFFFFFF0u32;
+    let mut left: u32 = 4096;
+    while 0 < left {
+        left -= 1;
+        if text.len() <= script.at {
+            return;
+        }
+        script = script.next(text);
+        let sign = script.said;
+        let number = script.number;
+        numbers[sign as usize] = number;
+        board = turn(
+            board,
+            sign,
+            tick,
+            &numbers,
+            &bytes,
+            count,
+            &mut kept,
+            &mut memory,
+        );
+        let mut nowhere = [0u8; 1];
+        script::aside(sign, number, 0, &mut nowhere);
+        count = gathered(sign, number, &mut bytes, count);
+        tick = later(sign, tick);
+    }
 }
 
 // 002, "Example: Data Field Definition". Its checksum 69 in the third request is a misprint for B9.
-fn definition(desk: Desk, kept: &mut [u8; 135], memory: &mut [u8; 136]) -> Desk {
-    let mut d = ask(desk, 0x4E, b"", kept, memory);
-    d = ask(d, 0x4D, b"\x00\xC9\x55", kept, memory);
-    d = ask(d, 0x4D, b"\x01\xE0\x55", kept, memory);
-    d = ask(d, 0x4F, b"\x02\x55\x66", kept, memory);
-    ask(d, 0x4B, b"\x01\x05\x02\x66\x08\x15", kept, memory)
-}
-
 fn example() {
-    say(b"Document 002, data field definition\n");
-    let mut kept = [0u8; 135];
-    let mut memory = [0u8; 136];
-    definition(fresh_desk(), &mut kept, &mut memory);
-}
-
-// The label field is made, of all eight blocks.
-fn label_made(desk: Desk, kept: &mut [u8; 135], memory: &mut [u8; 136]) -> Desk {
-    let mut d = ask(desk, 0x4E, b"", kept, memory);
-    d = ask(d, 0x4D, b"\x00\xC7\x55", kept, memory);
-    ask(d, 0x4E, b"", kept, memory)
-}
-
-// It is cut to two: six come back.
-fn label_cut(desk: Desk, kept: &mut [u8; 135], memory: &mut [u8; 136]) -> Desk {
-    let d = ask(desk, 0x4D, b"\x00\xC1\x55", kept, memory);
-    ask(d, 0x4E, b"", kept, memory)
-}
-
-// Seven blocks are one too many for the second field; it takes the six.
-fn second_made(desk: Desk, kept: &mut [u8; 135], memory: &mut [u8; 136]) -> Desk {
-    let mut d = ask(desk, 0x4D, b"\x01\xC6\x55", kept, memory);
-    d = ask(d, 0x4D, b"\x01\xC5\x55", kept, memory);
-    ask(d, 0x4E, b"", kept, memory)
-}
-
-// Pole pairs 4, offset angle 300, gain 1500, lag 180, two bytes each: blank before, stored, read back.
-fn commutation(desk: Desk, kept: &mut [u8; 135], memory: &mut [u8; 136]) -> Desk {
-    let mut d = ask(desk, 0x4A, b"\x01\x00\x08\x55", kept, memory);
-    d = ask(
-        d,
-        0x4B,
-        b"\x01\x00\x08\x55\x00\x04\x01\x2C\x05\xDC\x00\xB4",
-        kept,
-        memory,
+    play(
+        b"=Document 002, data field definition
+# the memory is blank
+4E .
+# field 0, of two blocks; field 1, of one, under code 2
+4D 00 C9 55 .
+4D 01 E0 55 .
+# code 2 is 66h now
+4F 02 55 66 .
+# two bytes stored in field 1, from byte 5 on
+4B 01 05 02 66 08 15 .
+",
     );
-    d = ask(d, 0x4A, b"\x01\x00\x08\x55", kept, memory);
-    ask(d, 0x4E, b"", kept, memory)
 }
 
+// Pole pairs 4, offset angle 300, gain 1500, lag 180, two bytes each.
 fn pallet_night() {
-    say(b"The pallet night\n");
-    let mut kept = [0u8; 135];
-    let mut memory = [0u8; 136];
-    let mut d = fresh_desk();
-    d = label_made(d, &mut kept, &mut memory);
-    d = label_cut(d, &mut kept, &mut memory);
-    d = second_made(d, &mut kept, &mut memory);
-    commutation(d, &mut kept, &mut memory);
-}
-
-// Broadcast; another board's address; one that is none.
-fn addresses(desk: Desk, kept: &mut [u8; 135], memory: &mut [u8; 136]) -> Desk {
-    let mut d = ask_at(desk, 255, 0x4E, b"", kept, memory);
-    d = ask_at(d, 1, 0x4E, b"", kept, memory);
-    ask_at(d, 32, 0x4E, b"", kept, memory)
-}
-
-// While a code waits every reply warns; 50h fetches it. 53h has no reply.
-fn warnings(desk: Desk, kept: &mut [u8; 135], memory: &mut [u8; 136]) -> Desk {
-    let mut d = note(desk, 0x1E);
-    d = ask(d, 0x46, b"", kept, memory);
-    d = ask(d, 0x4C, b"\x05", kept, memory);
-    d = ask(d, 0x50, b"", kept, memory);
-    ask(d, 0x53, b"", kept, memory)
+    play(
+        b"=The pallet night
+# the label field is made, of all eight blocks
+4E .
+4D 00 C7 55 .
+4E .
+# it is cut to two: six come back
+4D 00 C1 55 .
+4E .
+# seven are one too many for the second field
+4D 01 C6 55 .
+# it takes the six
+4D 01 C5 55 .
+4E .
+# the commutation data: blank, stored, read back
+4A 01 00 08 55 .
+4B 01 00 08 55 00 04 01 2C 05 DC 00 B4 .
+4A 01 00 08 55 .
+4E .
+",
+    );
 }
 
 fn others() {
-    say(b"Others on the bus\n");
-    let mut kept = [0u8; 135];
-    let mut memory = [0u8; 136];
-    let d = addresses(fresh_desk(), &mut kept, &mut memory);
-    warnings(d, &mut kept, &mut memory);
+    play(
+        b"=Others on the bus
+# broadcast
+Node255 4E .
+# another board's address
+Node1 4E .
+# one that is none
+Node32 4E .
+# while a code waits every reply warns
+note1E
+Node0 46 .
+4C 05 .
+# 50h fetches it
+50 .
+# 53h has no reply
+53 .
+",
+    );
 }
 
 fn main() {

@@ -73,9 +73,9 @@ fn worked_example() {
 =example of 002
 # 002, \"Example: Data Field Definition\": eight blocks free, no field.
 40 4E 0E .
-# Field 0: ten bytes wide, status C9.
+# Field 0, of two blocks, under code 0.
 40 4D 00 C9 55 91 .
-# Field 1, status E0, with the checksum of 002's third request mended.
+# Field 1, of one block, of code 2, with the checksum of 002's third request mended.
 40 4D 01 E0 55 B9 .
 # Code 2 set from 55h to 66h.
 40 4F 02 55 66 3E .

@@ -1,8 +1,18 @@
-// A script is played to a board, and what comes of it is printed.
+// A script is played to a board, and what comes of it is printed. Its words:
+//   # and =        a comment, a title to print: to the end of the line
+//   40 !40 +       a character; one with a parity fault; the checksum of the characters since the last pause
+//   @219 ? /       the clock's tick; a poll at it; the end of the printed line
+//   . ,            a poll a long pause after tick 0, with the end of the printed line; the same with nothing printed
+//   T112 P24 Node0 Unit4 Gap55   the plate: blocks, position bits, address, ticks a bit, pause
+//   fresh          a fresh board; given: one with the numbers of counter, offset, queue (four codes) and bytes (kept)
+//   measured5 note22 up          a measured position, a code that the host notes, power-on
+//   &80 w00 s80    a place in memory, a byte set there; a byte of memory shown
+//   [ .. X112 ]    repeated so many times; % is the turn, from 0 on
+// Letters behind a sign say nothing. Numbers are hexadecimal, behind @ and the capital letters decimal.
 use board::Board;
 use script::Script;
 
-// One word, and what comes of it printed.
+// One word, and what comes of it printed; & is at 26h.
 fn turn(
     sign: u8,
     numbers: &[u32; 256],
