@@ -1,9 +1,8 @@
 // The frames of the bench sheet (01) and the worked example of 002, run; what comes back is compared with the stored output.
-use trial::play_8;
-use trial::play_112;
+use trial::play;
 
 fn frames() {
-    play_112(
+    play(
         b"T112 P24 Node0 Unit4 Gap55 fresh
 =memory status
 # 01: \"40 4E 0E\": 70h blocks free, no field.
@@ -21,11 +20,12 @@ fresh
 # The same with its own checksum.
 40 4D 01 E0 55 B9 .
 ",
+        112,
     );
 }
 
 fn eight_blocks() {
-    play_8(
+    play(
         b"T8 P24 Node0 Unit4 Gap55 fresh
 =eight blocks
 # 01: all eight blocks granted; none free, one field.
@@ -39,11 +39,12 @@ fn eight_blocks() {
 # Six granted.
 40 4D 01 C5 55 9C .
 ",
+        8,
     );
 }
 
 fn numbers() {
-    play_112(
+    play(
         b"T112 P24 Node0 Unit4 Gap55 fresh
 =faulty
 # 01: a wrong checksum, 0Ah.
@@ -64,11 +65,12 @@ fresh measured5
 measured9
 40 42 02 .
 ",
+        112,
     );
 }
 
 fn worked_example() {
-    play_8(
+    play(
         b"T8 P24 Node0 Unit4 Gap55 fresh
 =example of 002
 # 002, \"Example: Data Field Definition\": eight blocks free, no field.
@@ -84,11 +86,12 @@ fn worked_example() {
 # The bytes of field 1, behind the two blocks of field 0.
 s20 s21 s22 s23 s24 s25 s26 s27 s28 s29 s2A s2B s2C s2D s2E s2F /
 ",
+        8,
     );
 }
 
 fn gaps() {
-    play_112(
+    play(
         b"T112 P24 Node0 Unit4 Gap55 fresh
 =gaps
 # 01: gaps of 219 ticks keep the frame open.
@@ -98,6 +101,7 @@ fn gaps() {
 # 220 close it.
 @658 ? /
 ",
+        112,
     );
 }
 

@@ -29,7 +29,7 @@ fn turn(
 }
 
 // The words of a script, one after the other, with these rooms lent to the board.
-pub fn play(text: &[u8], kept: &mut [u8], memory: &mut [u8], room: &mut [u8]) {
+fn run(text: &[u8], kept: &mut [u8], memory: &mut [u8], room: &mut [u8]) {
     let mut script = Script::start();
     let mut numbers = [0u32; 256];
     let mut board = desk::fresh(&numbers);
@@ -45,18 +45,32 @@ pub fn play(text: &[u8], kept: &mut [u8], memory: &mut [u8], room: &mut [u8]) {
     }
 }
 
-// 01, "Frames on the bench sheet": address 0, pause 55, 4 ticks a bit; here with 112 blocks.
-pub fn play_112(text: &[u8]) {
+// A script, with so many places for the kept bytes, bytes of memory and bytes of reply room lent.
+pub fn play_with(text: &[u8], places: usize, memory: usize, room: usize) {
     let mut kept = [0u8; 135];
-    let mut memory = [0u8; 1904];
-    let mut room = [0u8; 134];
-    play(text, &mut kept, &mut memory, &mut room);
+    let mut bytes = [0u8; 1905];
+    let mut reply = [0u8; 135];
+    if 135 < places {
+        return;
+    }
+    if 1905 < memory {
+        return;
+    }
+    if 135 < room {
+        return;
+    }
+    run(
+        text,
+        &mut kept[..places],
+        &mut bytes[..memory],
+        &mut reply[..room],
+    );
 }
 
-// With eight blocks.
-pub fn play_8(text: &[u8]) {
-    let mut kept = [0u8; 135];
-    let mut memory = [0u8; 136];
-    let mut room = [0u8; 134];
-    play(text, &mut kept, &mut memory, &mut room);
+// A script, with all that is lent of its size.
+pub fn play(text: &[u8], blocks: usize) {
+    if 112 < blocks {
+        return;
+    }
+    play_with(text, 135, 17 * blocks, 134);
 }

@@ -1,8 +1,8 @@
 // Frames: the order of their checks, short and long ones, and the clock (01, "Characters become frames").
-use trial::play_112;
+use trial::play;
 
 fn order() {
-    play_112(
+    play(
         b"T112 P24 Node0 Unit4 Gap55 fresh
 =order of a frame's checks
 # 01, \"judged in this order\": each frame has two faults and gets the first. Another board's address, a parity fault, a wrong checksum.
@@ -30,11 +30,12 @@ fn order() {
 40 4B 00 00 00 55 + .
 40 4B 00 00 02 55 01 + .
 ",
+        112,
     );
 }
 
 fn clock() {
-    play_112(
+    play(
         b"T112 P24 Node0 Unit4 Gap55 fresh
 =short frames
 # 01, \"Fewer than 3 bytes\": silence even with a parity fault.
@@ -53,6 +54,7 @@ fn clock() {
 @0 40 @44 4E @88 0E @308 !40 @352 46 @396 06 @616 ? /
 @617 ? /
 ",
+        112,
     );
 }
 

@@ -1,10 +1,8 @@
 // The lent memory: rows 4Ah to 4Eh in each order position, unsound tables, dirty memory, T = 1 and T = 112.
 use trial::play;
-use trial::play_8;
-use trial::play_112;
 
 fn read() {
-    play_8(
+    play(
         b"T8 P24 Node0 Unit4 Gap55 fresh
 =fields: made, read
 # Field 0: two blocks under code 0. Field 1: one block under code 1, read-only.
@@ -30,11 +28,12 @@ fn read() {
 # Five blocks free, two fields.
 40 4E + .
 ",
+        8,
     );
 }
 
 fn stored() {
-    play_8(
+    play(
         b"T8 P24 Node0 Unit4 Gap55 fresh
 =fields: stored
 40 4D 00 C9 55 + .
@@ -52,11 +51,12 @@ fn stored() {
 40 4B 00 1E 02 55 07 08 + .
 40 4A 00 1D 03 55 + .
 ",
+        8,
     );
 }
 
 fn shapes() {
-    play_8(
+    play(
         b"T8 P24 Node0 Unit4 Gap55 fresh
 =4Dh
 # Two fields, of two blocks and one; code 2 becomes 66h.
@@ -89,11 +89,12 @@ fn shapes() {
 40 4D 01 07 55 + .
 40 4E + .
 ",
+        8,
     );
 }
 
 fn unsound() {
-    play_8(
+    play(
         b"T8 P24 Node0 Unit4 Gap55 fresh
 =unsound tables
 # 01, \"03h\": before 12h and all else. A field behind a place that is 00h.
@@ -118,12 +119,13 @@ fn unsound() {
 40 4D 09 00 00 + .
 40 4E + .
 ",
+        8,
     );
 }
 
 // After each request a look at the last byte of block 0 and the first ones of blocks 1 to 4.
 fn dirty() {
-    play_8(
+    play(
         b"T8 P24 Node0 Unit4 Gap55 fresh
 =dirty memory
 # A memory that is AAh all over, but for the status table.
@@ -145,13 +147,11 @@ s0F s10 s20 s30 s40 /
 s0F s10 s20 s30 s40 /
 40 4E + .
 ",
+        8,
     );
 }
 
 fn one_block() {
-    let mut kept = [0u8; 135];
-    let mut memory = [0u8; 17];
-    let mut room = [0u8; 134];
     play(
         b"T1 P24 Node0 Unit4 Gap55 fresh
 =T = 1
@@ -163,14 +163,12 @@ fn one_block() {
 # Its last byte.
 40 4A 00 0F 01 00 + .
 ",
-        &mut kept,
-        &mut memory,
-        &mut room,
+        1,
     );
 }
 
 fn full_table() {
-    play_112(
+    play(
         b"T112 P24 Node0 Unit4 Gap55 fresh
 =T = 112
 # 01, \"total blocks T 112\": a field for each block, the replies not printed.
@@ -183,6 +181,7 @@ fn full_table() {
 # The last field.
 40 4C 6F + .
 ",
+        112,
     );
 }
 

@@ -1,8 +1,8 @@
 // Position, codes, counter and queue: rows 42h, 43h, 46h, 47h, 49h, 4Fh, 50h, 53h, and P = 1 and P = 32.
-use trial::play_112;
+use trial::play;
 
 fn position_and_codes() {
-    play_112(
+    play(
         b"T112 P24 Node0 Unit4 Gap55 fresh
 =position
 # 22h locks until power-on. A wrong length before the lock: 0Ch; then 02h, in 43h before the code.
@@ -32,11 +32,12 @@ fresh
 40 53 + .
 40 53 01 + .
 ",
+        112,
     );
 }
 
 fn counter() {
-    play_112(
+    play(
         b"T112 P24 Node0 Unit4 Gap55 fresh
 =counter at FFFFFFh, queue full
 # 01, \"a fifth, is dropped\": 08h with four waiting.
@@ -61,11 +62,12 @@ note08 note05 note00 note00
 40 50 + .
 40 50 + .
 ",
+        112,
     );
 }
 
 fn position_bits() {
-    play_112(
+    play(
         b"T112 P1 Node0 Unit4 Gap55 fresh
 =P = 1
 # 01, \"position bits P 1\": measured odd; 2 is too much; position 1.
@@ -90,6 +92,7 @@ measured8
 measuredFFFFFFFF
 40 42 + .
 ",
+        112,
     );
 }
 
