@@ -3,12 +3,15 @@
 //   40 !40 +       a character; one with a parity fault; the checksum of the characters since the last pause
 //   @219 ? /       the clock's tick; a poll at it; the end of the printed line
 //   . ,            a poll a long pause after tick 0, with the end of the printed line; the same with nothing printed
+//   Kept135 Lent136 Room134 }    what is lent: places for the kept bytes, memory, reply room, all 00h; the end of a part, after which other rooms are lent
 //   T112 P24 Node0 Unit4 Gap55   the plate: blocks, position bits, address, ticks a bit, pause
 //   fresh          a fresh board; given: one with the numbers of counter, offset, queue (four codes) and bytes (kept)
 //   measured5 note22 up          a measured position, a code that the host notes, power-on
 //   &80 w00 s80    a place in memory, a byte set there; a byte of memory shown
 //   [ .. X112 ]    repeated so many times; % is the turn, from 0 on
 // Letters behind a sign say nothing. Numbers are hexadecimal, behind @ and the capital letters decimal.
+ghost use Prim.Native.Nat.{_≤_};
+ghost use lib.ListN.{length};
 use board::Board;
 use script::Script;
 
@@ -45,8 +48,8 @@ fn run(text: &[u8], kept: &mut [u8], memory: &mut [u8], room: &mut [u8]) {
     }
 }
 
-// A script, with so many places for the kept bytes, bytes of memory and bytes of reply room lent.
-pub fn play_with(text: &[u8], places: usize, memory: usize, room: usize) {
+// A part of a script, with so many places for the kept bytes, bytes of memory and bytes of reply room lent.
+fn play(text: &[u8], places: usize, memory: usize, room: usize) {
     let mut kept = [0u8; 135];
     let mut bytes = [0u8; 1905];
     let mut reply = [0u8; 135];
@@ -67,10 +70,59 @@ pub fn play_with(text: &[u8], places: usize, memory: usize, room: usize) {
     );
 }
 
-// A script, with all that is lent of its size.
-pub fn play(text: &[u8], blocks: usize) {
-    if 112 < blocks {
-        return;
+// The number that a part of a script gives last with this sign.
+fn given(text: &[u8], sign: u8) -> u32 {
+    let mut script = Script::start();
+    let mut number = 0;
+    let mut left: u32 = 65536;
+    while 0 < left {
+        left -= 1;
+        if text.len() <= script.at {
+            return number;
+        }
+        script = script.next(text);
+        if script.said == sign {
+            number = script.number;
+        }
     }
-    play_with(text, 135, 17 * blocks, 134);
+    number
+}
+
+fn play_part(text: &[u8]) {
+    let places = given(text, b'K') as usize;
+    let memory = given(text, b'L') as usize;
+    let room = given(text, b'R') as usize;
+    play(text, places, memory, room);
+}
+
+// Where a part that starts here ends.
+fn end_of(text: &[u8], from: usize) -> usize
+    requires { ⌜ from ≤ length (now text) ⌝ }
+    ensures { λ r. ⌜ (from ≤ r) × (r ≤ length (now (text .entry))) ⌝ }
+{
+    let mut at = from;
+    while at < text.len() {
+        if text[at] == b'}' {
+            return at;
+        }
+        at += 1;
+    }
+    at
+}
+
+// The parts of a script, one after the other.
+fn play_parts(text: &[u8]) {
+    let mut at = 0;
+    while at < text.len() {
+        let end = end_of(text, at);
+        play_part(&text[at..end]);
+        at = end + 1;
+    }
+}
+
+// The script on standard input.
+pub fn play_input() {
+    let mut text = io::large_buffer();
+    let count = io::read_full(0, &mut text);
+    play_parts(&text[..count]);
 }

@@ -1,12 +1,5 @@
-// Each refusal, each error code in each order position, and the ends of every range, run; what comes back is compared with the stored output.
-mod frames;
-mod memory;
-mod numbers;
-mod refusals;
-
+// Each refusal, each error code in each order position, and the ends of every range, which stand in the file stdin, run; what comes back is compared with the
+// stored output.
 fn main() {
-    frames::run();
-    memory::run();
-    numbers::run();
-    refusals::run();
+    trial::play_input();
 }

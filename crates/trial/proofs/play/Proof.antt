@@ -1,12 +1,12 @@
--- `trial::play_with` meets its contract. Assumes nothing.
+-- `trial::play` meets its contract. Assumes nothing.
 use mathlib.Core.Path.{sym}
 use native.Mathlib.Omega.{arith}
 use lib.Seq.{length-take-le}
 use borrow.Author.Needs.{needs}
-use Rattle.trial.proofs.play_with.Statement.{statement}
-use Rattle.trial.proofs.play_with.Tie as tie
-use Rattle.trial.proofs.play_with.Reads as reads
-use Rattle.trial.proofs.play_with.Lts as lts
+use Rattle.trial.proofs.play.Statement.{statement}
+use Rattle.trial.proofs.play.Tie as tie
+use Rattle.trial.proofs.play.Reads as reads
+use Rattle.trial.proofs.play.Lts as lts
 use Rattle.trial.proofs.run.Reads as run-reads
 
 -- src/lib.rt:54:9
@@ -53,8 +53,8 @@ run-requires c κs = search needs
 returns-4 : tie.Need-returns-4
 returns-4 c = search needs
 
-pub play-with-spec : {M : Type 1} → statement M
-play-with-spec =
+pub play-spec : {M : Type 1} → statement M
+play-spec =
     tie.close
     (tie.spec
     returns
