@@ -10,8 +10,6 @@
 //   &80 w00 s80    a place in memory, a byte set there; a byte of memory shown
 //   [ .. X112 ]    repeated so many times; % is the turn, from 0 on
 // Letters behind a sign say nothing. Numbers are hexadecimal, behind @ and the capital letters decimal.
-ghost use Prim.Native.Nat.{_≤_};
-ghost use lib.ListN.{length};
 use board::Board;
 use script::Script;
 
@@ -70,51 +68,18 @@ fn play(text: &[u8], places: usize, memory: usize, room: usize) {
     );
 }
 
-// The number that a part of a script gives last with this sign.
-fn given(text: &[u8], sign: u8) -> u32 {
-    let mut script = Script::start();
-    let mut number = 0;
-    let mut left: u32 = 65536;
-    while 0 < left {
-        left -= 1;
-        if text.len() <= script.at {
-            return number;
-        }
-        script = script.next(text);
-        if script.said == sign {
-            number = script.number;
-        }
-    }
-    number
-}
-
 fn play_part(text: &[u8]) {
-    let places = given(text, b'K') as usize;
-    let memory = given(text, b'L') as usize;
-    let room = given(text, b'R') as usize;
+    let places = script::given(text, b'K') as usize;
+    let memory = script::given(text, b'L') as usize;
+    let room = script::given(text, b'R') as usize;
     play(text, places, memory, room);
-}
-
-// Where a part that starts here ends.
-fn end_of(text: &[u8], from: usize) -> usize
-    requires { ⌜ from ≤ length (now text) ⌝ }
-    ensures { λ r. ⌜ (from ≤ r) × (r ≤ length (now (text .entry))) ⌝ }
-{
-    let mut at = from;
-    while at < text.len() {
-        if text[at] == b'}' {
-            return at;
-        }
-        at += 1;
-    }
-    at
 }
 
 // The parts of a script, one after the other.
 fn play_parts(text: &[u8]) {
     let mut at = 0;
     while at < text.len() {
-        let end = end_of(text, at);
+        let end = script::end_of(text, at);
         play_part(&text[at..end]);
         at = end + 1;
     }

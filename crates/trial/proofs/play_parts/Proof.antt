@@ -1,13 +1,12 @@
 -- `trial::play_parts` meets its contract. Assumes nothing.
-use Prim.Native.Nat.{_+_, _-_, _≤_}
-use native.Mathlib.Omega.{arith}
+use Prim.Native.Nat.{_-_}
 use lib.ListN.{length}
 use borrow.Author.Needs.{needs}
 use Rattle.trial.proofs.play_parts.Statement.{statement}
 use Rattle.trial.proofs.play_parts.Tie as tie
 use Rattle.trial.proofs.play_parts.Reads as reads
 use Rattle.trial.proofs.play_parts.Lts as lts
-use Rattle.trial.proofs.end_of.Reads as end-of-reads
+use Rattle.script.proofs.end_of.Reads as end-of-reads
 use Rattle.trial.proofs.play_part.Reads as play-part-reads
 
 abbrev Inv-loop : tie.InvT-loop

@@ -1,11 +1,11 @@
--- `trial::end_of` meets its contract. Assumes nothing.
+-- `script::parts::end_of` meets its contract. Assumes nothing.
 use Prim.Native.Nat.{_-_, _≤_}
 use lib.ListN.{length}
 use borrow.Author.Needs.{needs}
-use Rattle.trial.proofs.end_of.Statement.{statement}
-use Rattle.trial.proofs.end_of.Tie as tie
-use Rattle.trial.proofs.end_of.Reads as reads
-use Rattle.trial.proofs.end_of.Lts as lts
+use Rattle.script.proofs.parts.end_of.Statement.{statement}
+use Rattle.script.proofs.parts.end_of.Tie as tie
+use Rattle.script.proofs.parts.end_of.Reads as reads
+use Rattle.script.proofs.parts.end_of.Lts as lts
 
 abbrev Inv-loop : tie.InvT-loop
 Inv-loop text from at₀ at = (from ≤ at) × (at ≤ length text)

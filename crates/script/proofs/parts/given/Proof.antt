@@ -1,11 +1,11 @@
--- `trial::given` meets its contract. Assumes nothing.
+-- `script::parts::given` meets its contract. Assumes nothing.
 use borrow.Author.Needs.{needs}
-use Rattle.trial.proofs.given.Statement.{statement}
-use Rattle.trial.proofs.given.Tie as tie
-use Rattle.trial.proofs.given.Reads as reads
-use Rattle.trial.proofs.given.Lts as lts
+use Rattle.script.proofs.parts.given.Statement.{statement}
+use Rattle.script.proofs.parts.given.Tie as tie
+use Rattle.script.proofs.parts.given.Reads as reads
+use Rattle.script.proofs.parts.given.Lts as lts
 use Rattle.script.proofs.words.Script.next.Reads as next-reads
 use Rattle.script.proofs.words.Script.start.Reads as start-reads
 
 abbrev Inv-loop : tie.InvT-loop
 Inv-loop text sign script₀ number₀ left₀ script number left = Unit
