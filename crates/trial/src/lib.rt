@@ -76,18 +76,11 @@ fn play_part(text: &[u8]) {
 }
 
 // The parts of a script, one after the other.
-fn play_parts(text: &[u8]) {
+pub fn play_parts(text: &[u8]) {
     let mut at = 0;
     while at < text.len() {
         let end = script::end_of(text, at);
         play_part(&text[at..end]);
         at = end + 1;
     }
-}
-
-// The script on standard input.
-pub fn play_input() {
-    let mut text = io::large_buffer();
-    let count = io::read_full(0, &mut text);
-    play_parts(&text[..count]);
 }
