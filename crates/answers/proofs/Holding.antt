@@ -12,9 +12,9 @@ use Rattle.tape.specs.Records.{wholeLength}
 use Rattle.tape.specs.Kinds.{Said}
 use Rattle.tape.specs.Answers.{Stage, turn}
 use Rattle.tape.specs.Reader.{readAt}
-use Rattle.tape.specs.Passes.{Heard, nothing, said, heard, heardBy, longestLine}
+use Rattle.tape.specs.Passes.{Heard, nothing, said, heard, heardBy, longestLine, hearing}
 use Rattle.turns.specs.Turns.{isEnded}
-use Rattle.answers.specs.Holding.{Held, holds, heldAfter, hearing, heldBy}
+use Rattle.answers.specs.Holding.{Held, holds, heldAfter, heldBy}
 
 pub held-parts : {v v′ : Stage} {kept kept′ w w′ : List ℕ} → v ≡ v′ → kept ≡ kept′ → w ≡ w′ → holds v kept w ≡ holds v′ kept′ w′
 held-parts i j k = rw (i, j, k)

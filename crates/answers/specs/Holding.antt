@@ -7,7 +7,7 @@ use Rattle.meaning.specs.Bytes.{pick, put}
 use Rattle.tape.specs.Records.{wholeLength}
 use Rattle.tape.specs.Kinds.{Said}
 use Rattle.tape.specs.Answers.{Stage, turn}
-use Rattle.tape.specs.Passes.{Heard, nothing, said, heard, longestLine}
+use Rattle.tape.specs.Passes.{heard, hearing, longestLine}
 use Rattle.turns.specs.Turns.{replyTo, keptIn, isEnded, lastOf}
 
 -- the last stage before a bad record, the lent places, the room
@@ -23,10 +23,6 @@ holds v kept w = record { stage = v; kept = kept; room = w }
 abbrev pub heldAfter : Held → ℕ → Said → Held
 heldAfter h at x =
     holds (lastOf (h .stage) ((turn (h .stage) at x) .stage)) (put (h .kept) 0 (keptIn ((turn (h .stage) at x) .stage))) (put (h .room) 0 (replyTo (h .stage) x))
-
-unfoldable pub hearing : Heard → Held → (Said → Held) → Held
-hearing nothing h f = h
-hearing (said x) h f = f x
 
 -- after the records of a pass, one after another as `pass` takes them
 unfoldable pub heldBy : ℕ → ℕ → ℕ → List ℕ → Held → Held

@@ -54,7 +54,8 @@ after opening x n p = record { stage = p .stage; read = n + p .read; printed = x
 after (running q s m) x n p = record { stage = p .stage; read = n + p .read; printed = x ++ p .printed; stop = p .stop }
 after ended x n p = record { stage = ended; read = 0; printed = x; stop = over }
 
-unfoldable pub hearing : Heard → Pass → (Said → Pass) → Pass
+-- what is not yet heard leaves p; else f says what follows
+unfoldable pub hearing : {A : Type 0} → Heard → A → (Said → A) → A
 hearing nothing p f = p
 hearing (said x) p f = f x
 
