@@ -29,10 +29,8 @@ use Rattle.image.specs.Image.{isImage, stateIn, frameIn, keptIn, heldIn, stateB
 use Rattle.image.proofs.Standing.{line-row}
 use Rattle.image.proofs.Parts.{kept-length, front-length, state-as-it-was, same-front}
 use Rattle.image.proofs.Round.{good, kept-stays, lent-back, image-as-it-was}
-use Rattle.quicksetter.specs.Calls.{callOf, calledBy, numberOf, imageAfter, Called, outcomeNumber, LeftBy, Finishes}
-
-abbrev boardIn : List ℕ → Board
-boardIn img = record { state = stateIn img; frame = frameIn img }
+use Rattle.quicksetter.specs.declared.notes.Note.{Note}
+use Rattle.quicksetter.specs.Calls.{boardIn, callOf, callFor, calledBy, numberOf, imageAfter, Called, outcomeNumber, LeftBy, Finishes}
 
 -- a call that closes no frame brings no reply
 silent : (p : Plate) (s : meaning.State) (m : List ℕ) (g : Call) → closes p s g ≡ false → (step p s m g) .reply ≡ []
@@ -156,18 +154,22 @@ module _ (p : Plate) (img m w : List ℕ) (g : Call) where
           (subst (λ (x : code.Outcome). LeftBy x (t .board) back img′) (told ∙ o) (f .left))
 
     -- the board's call on what the image holds, written back
-    pub finished : {s : State} {f : Frame} {t : Stepped} {kept m′ w′ : List ℕ} (back : List ℕ) {r : ℕ} {img′ : List ℕ} → s ≡ stateIn img → f ≡ frameIn img
-        → Steps p (record { state = s; frame = f }) (keptIn img) m w g t kept m′ w′ → back ≡ take 30 img ++ (kept ++ drop 135 (drop 30 img))
+    pub finished : {b : Board} {t : Stepped} {kept m′ w′ : List ℕ} (back : List ℕ) {r : ℕ} {img′ : List ℕ} → b ≡ boardIn img
+        → Steps p b (keptIn img) m w g t kept m′ w′ → back ≡ take 30 img ++ (kept ++ drop 135 (drop 30 img))
         → Finishes t back r img′ → Called p img m w g r img′ m′ w′
-    finished {s} {f} {t} {kept} {m′} {w′} back {r} {img′} a b st lent fin =
-        let st′ : Steps p (boardIn img) (keptIn img) m w g t kept m′ w′ = rw (a, b) at st in
+    finished {b} {t} {kept} {m′} {w′} back {r} {img′} a st lent fin =
+        let st′ : Steps p (boardIn img) (keptIn img) m w g t kept m′ w′ = rw a at st in
         finish-by t kept m′ w′ st′ back lent r img′ (eqb (h .refusal) 0) (closes p (heldIn img) g) refl refl fin
 
     -- .. where the places are not lent
-    pub finished-here : {s : State} {f : Frame} {t : Stepped} {r : ℕ} {img′ : List ℕ} → s ≡ stateIn img → f ≡ frameIn img
-        → ((k x y : List ℕ) → length k ≡ 135 → Steps p (record { state = s; frame = f }) k x y g t k x y)
+    pub finished-here : {b : Board} {t : Stepped} {r : ℕ} {img′ : List ℕ} → b ≡ boardIn img → ((k x y : List ℕ) → length k ≡ 135 → Steps p b k x y g t k x y)
         → Finishes t img r img′ → Called p img m w g r img′ m w
-    finished-here a b st fin = finished img a b (st (keptIn img) m w (kept-length img all)) (sym (lent-back img)) fin
+    finished-here a st fin = finished img a (st (keptIn img) m w (kept-length img all)) (sym (lent-back img)) fin
+
+-- what is told, by its case
+pub for-note : {p : Plate} {b : Board} {t : Stepped} {n x : Note} → n ≡ x
+    → ((k y z : List ℕ) → length k ≡ 135 → Steps p b k y z (callFor x) t k y z) → (k y z : List ℕ) → length k ≡ 135 → Steps p b k y z (callFor n) t k y z
+for-note {p} {b} {t} e q = subst (λ (v : Note). (k y z : List ℕ) → length k ≡ 135 → Steps p b k y z (callFor v) t k y z) (sym e) q
 
 -- a character of a frame that is not over, taken in place
 module _ (p : Plate) (img m w : List ℕ) (tick v : ℕ) (bad : Bool) (e : isImage img ≡ true) (small : (i : ℕ) → arg img i < 256)

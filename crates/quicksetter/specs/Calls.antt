@@ -7,16 +7,21 @@ use lib.Dec.{eqb}
 use lib.ListN.{length}
 use Rattle.meaning.specs.Bytes.{pick, both, zeros}
 use Rattle.meaning.specs.State as meaning
-use Rattle.meaning.specs.Run.{Call, character, poll, Held, called, refusedBy}
+use Rattle.meaning.specs.Run.{Call, character, poll, measured, fault, power-on, Held, called, refusedBy}
 use Rattle.line.specs.declared.plate.Plate.{Plate}
 use Rattle.board.specs.declared.limits.Board.{Board}
 use Rattle.board.specs.declared.limits.Outcome.{Outcome}
 use Rattle.board.specs.declared.limits.Outcome.the-variants.{Refused, Still, Over}
 use Rattle.board.specs.declared.limits.Stepped.{Stepped}
-use Rattle.image.specs.Image.{isImage, heldIn, keptIn, imageOf, PutsBoard}
+use Rattle.quicksetter.specs.declared.notes.Note.{Note}
+use Rattle.quicksetter.specs.declared.notes.Note.the-variants.{Measured, Fault, PowerOn}
+use Rattle.image.specs.Image.{isImage, stateIn, frameIn, heldIn, keptIn, imageOf, PutsBoard}
 
 abbrev pub plateFrom : ℕ → ℕ → ℕ → ℕ → ℕ → Plate
 plateFrom t b a k q = record { total = t; bits = b; address = a; ticks = k; pause = q }
+
+abbrev pub boardIn : List ℕ → Board
+boardIn img = record { state = stateIn img; frame = frameIn img }
 
 -- the meaning's call on the state that the image holds; what is no image is R1
 unfoldable pub calledBy : meaning.Plate → List ℕ → List ℕ → List ℕ → Call → Held
@@ -50,6 +55,12 @@ pub record Freshens (p : meaning.Plate) (img : List ℕ) (r : ℕ) (img′ : Lis
 -- what came, as the entries hand it on: a character without (0) or with (1) a parity fault, or a poll (2)
 unfoldable pub callOf : ℕ → ℕ → ℕ → Call
 callOf kind tick value = pick (eqb kind 2) (poll tick) (character tick value (eqb kind 1))
+
+-- 01, "The host notes codes": what a host tells besides
+abbrev pub callFor : Note → Call
+callFor (Measured n) = measured n
+callFor (Fault c) = fault c
+callFor PowerOn = power-on
 
 -- R1 to R3 do not apply
 pub record Unrefused (p : meaning.Plate) (img : List ℕ) (memory room : ℕ) : Type 0 where

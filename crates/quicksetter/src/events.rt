@@ -11,8 +11,8 @@ ghost use Rattle.image.specs.Image.{heldIn};
 ghost use Rattle.quicksetter.specs.Calls.{plateFrom, callOf, Called, Unrefused};
 use crate::answer::REFUSED;
 use crate::answer::finish;
+use crate::given::board_in;
 use crate::given::plate_from;
-use board::Board;
 use image::COUNTER;
 use image::KEPT;
 use image::LENGTH;
@@ -97,9 +97,7 @@ fn event(
         return REFUSED + 1;
     }
     let plate = plate_from(total, bits, address, ticks, pause);
-    let state = image::state_in(image);
-    let frame = image::frame_in(image);
-    let before = Board { state, frame };
+    let before = board_in(image);
     if kind == POLL {
         let polled = board::poll(plate, before, tick, &mut image[KEPT..LENGTH], memory, room);
         return finish(polled, image);

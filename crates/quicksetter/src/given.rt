@@ -1,6 +1,9 @@
-// The plate, from the numbers that C hands over.
+// What C hands over, as the board takes it: the plate from its numbers, the board from its image.
 ghost use mathlib.Core.Path.{_≡_};
-ghost use Rattle.quicksetter.specs.Calls.{plateFrom};
+ghost use Prim.Native.Nat.{_≤_};
+ghost use lib.ListN.{length};
+ghost use Rattle.quicksetter.specs.Calls.{plateFrom, boardIn};
+use board::Board;
 use line::Plate;
 
 pub fn plate_from(total: u32, bits: u32, address: u32, ticks: u32, pause: u32) -> Plate
@@ -13,4 +16,13 @@ pub fn plate_from(total: u32, bits: u32, address: u32, ticks: u32, pause: u32) -
         ticks,
         pause,
     }
+}
+
+pub fn board_in(image: &[u8]) -> Board
+    requires { ⌜ 165 ≤ length (now image) ⌝ }
+    ensures { λ r. ⌜ r ≡ boardIn (now (image .entry)) ⌝ }
+{
+    let state = image::state_in(image);
+    let frame = image::frame_in(image);
+    Board { state, frame }
 }

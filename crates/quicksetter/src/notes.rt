@@ -1,17 +1,23 @@
 // A fresh image; a measured position, a fault code and power-on (01, "Fresh state", "Faults").
+ghost use mathlib.Core.Path.{_≡_};
 ghost use mathlib.Core.List.{List};
 ghost use Prim.Native.Nat.{ℕ};
+ghost use lib.ListN.{length};
 ghost use Rattle.meaning.specs.Run as run;
 ghost use Rattle.line.specs.Line.{plateOf};
-ghost use Rattle.quicksetter.specs.Calls.{plateFrom, Called, Freshens};
+ghost use Rattle.board.specs.Board.{Steps};
+ghost use Rattle.quicksetter.specs.Calls.{plateFrom, callFor, Called, Freshens};
 use crate::answer::REFUSED;
 use crate::answer::finish;
+use crate::given::board_in;
 use crate::given::plate_from;
 use board::Board;
+use board::Stepped;
 use commands::State;
 use image::KEPT;
 use image::LENGTH;
 use line::Frame;
+use line::Plate;
 
 // Every byte of the image is written, so what stood there before does not matter.
 #[no_mangle]
@@ -38,6 +44,33 @@ pub extern "C" fn qs_fresh(
     0
 }
 
+// What a host tells the board besides characters and the time.
+pub enum Note {
+    Measured(u32),
+    Fault(u8),
+    PowerOn,
+}
+
+fn told(plate: Plate, board: Board, note: Note) -> Stepped
+    ensures { λ r. ⌜ ((k x y : List ℕ) → length k ≡ 135 → Steps (plateOf plate) board k x y (callFor note) r k x y) ⌝ }
+{
+    match note {
+        Note::Measured(position) => board::measured(plate, board, position),
+        Note::Fault(code) => board::fault(plate, board, code),
+        Note::PowerOn => board::power_on(plate, board),
+    }
+}
+
+// The image's board is told, and goes back to its image.
+fn tell(plate: Plate, note: Note, image: &mut [u8]) -> usize
+    ensures { λ r. ⌜ ((m w : List ℕ) → Called (plateOf plate) (now (image .entry)) m w (callFor note) r (now (image .exit)) m w) ⌝ }
+{
+    if !image::is_image(image) {
+        return REFUSED + 1;
+    }
+    finish(told(plate, board_in(image), note), image)
+}
+
 #[no_mangle]
 pub extern "C" fn qs_measured(
     image: &mut [u8],
@@ -50,14 +83,8 @@ pub extern "C" fn qs_measured(
 ) -> usize
     ensures { λ r. ⌜ ((m w : List ℕ) → Called (plateOf (plateFrom total bits address ticks pause)) (now (image .entry)) m w (run.measured position) r (now (image .exit)) m w) ⌝ }
 {
-    if !image::is_image(image) {
-        return REFUSED + 1;
-    }
     let plate = plate_from(total, bits, address, ticks, pause);
-    let state = image::state_in(image);
-    let frame = image::frame_in(image);
-    let before = Board { state, frame };
-    finish(board::measured(plate, before, position), image)
+    tell(plate, Note::Measured(position), image)
 }
 
 #[no_mangle]
@@ -72,14 +99,8 @@ pub extern "C" fn qs_fault(
 ) -> usize
     ensures { λ r. ⌜ ((m w : List ℕ) → Called (plateOf (plateFrom total bits address ticks pause)) (now (image .entry)) m w (run.fault code) r (now (image .exit)) m w) ⌝ }
 {
-    if !image::is_image(image) {
-        return REFUSED + 1;
-    }
     let plate = plate_from(total, bits, address, ticks, pause);
-    let state = image::state_in(image);
-    let frame = image::frame_in(image);
-    let before = Board { state, frame };
-    finish(board::fault(plate, before, code), image)
+    tell(plate, Note::Fault(code), image)
 }
 
 #[no_mangle]
@@ -93,12 +114,6 @@ pub extern "C" fn qs_power_on(
 ) -> usize
     ensures { λ r. ⌜ ((m w : List ℕ) → Called (plateOf (plateFrom total bits address ticks pause)) (now (image .entry)) m w run.power-on r (now (image .exit)) m w) ⌝ }
 {
-    if !image::is_image(image) {
-        return REFUSED + 1;
-    }
     let plate = plate_from(total, bits, address, ticks, pause);
-    let state = image::state_in(image);
-    let frame = image::frame_in(image);
-    let before = Board { state, frame };
-    finish(board::power_on(plate, before), image)
+    tell(plate, Note::PowerOn, image)
 }

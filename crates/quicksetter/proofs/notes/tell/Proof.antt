@@ -1,0 +1,62 @@
+-- `quicksetter::notes::tell` meets its contract. Assumes nothing.
+use mathlib.Core.Path.{_≡_, sym, _∙_}
+use mathlib.Core.Bool.{true}
+use native.Mathlib.Omega.{arith}
+use denote.Ref.{now}
+use borrow.Author.Tests.{not-true, not-false}
+use Rattle.image.specs.Image.{isImage}
+use Rattle.image.proofs.Round.{good}
+use Rattle.quicksetter.proofs.Leaving.{no-image, finished-here}
+use borrow.Author.Needs.{needs}
+use Rattle.quicksetter.proofs.notes.tell.Statement.{statement}
+use Rattle.quicksetter.proofs.notes.tell.Tie as tie
+use Rattle.quicksetter.proofs.notes.tell.Reads as reads
+use Rattle.quicksetter.proofs.notes.tell.Lts as lts
+use Rattle.image.proofs.is_image.Reads as is-image-reads
+use Rattle.quicksetter.proofs.answer.finish.Reads as finish-reads
+use Rattle.quicksetter.proofs.given.board_in.Reads as board-in-reads
+use Rattle.quicksetter.proofs.notes.told.Reads as told-reads
+
+fine : (c : tie.Else1) → isImage (now (c .before .before .before .before .args .image)) ≡ true
+fine c = sym (c .before .is-image .ensures) ∙ not-false _ (c .if1 .left)
+
+is-image-requires : tie.Need-is-image-requires
+is-image-requires c κs = search needs
+
+add-result : tie.Need-add-result
+add-result c = search needs
+
+same-length : tie.Need-same-length
+same-length c = search needs
+
+returns : tie.Need-returns
+returns c = λ m w. no-image _ _ m w _ (sym (c .before .is-image .ensures) ∙ not-true _ (c .if1 .taken))
+
+board-in-requires : tie.Need-board-in-requires
+board-in-requires c κs = omega (arith, good _ (fine (c .before)) .all)
+
+told-requires : tie.Need-told-requires
+told-requires c κs = search needs
+
+finish-requires : tie.Need-finish-requires
+finish-requires c κs = good _ (fine (c .before .before .before .before)) .all
+
+same-length-2 : tie.Need-same-length-2
+same-length-2 c = search needs
+
+returns-2 : tie.Need-returns-2
+returns-2 c = λ m w. finished-here _ (now (c .before .before .before .before .before .before .before .before .before .before .before .args .image)) m w _ (fine (c .before .before .before .before .before .before .before)) (c .before .before .before .before .before .board-in .ensures) (c .before .before .before .before .told .ensures) (c .before .before .finish .ensures)
+
+pub tell-spec : {M : Type 1} → statement M
+tell-spec =
+    tie.close
+    (tie.spec
+    is-image-requires
+    add-result
+    same-length
+    returns
+    board-in-requires
+    told-requires
+    finish-requires
+    same-length-2
+    returns-2)
