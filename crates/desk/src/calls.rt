@@ -6,28 +6,6 @@ use board::Outcome;
 use board::Stepped;
 use line::Plate;
 
-fn is_character(sign: u8) -> bool {
-    match sign {
-        b'>' | b'!' => true,
-        _ => false,
-    }
-}
-
-fn is_lent(sign: u8) -> bool {
-    match sign {
-        b'>' | b'!' | b'?' | b'.' | b',' => true,
-        _ => false,
-    }
-}
-
-// A poll is at the clock's tick for ?, else a long pause after the characters at tick 0.
-fn moment(sign: u8, tick: u32) -> u32 {
-    if sign == b'?' {
-        return tick;
-    }
-    5000
-}
-
 // A measured position, a code that the host notes, power-on; else the board stays as it is.
 fn told(sign: u8, number: u32, plate: Plate, board: Board) -> Stepped {
     match sign {
@@ -41,26 +19,7 @@ fn told(sign: u8, number: u32, plate: Plate, board: Board) -> Stepped {
     }
 }
 
-// A character, for ! with a parity fault, or a poll.
-fn lent(
-    sign: u8,
-    number: u32,
-    tick: u32,
-    plate: Plate,
-    board: Board,
-    kept: &mut [u8],
-    memory: &mut [u8],
-    room: &mut [u8],
-) -> Stepped {
-    if is_character(sign) {
-        let value = (number % 256) as u8;
-        let parity = sign == b'!';
-        return board::character(plate, board, tick, value, parity, kept, memory, room);
-    }
-    board::poll(plate, board, moment(sign, tick), kept, memory, room)
-}
-
-// What a word asks of the board; the clock is at @.
+// What a word asks of the board: a character, for ! with a parity fault; a poll at the clock's tick, which is at @, or a long pause after the characters at tick 0.
 pub fn act(
     sign: u8,
     numbers: &[u32; 256],
@@ -71,17 +30,20 @@ pub fn act(
 ) -> Stepped {
     let plate = plate_of(numbers);
     let number = numbers[sign as usize];
-    if is_lent(sign) {
-        return lent(
-            sign,
-            number,
-            numbers[0x40],
+    let tick = numbers[0x40];
+    match sign {
+        b'>' | b'!' => board::character(
             plate,
             board,
+            tick,
+            (number % 256) as u8,
+            sign == b'!',
             kept,
             memory,
             room,
-        );
+        ),
+        b'?' => board::poll(plate, board, tick, kept, memory, room),
+        b'.' | b',' => board::poll(plate, board, 5000, kept, memory, room),
+        _ => told(sign, number, plate, placed(sign, numbers, board)),
     }
-    told(sign, number, plate, placed(sign, numbers, board))
 }

@@ -21,36 +21,22 @@ pub fn fresh(numbers: &[u32; 256]) -> Board {
     board::fresh(plate_of(numbers))
 }
 
-// Four codes, the oldest first.
-fn queue_of(number: u32) -> Faults {
-    Faults {
-        first: (number / 0x1000000 % 256) as u8,
-        second: (number / 0x10000 % 256) as u8,
-        third: (number / 0x100 % 256) as u8,
-        fourth: (number % 256) as u8,
-        locked: false,
-    }
-}
-
-// No frame is open; so many bytes are kept.
-fn frame_of(bytes: u32) -> Frame {
-    Frame {
-        begun: false,
-        last: 0,
-        len: (bytes % 256) as u8,
-        sum: 0,
-        longer: false,
-        parity: false,
-    }
-}
-
-// A board with this counter, offset, queue and number of bytes kept, else fresh.
+// A board with this counter, offset, queue of four codes, the oldest first, and number of bytes kept, else fresh.
 fn given(counter: u32, offset: u32, queue: u32, bytes: u32) -> Board {
-    let state = State::fresh().with_counter(counter).with_offset(offset);
-    Board {
-        state: state.with_faults(queue_of(queue)),
-        frame: frame_of(bytes),
-    }
+    let faults = Faults {
+        first: (queue / 0x1000000 % 256) as u8,
+        second: (queue / 0x10000 % 256) as u8,
+        third: (queue / 0x100 % 256) as u8,
+        fourth: (queue % 256) as u8,
+        locked: false,
+    };
+    let mut state = State::fresh();
+    state.counter = counter;
+    state.offset = offset;
+    state.faults = faults;
+    let mut frame = Frame::none();
+    frame.len = (bytes % 256) as u8;
+    Board { state, frame }
 }
 
 // f and g place another board on the desk: a fresh one, or one of the numbers at c, o, q and b.

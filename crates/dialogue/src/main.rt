@@ -104,7 +104,7 @@ fn turn(
 
 // The words of a script, one after the other, at a fresh board. The tick count wraps around within the first request.
 fn play(text: &[u8]) {
-    let mut script = Script::start();
+    let mut script = Script::start(0);
     let mut numbers = [0u32; 256];
     let mut bytes = [0u8; 16];
     let mut count: usize = 0;

@@ -1,11 +1,8 @@
 // What the test programs share: the words of a script, and what comes of them printed.
-mod parts;
 mod printing;
 mod telling;
 mod words;
 
-pub use parts::end_of;
-pub use parts::given;
 pub use printing::say;
 pub use printing::show;
 pub use printing::show_byte;

@@ -32,10 +32,10 @@ fn longer(sign: u8, number: u32, digit: u8) -> u32 {
 }
 
 impl Script {
-    pub fn start() -> Script {
+    pub fn start(from: usize) -> Script {
         Script {
-            at: 0,
-            mark: 0,
+            at: from,
+            mark: from,
             turn: 0,
             sum: 0,
             sign: 0,
@@ -44,117 +44,118 @@ impl Script {
         }
     }
 
-    // The next byte.
+    // The next byte. The end of the text ends the part too.
     pub fn next(self, text: &[u8]) -> Script {
+        let mut next = self;
+        next.said = b'}';
         let at = self.at;
         if text.len() <= at {
-            return self.reading(at, 0, 0, 0);
+            return next;
         }
+        next.said = 0;
         let byte = text[at];
+        next.at = at + 1;
         let sign = self.sign;
         match sign {
-            b'#' | b'=' => self.in_line(at + 1, byte),
-            0 => self.begun(at + 1, byte),
-            _ => self.in_word(at + 1, byte),
-        }
-    }
-
-    fn reading(self, at: usize, sign: u8, number: u32, said: u8) -> Script {
-        Script {
-            at,
-            mark: self.mark,
-            turn: self.turn,
-            sum: self.sum,
-            sign,
-            number,
-            said,
+            b'#' | b'=' => next.in_line(byte),
+            0 => next.begun(byte),
+            _ => next.in_word(byte),
         }
     }
 
     // A comment and a title go to the end of the line.
-    fn in_line(self, at: usize, byte: u8) -> Script {
-        let sign = self.sign;
+    fn in_line(self, byte: u8) -> Script {
+        let mut next = self;
+        next.said = self.sign;
+        next.number = byte as u32;
         if byte == b'\n' {
-            return self.reading(at, 0, 10, sign);
+            next.sign = 0;
         }
-        self.reading(at, sign, byte as u32, sign)
+        next
     }
 
     // The first byte of a word: a number with no sign before it is a character.
-    fn begun(self, at: usize, byte: u8) -> Script {
+    fn begun(self, byte: u8) -> Script {
+        let mut next = self;
+        next.sign = b'>';
         let digit = digit_of(byte);
         if digit < 16 {
-            return self.reading(at, b'>', digit as u32, 0);
+            next.number = digit as u32;
+            return next;
         }
         match byte {
-            b' ' | b'\n' => self.reading(at, 0, 0, 0),
-            b'%' => self.reading(at, b'>', self.turn, 0),
-            _ => self.reading(at, byte, 0, 0),
+            b' ' | b'\n' => self,
+            b'%' => {
+                next.number = self.turn;
+                next
+            }
+            _ => {
+                next.sign = byte;
+                next.number = 0;
+                next
+            }
         }
     }
 
-    fn in_word(self, at: usize, byte: u8) -> Script {
-        let sign = self.sign;
-        let number = self.number;
+    fn in_word(self, byte: u8) -> Script {
+        let mut next = self;
         let digit = digit_of(byte);
         if digit < 16 {
-            return self.reading(at, sign, longer(sign, number, digit), 0);
+            next.number = longer(self.sign, self.number, digit);
+            return next;
         }
         match byte {
-            b' ' | b'\n' => self.ended(at),
-            b'%' => self.reading(at, sign, self.turn, 0),
-            _ => self.reading(at, sign, number, 0),
+            b' ' | b'\n' => self.ended(),
+            b'%' => {
+                next.number = self.turn;
+                next
+            }
+            _ => self,
         }
     }
 
     // + is the checksum, a character too; a pause begins a new one; [ is the place that X goes back to.
-    fn ended(self, at: usize) -> Script {
+    fn ended(self) -> Script {
+        let mut next = self;
         let sign = self.sign;
-        let number = self.number;
-        let sum = self.sum;
+        next.sign = 0;
+        next.said = sign;
         match sign {
-            b'+' => self.spoken(at, b'>', sum, 0),
-            b'>' | b'!' => self.spoken(at, sign, number, sum ^ number),
-            b'.' | b',' => self.spoken(at, sign, number, 0),
-            b'[' => self.turned(at, at, 0),
-            b'X' => self.repeated(at, number),
-            _ => self.spoken(at, sign, number, sum),
+            b'+' => {
+                next.said = b'>';
+                next.number = self.sum;
+                next.sum = 0;
+            }
+            b'>' | b'!' => {
+                next.sum = self.sum ^ self.number;
+            }
+            b'.' | b',' => {
+                next.sum = 0;
+            }
+            b'[' => {
+                next.mark = self.at;
+                next.turn = 0;
+            }
+            b'X' => {
+                return next.repeated();
+            }
+            _ => {}
         }
-    }
-
-    fn spoken(self, at: usize, said: u8, number: u32, sum: u32) -> Script {
-        Script {
-            at,
-            mark: self.mark,
-            turn: self.turn,
-            sum,
-            sign: 0,
-            number,
-            said,
-        }
-    }
-
-    fn turned(self, at: usize, mark: usize, turn: u32) -> Script {
-        Script {
-            at,
-            mark,
-            turn,
-            sum: self.sum,
-            sign: 0,
-            number: 0,
-            said: 0,
-        }
+        next
     }
 
     // So many times in all.
-    fn repeated(self, at: usize, times: u32) -> Script {
-        if times <= self.turn {
-            return self.turned(at, at, 0);
+    fn repeated(self) -> Script {
+        let mut next = self;
+        next.turn = 0;
+        if self.number <= self.turn {
+            return next;
         }
         let turn = self.turn + 1;
-        if turn < times {
-            return self.turned(self.mark, self.mark, turn);
+        if turn < self.number {
+            next.turn = turn;
+            next.at = self.mark;
         }
-        self.turned(at, at, 0)
+        next
     }
 }

@@ -3,7 +3,8 @@
 //   40 !40 +       a character; one with a parity fault; the checksum of the characters since the last pause
 //   @219 ? /       the clock's tick; a poll at it; the end of the printed line
 //   . ,            a poll a long pause after tick 0, with the end of the printed line; the same with nothing printed
-//   Kept135 Lent136 Room134 }    what is lent: places for the kept bytes, memory, reply room, all 00h; the end of a part, after which other rooms are lent
+//   Kept135 Lent136 Room134      how much is lent: places for the kept bytes, memory, reply room
+//   }              the end of a part: then all that is lent is 00h again, and the board is fresh
 //   T112 P24 Node0 Unit4 Gap55   the plate: blocks, position bits, address, ticks a bit, pause
 //   fresh          a fresh board; given: one with the numbers of counter, offset, queue (four codes) and bytes (kept)
 //   measured5 note22 up          a measured position, a code that the host notes, power-on
@@ -13,7 +14,16 @@
 use board::Board;
 use script::Script;
 
-// One word, and what comes of it printed; & is at 26h.
+// So many bytes, or all where there are fewer.
+fn front(bytes: &mut [u8], count: u32) -> &mut [u8] {
+    let end = count as usize;
+    if bytes.len() < end {
+        return bytes;
+    }
+    &mut bytes[..end]
+}
+
+// One word, and what comes of it printed; & is at 26h, K, L and R are at 4Bh, 4Ch and 52h.
 fn turn(
     sign: u8,
     numbers: &[u32; 256],
@@ -22,65 +32,56 @@ fn turn(
     memory: &mut [u8],
     room: &mut [u8],
 ) -> Board {
-    let stepped = desk::act(sign, numbers, board, kept, memory, room);
+    let number = numbers[sign as usize];
+    let stepped = desk::act(
+        sign,
+        numbers,
+        board,
+        front(kept, numbers[0x4B]),
+        front(memory, numbers[0x4C]),
+        front(room, numbers[0x52]),
+    );
     let outcome = stepped.outcome;
     script::tell(sign, outcome, room);
-    script::aside(sign, numbers[sign as usize], numbers[0x26], memory);
+    script::aside(sign, number, numbers[0x26], memory);
     stepped.board
 }
 
-// The words of a script, one after the other, with these rooms lent to the board.
-fn run(text: &[u8], kept: &mut [u8], memory: &mut [u8], room: &mut [u8]) {
-    let mut script = Script::start();
+// The words of a part, one after the other; where the next part begins.
+fn run(text: &[u8], from: usize, kept: &mut [u8], memory: &mut [u8], room: &mut [u8]) -> usize {
+    let mut script = Script::start(from);
     let mut numbers = [0u32; 256];
     let mut board = desk::fresh(&numbers);
     let mut left: u32 = 65536;
     while 0 < left {
         left -= 1;
-        if text.len() <= script.at {
-            return;
-        }
         script = script.next(text);
+        if script.said == b'}' {
+            return script.at;
+        }
         numbers[script.said as usize] = script.number;
         board = turn(script.said, &numbers, board, kept, memory, room);
     }
+    text.len()
 }
 
-// A part of a script, with so many places for the kept bytes, bytes of memory and bytes of reply room lent.
-fn play(text: &[u8], places: usize, memory: usize, room: usize) {
+// A part of a script, with rooms of its own.
+fn play_part(text: &[u8], from: usize) -> usize {
     let mut kept = [0u8; 135];
-    let mut bytes = [0u8; 1905];
-    let mut reply = [0u8; 135];
-    if 135 < places {
-        return;
-    }
-    if 1905 < memory {
-        return;
-    }
-    if 135 < room {
-        return;
-    }
-    run(
-        text,
-        &mut kept[..places],
-        &mut bytes[..memory],
-        &mut reply[..room],
-    );
-}
-
-fn play_part(text: &[u8]) {
-    let places = script::given(text, b'K') as usize;
-    let memory = script::given(text, b'L') as usize;
-    let room = script::given(text, b'R') as usize;
-    play(text, places, memory, room);
+    let mut memory = [0u8; 1905];
+    let mut room = [0u8; 135];
+    run(text, from, &mut kept, &mut memory, &mut room)
 }
 
 // The parts of a script, one after the other.
-pub fn play_parts(text: &[u8]) {
+pub fn play(text: &[u8]) {
     let mut at = 0;
-    while at < text.len() {
-        let end = script::end_of(text, at);
-        play_part(&text[at..end]);
-        at = end + 1;
+    let mut left: u32 = 65536;
+    while 0 < left {
+        left -= 1;
+        if text.len() <= at {
+            return;
+        }
+        at = play_part(text, at);
     }
 }

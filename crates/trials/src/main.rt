@@ -3,5 +3,5 @@
 fn main() {
     let mut script = io::large_buffer();
     let count = io::read_full(0, &mut script);
-    trial::play_parts(&script[..count]);
+    trial::play(&script[..count]);
 }
