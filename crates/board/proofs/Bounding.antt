@@ -1,10 +1,10 @@
 -- R1 to R3: the tests one by one, and what a call that is not refused may rely on. Assumes nothing.
 use Prim.Native.Nat.{ℕ, _≤_, _<_}
 use native.Mathlib.Omega.{arith}
-use mathlib.Core.Path.{_≡_, refl, sym}
-use mathlib.Core.Bool.{Bool, true, false, not, false≢true}
+use mathlib.Core.Path.{_≡_, refl, sym, ap, _∙_}
+use mathlib.Core.Bool.{Bool, true, false, not, _&&_, false≢true}
 use mathlib.Core.List.{List}
-use borrow.Author.Tests.{le-leb, lt-leb, eq-eqb, ne-eqb, leb-true, eqb-true, ltb-false}
+use borrow.Author.Tests.{le-leb, lt-leb, lt-ltb, le-ltb, eq-eqb, ne-eqb, leb-true, eqb-true, ltb-false}
 use lib.Dec.{eqb, leb, ltb}
 use lib.ListN.{length, take, length-take}
 use Rattle.meaning.specs.Bytes.{pick, both, either}
@@ -15,7 +15,7 @@ use Rattle.line.specs.declared.plate.Plate as line
 use Rattle.line.specs.Line.{plateOf}
 use Rattle.board.specs.declared.limits.Board.{Board}
 use Rattle.board.specs.Work.{Ready}
-use Rattle.board.specs.Board.{stateOf, fitsIn, Bounds, limitNumber, sizeNumber, roomNumber, firstOf, refusalOn}
+use Rattle.board.specs.Board.{stateOf, fitsIn, Bounds, refusalOn}
 use Rattle.meaning.proofs.Choices.{both-left, both-right, both-false}
 
 pub lends-poll : (t : ℕ) → lends (poll t) ≡ true
@@ -44,51 +44,42 @@ pub held : {p : Plate} {b : Board} {t u : Bool} → Bounds p b t → t ≡ u →
 held h e = rw e at h
 
 -- R1 by its tests: enough places, plate, state
-one-of : (x w y z : Bool) (n : ℕ) → (w ≡ true → false ≡ both x (both y z)) → 1 ≡ pick (both x w) (pick (either (not y) (not z)) 1 n) 1
-one-of false w y z n h = refl
-one-of true false y z n h = refl
-one-of true true false z n h = refl
-one-of true true true false n h = refl
-one-of true true true true n h = absurd (false≢true (h refl))
+possible : (x q y z w : Bool) (n : ℕ) → (q ≡ true → w ≡ both x (both y z)) → pick (both x q) (pick (either (not y) (not z)) 1 n) 1 ≡ pick (w && q) n 1
+possible true false y z true n h = refl
+possible true false y z false n h = refl
+possible false false y z true n h = refl
+possible false false y z false n h = refl
+possible false true y z w n h = rw (h refl)
+possible true true false z w n h = rw (h refl)
+possible true true true false w n h = rw (h refl)
+possible true true true true w n h = rw (h refl)
+
+and-true : (w : Bool) → w && true ≡ w
+and-true true = refl
+and-true false = refl
+
+other-way : (s : Bool) (n : ℕ) → pick (not s) 2 n ≡ pick s n 2
+other-way true n = refl
+other-way false n = refl
 
 module _ (p : Plate) (b : Board) (k : List ℕ) where
-  pub r1-limits : Bounds p b false → 1 ≡ limitNumber p b k
-  unfolding limitNumber fitsIn
-  r1-limits h =
-      one-of (leb (b .frame .len) 135) (eqb (length k) 135) (plateOk p) (stateOk p (stateOf b k)) 0 (λ e. h .bound k (eqb-true (length k) 135 e))
+  limit-told : {w : Bool} (n : ℕ) → Bounds p b w → pick (fitsIn b k) (pick (either (not (plateOk p)) (not (stateOk p (stateOf b k)))) 1 n) 1 ≡ pick (w && eqb (length k) 135) n 1
+  unfolding fitsIn
+  limit-told {w} n h =
+      possible (leb (b .frame .len) 135) (eqb (length k) 135) (plateOk p) (stateOk p (stateOf b k)) w n (λ e. h .bound k (eqb-true (length k) 135 e))
 
-  pub r1-places : (length k ≡ 135 → ⊥) → 1 ≡ limitNumber p b k
-  unfolding limitNumber fitsIn
-  r1-places h = rw (ne-eqb (length k) 135 h, both-false (leb (b .frame .len) 135))
+  -- of a call that lends nothing: R1 alone
+  pub alone-by : (m : List ℕ) (r : ℕ) (g : Call) {w : Bool} → Bounds p b w → length k ≡ 135 → lends g ≡ false → refusalOn p b k m r g ≡ pick w 0 1
+  unfolding refusalOn refusedBy
+  alone-by m r g {w} h e l = rw l (limit-told 0 h ∙ rw (eq-eqb (length k) 135 e, and-true w))
 
-  pub r1-none : Bounds p b true → length k ≡ 135 → 0 ≡ limitNumber p b k
-  unfolding limitNumber fitsIn
-  r1-none ok all =
-      let rest : both (plateOk p) (stateOk p (stateOf b k)) ≡ true = both-right (leb (b .frame .len) 135) (both (plateOk p) (stateOk p (stateOf b k))) (sym (ok .bound k all)) in
-      rw (
-        both-left (leb (b .frame .len) 135) (both (plateOk p) (stateOk p (stateOf b k))) (sym (ok .bound k all)),
-        eq-eqb (length k) 135 all,
-        both-left (plateOk p) (stateOk p (stateOf b k)) rest,
-        both-right (plateOk p) (stateOk p (stateOf b k)) rest,
-      )
-
--- R1 to R3 in that order, of a call that lends; of one that does not, R1
-module _ (p : Plate) (b : Board) (k m : List ℕ) (r : ℕ) (g : Call) where
-  pub in-order : {x y z : ℕ} → x ≡ limitNumber p b k → y ≡ sizeNumber (p .total) (length m) → z ≡ roomNumber r → lends g ≡ true
-      → firstOf x y z ≡ refusalOn p b k m r g
-  unfolding refusalOn refusedBy limitNumber
-  in-order i j o l =
-      rw (i, j, o, l) (go (fitsIn b k) (either (not (plateOk p)) (not (stateOk p (stateOf b k)))) (eqb (length m) (imageLength (p .total))))
-    where
-      go : (x y z : Bool) → _≡_ {A = ℕ} (firstOf (pick x (pick y 1 0) 1) (pick z 0 2) (roomNumber r)) (pick x (pick y 1 (pick (not z) 2 (roomNumber r))) 1)
-      go false y z = refl
-      go true true z = refl
-      go true false true = refl
-      go true false false = refl
-
-  pub alone-by : lends g ≡ false → limitNumber p b k ≡ refusalOn p b k m r g
-  unfolding refusalOn refusedBy limitNumber
-  alone-by l = rw l
+  -- of one that lends: R1 to R3 in that order, by what the tests told
+  pub in-order : (m : List ℕ) (r : ℕ) (g : Call) {w x s t : Bool} {kept memory : ℕ} → Bounds p b w → length k ≡ kept → length m ≡ memory → lends g ≡ true
+      → w && eqb kept 135 ≡ x → eqb memory (imageLength (p .total)) ≡ s → ltb r 134 ≡ t → pick x (pick s (pick t 3 0) 2) 1 ≡ refusalOn p b k m r g
+  unfolding refusalOn refusedBy
+  in-order m r g {w} h e f l i j o =
+      rw (l, ← i, ← j, ← o, ← e, ← f)
+      (sym (limit-told _ h ∙ ap (λ (n : ℕ). pick (w && eqb (length k) 135) n 1) (other-way (eqb (length m) (imageLength (p .total))) _)))
 
 pub few-kept : (p : Plate) (b : Board) (k : List ℕ) → Bounds p b true → length k ≡ 135 → b .frame .len ≤ 135
 few-kept p b k ok all = leb-true (b .frame .len) 135 (both-left (leb (b .frame .len) 135) (both (plateOk p) (stateOk p (stateOf b k))) (sym (ok .bound k all)))

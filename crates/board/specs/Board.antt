@@ -31,20 +31,6 @@ pub record Bounds (p : Plate) (b : Board) (r : Bool) : Type 0 where
 unfoldable pub refusalOn : Plate → Board → List ℕ → List ℕ → ℕ → Call → ℕ
 refusalOn p b kept m room g = pick (fitsIn b kept) (refusedBy p (stateOf b kept) m room g) 1
 
--- .. R1 alone
-unfoldable pub limitNumber : Plate → Board → List ℕ → ℕ
-limitNumber p b kept = pick (fitsIn b kept) (pick (either (not (plateOk p)) (not (stateOk p (stateOf b kept)))) 1 0) 1
-
--- .. R2, R3, and the first of three
-abbrev pub sizeNumber : ℕ → ℕ → ℕ
-sizeNumber total n = pick (eqb n (imageLength total)) 0 2
-
-abbrev pub roomNumber : ℕ → ℕ
-roomNumber n = pick (ltb n 134) 3 0
-
-abbrev pub firstOf : ℕ → ℕ → ℕ → ℕ
-firstOf a b c = pick (eqb a 0) (pick (eqb b 0) c b) a
-
 unfoldable pub calledOn : Plate → Board → List ℕ → List ℕ → List ℕ → Call → Held
 calledOn p b kept m room g =
     pick (fitsIn b kept) (called p (stateOf b kept) m room g)

@@ -6,7 +6,7 @@ ghost use Prim.Native.Nat.{ℕ};
 ghost use lib.ListN.{length};
 ghost use Rattle.meaning.specs.Run.{Call, lends};
 ghost use Rattle.line.specs.Line.{plateOf};
-ghost use Rattle.board.specs.Board.{refusalOn, limitNumber, sizeNumber, roomNumber, firstOf, Bounds};
+ghost use Rattle.board.specs.Board.{refusalOn, Bounds};
 use commands::State;
 use line::Frame;
 use line::Plate;
@@ -48,51 +48,16 @@ pub fn within_limits(plate: Plate, board: Board) -> bool
 pub fn refusal(plate: Plate, board: Board, kept: usize, memory: usize, room: usize) -> u8
     ensures { λ r. ⌜ ((k m : List ℕ) (g : Call) → length k ≡ kept → length m ≡ memory → lends g ≡ true → r ≡ refusalOn (plateOf plate) board k m room g) ⌝ }
 {
-    let limits = r1(plate, board, kept);
-    let size = r2(plate.total, memory);
-    let width = r3(room);
-    first_of(limits, size, width)
-}
-
-fn first_of(a: u8, b: u8, c: u8) -> u8
-    ensures { λ r. ⌜ r ≡ firstOf a b c ⌝ }
-{
-    if a != 0 {
-        return a;
-    }
-    if b != 0 {
-        return b;
-    }
-    c
-}
-
-// A plate or state number beyond its limit.
-fn r1(plate: Plate, board: Board, kept: usize) -> u8
-    ensures { λ r. ⌜ ((k : List ℕ) → length k ≡ kept → r ≡ limitNumber (plateOf plate) board k) ⌝ }
-{
-    if !within_limits(plate, board) {
+    let possible = within_limits(plate, board) & (kept == 135);
+    // 17T: 16T of data, then T status bytes.
+    let total = plate.total as u64;
+    let sized = memory as u64 == 16 * total + total;
+    if !possible {
         return 1;
     }
-    if kept != 135 {
-        return 1;
+    if !sized {
+        return 2;
     }
-    0
-}
-
-// Memory not 17T bytes: 16T of data, then T status bytes.
-fn r2(total: u32, memory: usize) -> u8
-    ensures { λ r. ⌜ r ≡ sizeNumber total memory ⌝ }
-{
-    if memory as u64 == 16 * (total as u64) + total as u64 {
-        return 0;
-    }
-    2
-}
-
-// Reply room under 134 bytes.
-fn r3(room: usize) -> u8
-    ensures { λ r. ⌜ r ≡ roomNumber room ⌝ }
-{
     if room < 134 {
         return 3;
     }

@@ -4,7 +4,7 @@ use native.Mathlib.Omega.{arith}
 use borrow.Author.Tests.{not-true, not-false}
 use Rattle.meaning.specs.Run.{lends}
 use Rattle.board.proofs.Stepping.{refused, powers}
-use Rattle.board.proofs.Bounding.{held, r1-limits, r1-none, alone-by}
+use Rattle.board.proofs.Bounding.{held, alone-by}
 use borrow.Author.Needs.{needs}
 use Rattle.board.proofs.calls.power_on.Statement.{statement}
 use Rattle.board.proofs.calls.power_on.Tie as tie
@@ -17,7 +17,7 @@ stepped-requires c κs = search needs
 
 returns : tie.Need-returns
 unfolding lends
-returns c = λ k m w h. refused _ _ k m w _ (c .stepped .ensures) (r1-limits _ _ k (held (c .before .before .within-limits .ensures) (not-true _ (c .before .if1 .taken))) ∙ alone-by _ _ k m _ _ refl) (λ z. omega arith)
+returns c = λ k m w h. refused _ _ k m w _ (c .stepped .ensures) (sym (alone-by _ _ k m _ _ (held (c .before .before .within-limits .ensures) (not-true _ (c .before .if1 .taken))) h refl)) (λ z. omega arith)
 
 power-on-requires : tie.Need-power-on-requires
 power-on-requires c κs = search needs
@@ -30,7 +30,7 @@ stepped-requires-2 c κs = search needs
 
 returns-2 : tie.Need-returns-2
 unfolding lends
-returns-2 c = λ k m w h. powers _ _ k m w _ _ (sym (r1-none _ _ k (held (c .before .before .before .before .within-limits .ensures) (not-false _ (c .before .before .before .if1 .left))) h ∙ alone-by _ _ k m _ _ refl)) (c .stepped2 .ensures) (c .before .none .ensures) (c .before .before .power-on .ensures _)
+returns-2 c = λ k m w h. powers _ _ k m w _ _ (alone-by _ _ k m _ _ (held (c .before .before .before .before .within-limits .ensures) (not-false _ (c .before .before .before .if1 .left))) h refl) (c .stepped2 .ensures) (c .before .none .ensures) (c .before .before .power-on .ensures _)
 
 pub power-on-spec : {M : Type 1} → statement M
 power-on-spec =

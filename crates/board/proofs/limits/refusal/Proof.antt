@@ -1,25 +1,47 @@
 -- `board::limits::refusal` meets its contract. Assumes nothing.
-use mathlib.Core.Path.{sym, ap, _∙_}
-use Rattle.board.specs.Board.{sizeNumber}
+use mathlib.Core.Path.{refl}
+use borrow.Author.Tests.{not-true, not-false, lt-ltb, le-ltb}
 use Rattle.board.proofs.Bounding.{in-order}
 use borrow.Author.Needs.{needs}
 use Rattle.board.proofs.limits.refusal.Statement.{statement}
 use Rattle.board.proofs.limits.refusal.Tie as tie
+use Rattle.board.proofs.limits.refusal.Reads as reads
+use Rattle.board.proofs.limits.refusal.Lts as lts
+use Rattle.board.proofs.limits.within_limits.Reads as within-limits-reads
 
-r1-requires : tie.Need-r1-requires
-r1-requires c κs = search needs
+within-limits-requires : tie.Need-within-limits-requires
+within-limits-requires c κs = search needs
 
-r2-requires : tie.Need-r2-requires
-r2-requires c κs = search needs
+cast-total : tie.Need-cast-total
+cast-total c = search needs
 
-r3-requires : tie.Need-r3-requires
-r3-requires c κs = search needs
+mul-sized : tie.Need-mul-sized
+mul-sized c = search needs
 
-first-of-requires : tie.Need-first-of-requires
-first-of-requires c κs = search needs
+add-sized : tie.Need-add-sized
+add-sized c = search needs
 
 returns : tie.Need-returns
-returns c = λ k m g e h l. c .first-of .ensures ∙ in-order _ _ k m _ g (c .before .before .before .r1 .ensures k e) (c .before .before .r2 .ensures ∙ ap (sizeNumber _) (sym h)) (c .before .r3 .ensures) l
+returns c = λ k m g e h l. in-order _ _ k m _ g (c .before .before .within-limits .ensures) e h l (not-true _ (c .if1 .taken)) refl refl
+
+returns-2 : tie.Need-returns-2
+returns-2 c = λ k m g e h l. in-order _ _ k m _ g (c .before .before .before .within-limits .ensures) e h l (not-false _ (c .before .if1 .left)) (not-true _ (c .if2 .taken)) refl
+
+returns-3 : tie.Need-returns-3
+returns-3 c = λ k m g e h l. in-order _ _ k m _ g (c .before .before .before .before .within-limits .ensures) e h l (not-false _ (c .before .before .if1 .left)) (not-false _ (c .before .if2 .left)) (lt-ltb _ _ (c .if3 .taken))
+
+returns-4 : tie.Need-returns-4
+returns-4 c = λ k m g e h l. in-order _ _ k m _ g (c .before .before .before .before .within-limits .ensures) e h l (not-false _ (c .before .before .if1 .left)) (not-false _ (c .before .if2 .left)) (le-ltb _ _ (c .if3 .left))
 
 pub refusal-spec : {M : Type 1} → statement M
-refusal-spec = tie.close (tie.spec r1-requires r2-requires r3-requires first-of-requires returns)
+refusal-spec =
+    tie.close
+    (tie.spec
+    within-limits-requires
+    cast-total
+    mul-sized
+    add-sized
+    returns
+    returns-2
+    returns-3
+    returns-4)
