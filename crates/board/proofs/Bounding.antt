@@ -16,7 +16,7 @@ use Rattle.line.specs.Line.{plateOf}
 use Rattle.board.specs.declared.limits.Board.{Board}
 use Rattle.board.specs.Work.{Ready}
 use Rattle.board.specs.Board.{stateOf, fitsIn, Bounds, refusalOn}
-use Rattle.meaning.proofs.Choices.{both-left, both-right, both-false}
+use Rattle.meaning.proofs.Choices.{both-left, both-right, both-true, both-false, and-both}
 
 pub lends-poll : (t : ℕ) → lends (poll t) ≡ true
 unfolding lends
@@ -54,10 +54,6 @@ possible true true false z w n h = rw (h refl)
 possible true true true false w n h = rw (h refl)
 possible true true true true w n h = rw (h refl)
 
-and-true : (w : Bool) → w && true ≡ w
-and-true true = refl
-and-true false = refl
-
 other-way : (s : Bool) (n : ℕ) → pick (not s) 2 n ≡ pick s n 2
 other-way true n = refl
 other-way false n = refl
@@ -71,7 +67,7 @@ module _ (p : Plate) (b : Board) (k : List ℕ) where
   -- of a call that lends nothing: R1 alone
   pub alone-by : (m : List ℕ) (r : ℕ) (g : Call) {w : Bool} → Bounds p b w → length k ≡ 135 → lends g ≡ false → refusalOn p b k m r g ≡ pick w 0 1
   unfolding refusalOn refusedBy
-  alone-by m r g {w} h e l = rw l (limit-told 0 h ∙ rw (eq-eqb (length k) 135 e, and-true w))
+  alone-by m r g {w} h e l = rw l (limit-told 0 h ∙ rw (eq-eqb (length k) 135 e, and-both w true, both-true w))
 
   -- of one that lends: R1 to R3 in that order, by what the tests told
   pub in-order : (m : List ℕ) (r : ℕ) (g : Call) {w x s t : Bool} {kept memory : ℕ} → Bounds p b w → length k ≡ kept → length m ≡ memory → lends g ≡ true

@@ -1,6 +1,6 @@
 -- Laws of any status table, sound or not: how a walk that halts and goes on adds up, and where the fields of a sound one lie. Assumes nothing.
 use Prim.Native.Nat.{ℕ, zero, suc, _+_, _-_, _*_, _≤_, min}
-use mathlib.Core.Bool.{Bool, true, false}
+use mathlib.Core.Bool.{Bool, true, false, _&&_}
 use mathlib.Core.Path.{_≡_, refl, sym, ap, subst, _∙_}
 use mathlib.Core.List.{List, [], _∷_}
 use native.Mathlib.Omega.{arith}
@@ -12,7 +12,7 @@ use borrow.Author.Tests.{leb-true}
 use Rattle.fields.specs.Memory.{Sits}
 use Rattle.meaning.specs.Bytes.{both, blank}
 use Rattle.meaning.specs.Fields.{blocks, exists, fieldCount, used, sound, table, freeBlocks, statusAt, Survey, survey}
-use Rattle.meaning.proofs.Choices.{both-right}
+use Rattle.meaning.proofs.Choices.{both-right, and-both}
 use Rattle.meaning.proofs.Wire.{within}
 use Rattle.meaning.proofs.Tables.{used-nil}
 
@@ -94,11 +94,12 @@ module _ (l : List ℕ) (f n b n₂ b₂ : ℕ) (first : n ≡ fieldCount (take 
 
 -- what it finds is the survey
 pub survey-is : (t f : ℕ) (m l : List ℕ) → table t m ≡ l → (trusted blank-rest : Bool) (n u free first status : ℕ)
-    → n ≡ fieldCount l → u ≡ used l → blank-rest ≡ blank (drop n l) → trusted ≡ both blank-rest (leb u t) → free ≡ t - u → first ≡ used (take f l) → status ≡ statusAt l f
+    → n ≡ fieldCount l → u ≡ used l → blank-rest ≡ blank (drop n l) → trusted ≡ blank-rest && leb u t → free ≡ t - u → first ≡ used (take f l) → status ≡ statusAt l f
     → _≡_ {A = Survey} (record { trusted = trusted; fields = n; free = free; first = first; status = status }) (survey t m f)
 unfolding survey sound freeBlocks
 survey-is t f m l e trusted blank-rest n u free first status p q z s r i k =
-    rw (e, ← p, ← q, ← z, ← s, ← r, ← i, ← k)
+    let y : trusted ≡ both blank-rest (leb u t) = s ∙ and-both blank-rest (leb u t) in
+    rw (e, ← p, ← q, ← z, ← y, ← r, ← i, ← k)
 
 pub blocks-some : (s : ℕ) → 1 ≤ blocks s
 unfolding blocks

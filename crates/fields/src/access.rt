@@ -8,7 +8,6 @@ ghost use Rattle.frame.specs.Answers.{Works};
 ghost use Rattle.fields.specs.Replies.{Asked, Readable, Storable, readOwn, storeOwn};
 use crate::find::Found;
 use crate::find::open_field;
-use crate::find::refusal;
 use crate::reply::repeat_three;
 use crate::status::is_writable;
 use frame::Answer;
@@ -49,7 +48,7 @@ pub fn read_field(
         status: _,
     } = found
     else {
-        return refusal(found);
+        return Answer::Refuse(found.code());
     };
     if request[2] == 0 {
         return Answer::Refuse(0x0D);
@@ -88,7 +87,7 @@ pub fn store_field(
 {
     let found = open_field(memory, total, codes, request[0], request[3]);
     let Found::Field { from, to, status } = found else {
-        return refusal(found);
+        return Answer::Refuse(found.code());
     };
     if !is_writable(status) {
         return Answer::Refuse(0x0E);

@@ -1,19 +1,33 @@
 // A named field looked up in the table, with the checks that 4Ah, 4Bh and 4Ch begin with (01, "The commands").
 ghost use mathlib.Core.Path.{_≡_};
-ghost use Rattle.frame.specs.declared.answer.Answer.the-variants as told;
 ghost use Rattle.fields.specs.Memory.{Fit};
 ghost use Rattle.fields.specs.Found.{FoundIn, OpenTo, codeIn};
 use crate::sizes::bytes_of;
 use crate::status::blocks_in;
 use crate::status::is_barred;
 use crate::table::survey;
-use frame::Answer;
 
 pub enum Found {
     // The field's own part of memory, from its first byte up to the one past its last, and its status.
     Field { from: usize, to: usize, status: u8 },
     // The error code.
     Refused(u8),
+}
+
+impl Found {
+    // The error code, 00h where a field was found.
+    pub(crate) fn code(self) -> u8
+        ensures { λ r. ⌜ r ≡ codeIn self ⌝ }
+    {
+        match self {
+            Found::Refused(code) => code,
+            Found::Field {
+                from: _,
+                to: _,
+                status: _,
+            } => 0,
+        }
+    }
 }
 
 // 03h; 12h.
@@ -55,18 +69,4 @@ pub(crate) fn open_field(memory: &[u8], total: usize, codes: [u8; 4], field: u8,
         return Found::Refused(0x0F);
     }
     found
-}
-
-// The error answer where no field was found.
-pub(crate) fn refusal(found: Found) -> Answer
-    ensures { λ r. ⌜ r ≡ told.Refuse (codeIn found) ⌝ }
-{
-    match found {
-        Found::Refused(code) => Answer::Refuse(code),
-        Found::Field {
-            from: _,
-            to: _,
-            status: _,
-        } => Answer::Refuse(0),
-    }
 }

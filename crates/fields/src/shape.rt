@@ -5,7 +5,6 @@ ghost use Prim.Native.Nat.{ℕ, _+_, _≤_, _<_};
 ghost use Rattle.meaning.specs.Bytes.{both, differ};
 ghost use Rattle.meaning.specs.State.{Plate, State};
 ghost use Rattle.meaning.specs.Commands.{c4D, create, modify, delete, shapeField};
-ghost use Rattle.frame.specs.declared.answer.Answer.the-variants as told;
 ghost use Rattle.frame.specs.Answers.{Works};
 ghost use Rattle.fields.specs.Memory.{Sits, surveyOf};
 ghost use Rattle.fields.specs.Replies.{Asked};
@@ -25,6 +24,18 @@ pub enum Grant {
     Granted(Change),
     // The error code.
     Refused(u8),
+}
+
+impl Grant {
+    // The error code, 00h where the change is granted.
+    fn code(self) -> u8
+        ensures { λ r. ⌜ r ≡ codeOf self ⌝ }
+    {
+        match self {
+            Grant::Refused(code) => code,
+            Grant::Granted(_) => 0,
+        }
+    }
 }
 
 // 01, "10h if the size changes and the field is not the last".
@@ -130,16 +141,6 @@ fn judge_shape(seen: Survey, total: usize, codes: [u8; 4], request: &[u8]) -> Gr
     judge_delete(seen, codes, field, code)
 }
 
-// The error answer where nothing is granted.
-fn no_grant(grant: Grant) -> Answer
-    ensures { λ r. ⌜ r ≡ told.Refuse (codeOf grant) ⌝ }
-{
-    match grant {
-        Grant::Refused(code) => Answer::Refuse(code),
-        Grant::Granted(_) => Answer::Refuse(0),
-    }
-}
-
 // 4Dh: field, status, code. The reply repeats the status as received.
 pub fn shape_field(
     memory: &mut [u8],
@@ -156,7 +157,7 @@ pub fn shape_field(
     let seen = survey(memory, total, field);
     let grant = judge_shape(seen, total, codes, request);
     let Grant::Granted(change) = grant else {
-        return no_grant(grant);
+        return Answer::Refuse(grant.code());
     };
     apply(memory, total, field, change);
     reply_two(field, request[1], room)

@@ -3,7 +3,7 @@ ghost use mathlib.Core.Path.{_≡_};
 ghost use Prim.Native.Nat.{ℕ, _≤_};
 ghost use mathlib.Core.List.{List};
 ghost use lib.ListN.{length, take, drop};
-ghost use Rattle.meaning.specs.Bytes.{blank, both};
+ghost use Rattle.meaning.specs.Bytes.{blank};
 ghost use Rattle.meaning.specs.Fields.{survey, statusAt, table};
 ghost use Rattle.fields.specs.Memory.{Fit, Statuses, Tallied, surveyOf};
 use crate::seen::Survey;
@@ -50,12 +50,6 @@ pub(crate) fn is_blank(rest: &[u8]) -> bool
     bits == 0
 }
 
-fn both(a: bool, b: bool) -> bool
-    ensures { λ r. ⌜ r ≡ both a b ⌝ }
-{
-    if a { b } else { false }
-}
-
 fn front(bytes: &[u8], n: usize) -> &[u8]
     ensures { λ r. ⌜ now r ≡ take n (now (bytes .entry)) ⌝ }
 {
@@ -87,7 +81,7 @@ fn walk(statuses: &[u8], total: usize, field: usize) -> Survey
     let used = before.blocks + after.blocks;
     let rest_blank = is_blank(past(statuses, fields));
     Survey {
-        sound: both(rest_blank, used <= total),
+        sound: rest_blank & (used <= total),
         fields,
         free: less(total, used),
         first: before.blocks,

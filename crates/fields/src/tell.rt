@@ -9,7 +9,6 @@ ghost use Rattle.fields.specs.Memory.{Lent};
 ghost use Rattle.fields.specs.Replies.{Asked};
 use crate::find::Found;
 use crate::find::find_field;
-use crate::find::refusal;
 use crate::reply::reply_two;
 use crate::table::survey;
 use frame::Answer;
@@ -28,7 +27,7 @@ pub fn field_status(memory: &[u8], total: usize, request: &[u8], room: &mut [u8]
         status,
     } = found
     else {
-        return refusal(found);
+        return Answer::Refuse(found.code());
     };
     reply_two(field, status, room)
 }

@@ -1,6 +1,6 @@
 -- Laws of choices: `pick`, `both`, `either` and `choose`. Assumes nothing.
 use mathlib.Core.Path.{_≡_, refl}
-use mathlib.Core.Bool.{Bool, true, false, not, false≢true}
+use mathlib.Core.Bool.{Bool, true, false, not, _&&_, false≢true}
 use lib.Dec.{T}
 use Rattle.meaning.specs.Bytes.{pick, both, either}
 use Rattle.meaning.specs.Commands.{Answer, choose}
@@ -40,6 +40,11 @@ both-true false = refl
 pub both-false : (a : Bool) → both a false ≡ false
 both-false true = refl
 both-false false = refl
+
+-- `&` of the code
+pub and-both : (a b : Bool) → a && b ≡ both a b
+and-both true b = refl
+and-both false b = refl
 
 pub either-true : (a : Bool) → either a true ≡ true
 either-true true = refl

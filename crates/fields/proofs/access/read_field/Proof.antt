@@ -42,14 +42,14 @@ enum-known-found c = search needs
 enum-told : tie.Need-enum-told
 enum-told c = search needs
 
-refusal-requires : tie.Need-refusal-requires
-refusal-requires c κs = search needs
+code-requires : tie.Need-code-requires
+code-requires c κs = search needs
 
 returns : tie.Need-returns
 returns c = λ p s e q.
     let k = c .before .before .before in
     let a = entry k .args in
-    rw (c .refusal .ensures)
+    rw (c .code .ensures)
     (works-refuse _ (a .memory .now) (a .room .now) _ (read-refused p s (a .codes) (a .total) (a .memory .now) (a .request .now) e q _ (k .open-field .ensures) (c .before .before .match .keys2)))
 
 shared-slice-read-if1 : tie.Need-shared-slice-read-if1
@@ -120,7 +120,7 @@ read-field-spec =
     open-field-requires
     enum-known-found
     enum-told
-    refusal-requires
+    code-requires
     returns
     shared-slice-read-if1
     returns-2

@@ -43,8 +43,8 @@ enum-known-found c = search needs
 enum-told : tie.Need-enum-told
 enum-told c = search needs
 
-refusal-requires : tie.Need-refusal-requires
-refusal-requires c κs = search needs
+code-requires : tie.Need-code-requires
+code-requires c κs = search needs
 
 same-length : tie.Need-same-length
 same-length c = search needs
@@ -53,7 +53,7 @@ returns : tie.Need-returns
 returns c = λ p s e q.
     let k = c .before .before .before in
     let a = entry k .args in
-    rw (c .refusal .ensures)
+    rw (c .code .ensures)
     (works-refuse _ (a .memory .now) (a .room .now) _ (store-refused p s (a .codes) (a .total) (a .memory .now) (a .request .now) e q _ (k .open-field .ensures) (c .before .before .match .keys2)))
 
 is-writable-requires : tie.Need-is-writable-requires
@@ -117,7 +117,7 @@ store-field-spec =
     open-field-requires
     enum-known-found
     enum-told
-    refusal-requires
+    code-requires
     same-length
     returns
     is-writable-requires

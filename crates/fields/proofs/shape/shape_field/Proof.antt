@@ -51,8 +51,8 @@ enum-known-grant c = search needs
 enum-told : tie.Need-enum-told
 enum-told c = search needs
 
-no-grant-requires : tie.Need-no-grant-requires
-no-grant-requires c κs = search needs
+code-requires : tie.Need-code-requires
+code-requires c κs = search needs
 
 same-length : tie.Need-same-length
 same-length c = search needs
@@ -62,7 +62,7 @@ returns c = λ p s e q.
     let k = c .before .before .before in
     let a = entry k .args in
     let d = a .request .now in
-    rw (c .no-grant .ensures)
+    rw (c .code .ensures)
     (works-refuse _ (a .memory .now) (a .room .now) _
     (k .judge-shape .ensures .answer p s (a .memory .now) e q (k .before .survey .ensures) ∙ not-granted (k .judge-shape .result) (c .before .before .match .keys2) (a .total) s (a .memory .now) (arg d 0) (arg d 1)))
 
@@ -103,7 +103,7 @@ shape-field-spec =
     judge-shape-requires
     enum-known-grant
     enum-told
-    no-grant-requires
+    code-requires
     same-length
     returns
     apply-requires

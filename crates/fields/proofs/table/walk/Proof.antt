@@ -1,11 +1,11 @@
 -- `fields::table::walk` meets its contract. Assumes nothing.
 use Prim.Native.Nat.{_+_}
-use mathlib.Core.Path.{_≡_, ap, _∙_}
+use mathlib.Core.Path.{_≡_, refl, ap, _∙_}
 use native.Mathlib.Omega.{arith}
 use lib.ListN.{take, length-take, length-drop}
 use borrow.Author.Needs.{needs}
 use Rattle.meaning.specs.Fields.{fieldCount, used}
-use Rattle.meaning.specs.Bytes.{blank, both}
+use Rattle.meaning.specs.Bytes.{blank}
 use Rattle.fields.proofs.Tables.{used-le, walk-fields, walk-used, survey-is}
 use Rattle.fields.proofs.table.walk.Statement.{statement}
 use Rattle.fields.proofs.table.walk.Tie as tie
@@ -69,9 +69,6 @@ past-requires-2 c κs =
 is-blank-requires : tie.Need-is-blank-requires
 is-blank-requires c κs = search needs
 
-both-requires : tie.Need-both-requires
-both-requires c κs = search needs
-
 less-requires : tie.Need-less-requires
 less-requires c κs = search needs
 
@@ -80,12 +77,12 @@ status-at-requires c κs = search needs
 
 returns : tie.Need-returns
 returns c = λ m e.
-    let p = c .before .before .before .before in
+    let p = c .before .before .before in
     let k = p .before .before .before .before .before in
     let b = k .before .before in
     let a = b .before .before .before .args in
-    survey-is (a .total) (a .field) m (a .statuses .now) e _ (c .before .before .before .is-blank .result) _ _ _ _ _
-    (all-fields k) (all-used k) (c .before .before .before .is-blank .ensures ∙ ap blank (p .past2 .ensures)) (c .before .before .both .ensures)
+    survey-is (a .total) (a .field) m (a .statuses .now) e _ (c .before .before .is-blank .result) _ _ _ _ _
+    (all-fields k) (all-used k) (c .before .before .is-blank .ensures ∙ ap blank (p .past2 .ensures)) refl
     (c .before .less .ensures) (used-before b) (c .status-at .ensures)
 
 pub walk-spec : {M : Type 1} → statement M
@@ -100,7 +97,6 @@ walk-spec =
     add-used
     past-requires-2
     is-blank-requires
-    both-requires
     less-requires
     status-at-requires
     returns)

@@ -31,14 +31,14 @@ enum-known-found c = search needs
 enum-told : tie.Need-enum-told
 enum-told c = search needs
 
-refusal-requires : tie.Need-refusal-requires
-refusal-requires c κs = search needs
+code-requires : tie.Need-code-requires
+code-requires c κs = search needs
 
 returns : tie.Need-returns
 returns c = λ p s e.
     let k = c .before .before .before in
     let a = k .before .before .before .before .before .args in
-    rw (c .refusal .ensures) (works-refuse _ (a .memory .now) (a .room .now) _ (status-refused p s (a .total) (a .memory .now) (a .request .now) e _ (k .find-field .ensures) (c .before .before .match .keys2)))
+    rw (c .code .ensures) (works-refuse _ (a .memory .now) (a .room .now) _ (status-refused p s (a .total) (a .memory .now) (a .request .now) e _ (k .find-field .ensures) (c .before .before .match .keys2)))
 
 reply-two-requires : tie.Need-reply-two-requires
 reply-two-requires c κs = search needs
@@ -60,7 +60,7 @@ field-status-spec =
     find-field-requires
     enum-known-found
     enum-told
-    refusal-requires
+    code-requires
     returns
     reply-two-requires
     same-length
