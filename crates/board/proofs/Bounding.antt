@@ -2,46 +2,42 @@
 use Prim.Native.Nat.{ℕ, _≤_, _<_}
 use native.Mathlib.Omega.{arith}
 use mathlib.Core.Path.{_≡_, refl, sym, ap, _∙_}
-use mathlib.Core.Bool.{Bool, true, false, not, _&&_, false≢true}
+use mathlib.Core.Bool.{Bool, true, false, not, _&&_}
 use mathlib.Core.List.{List}
-use borrow.Author.Tests.{le-leb, lt-leb, lt-ltb, le-ltb, eq-eqb, ne-eqb, leb-true, eqb-true, ltb-false}
+use borrow.Author.Tests.{le-leb, lt-leb, eq-eqb, leb-true, eqb-true, ltb-false}
 use lib.Dec.{eqb, leb, ltb}
 use lib.ListN.{length, take, length-take}
 use Rattle.meaning.specs.Bytes.{pick, both, either}
 use Rattle.meaning.specs.State.{Plate, plateOk, stateOk}
 use Rattle.meaning.specs.Fields.{imageLength}
-use Rattle.meaning.specs.Run.{Call, character, poll, refusedBy, lends}
+use Rattle.meaning.specs.Run.{Call, poll, refusedBy, lends}
 use Rattle.line.specs.declared.plate.Plate as line
 use Rattle.line.specs.Line.{plateOf}
 use Rattle.board.specs.declared.limits.Board.{Board}
 use Rattle.board.specs.Work.{Ready}
-use Rattle.board.specs.Board.{stateOf, fitsIn, Bounds, refusalOn}
-use Rattle.meaning.proofs.Choices.{both-left, both-right, both-true, both-false, and-both}
+use Rattle.board.specs.Board.{stateOf, fitsIn, within, refusalOn}
+use Rattle.meaning.proofs.Choices.{both-left, both-true, both-false, and-both}
 
 pub lends-poll : (t : ℕ) → lends (poll t) ≡ true
 unfolding lends
 lends-poll t = refl
 
-pub lends-character : (t v : ℕ) (bad : Bool) → lends (character t v bad) ≡ true
-unfolding lends
-lends-character t v bad = refl
-
 few-taken : (n : ℕ) (kept : List ℕ) → length kept ≡ 135 → length (take n kept) ≤ 135
 few-taken n kept all = simp length-take (omega arith)
 
-module _ (p : Plate) (b : Board) where
-  pub bad-plate : plateOk p ≡ false → Bounds p b false
-  bad-plate e = record { bound = λ kept all. rw e (sym (both-false (leb (b .frame .len) 135))) }
+module _ (p : Plate) (b : Board) (kept : List ℕ) where
+  pub bad-plate : plateOk p ≡ false → false ≡ within p b kept
+  unfolding within
+  bad-plate e = rw e (sym (both-false (leb (b .frame .len) 135)))
 
-  pub too-many : 135 < b .frame .len → Bounds p b false
-  too-many h = record { bound = λ kept all. rw (lt-leb (b .frame .len) 135 h) }
+  pub too-many : 135 < b .frame .len → false ≡ within p b kept
+  unfolding within
+  too-many h = rw (lt-leb (b .frame .len) 135 h)
 
-  pub by-state : {t : Bool} → plateOk p ≡ true → b .frame .len ≤ 135 → ((kept : List ℕ) → length (take (b .frame .len) kept) ≤ 135 → t ≡ stateOk p (stateOf b kept))
-      → Bounds p b t
-  by-state e h f = record { bound = λ kept all. rw (le-leb (b .frame .len) 135 h, e) (f kept (few-taken (b .frame .len) kept all)) }
-
-pub held : {p : Plate} {b : Board} {t u : Bool} → Bounds p b t → t ≡ u → Bounds p b u
-held h e = rw e at h
+  pub by-state : {t : Bool} → plateOk p ≡ true → b .frame .len ≤ 135 → length kept ≡ 135 → (length (take (b .frame .len) kept) ≤ 135 → t ≡ stateOk p (stateOf b kept))
+      → t ≡ within p b kept
+  unfolding within
+  by-state e h all f = rw (le-leb (b .frame .len) 135 h, e) (f (few-taken (b .frame .len) kept all))
 
 -- R1 by its tests: enough places, plate, state
 possible : (x q y z w : Bool) (n : ℕ) → (q ≡ true → w ≡ both x (both y z)) → pick (both x q) (pick (either (not y) (not z)) 1 n) 1 ≡ pick (w && q) n 1
@@ -59,26 +55,27 @@ other-way true n = refl
 other-way false n = refl
 
 module _ (p : Plate) (b : Board) (k : List ℕ) where
-  limit-told : {w : Bool} (n : ℕ) → Bounds p b w → pick (fitsIn b k) (pick (either (not (plateOk p)) (not (stateOk p (stateOf b k)))) 1 n) 1 ≡ pick (w && eqb (length k) 135) n 1
-  unfolding fitsIn
+  limit-told : {w : Bool} (n : ℕ) → (length k ≡ 135 → w ≡ within p b k) → pick (fitsIn b k) (pick (either (not (plateOk p)) (not (stateOk p (stateOf b k)))) 1 n) 1 ≡ pick (w && eqb (length k) 135) n 1
+  unfolding fitsIn within
   limit-told {w} n h =
-      possible (leb (b .frame .len) 135) (eqb (length k) 135) (plateOk p) (stateOk p (stateOf b k)) w n (λ e. h .bound k (eqb-true (length k) 135 e))
+      possible (leb (b .frame .len) 135) (eqb (length k) 135) (plateOk p) (stateOk p (stateOf b k)) w n (λ e. h (eqb-true (length k) 135 e))
 
   -- of a call that lends nothing: R1 alone
-  pub alone-by : (m : List ℕ) (r : ℕ) (g : Call) {w : Bool} → Bounds p b w → length k ≡ 135 → lends g ≡ false → refusalOn p b k m r g ≡ pick w 0 1
+  pub alone-by : (m : List ℕ) (r : ℕ) (g : Call) → length k ≡ 135 → lends g ≡ false → refusalOn p b k m r g ≡ pick (within p b k) 0 1
   unfolding refusalOn refusedBy
-  alone-by m r g {w} h e l = rw l (limit-told 0 h ∙ rw (eq-eqb (length k) 135 e, and-both w true, both-true w))
+  alone-by m r g e l = rw l (limit-told 0 (λ z. refl) ∙ rw (eq-eqb (length k) 135 e, and-both (within p b k) true, both-true (within p b k)))
 
   -- of one that lends: R1 to R3 in that order, by what the tests told
-  pub in-order : (m : List ℕ) (r : ℕ) (g : Call) {w x s t : Bool} {kept memory : ℕ} → Bounds p b w → length k ≡ kept → length m ≡ memory → lends g ≡ true
+  pub in-order : (m : List ℕ) (r : ℕ) (g : Call) {w x s t : Bool} {kept memory : ℕ} → (length k ≡ 135 → w ≡ within p b k) → length k ≡ kept → length m ≡ memory → lends g ≡ true
       → w && eqb kept 135 ≡ x → eqb memory (imageLength (p .total)) ≡ s → ltb r 134 ≡ t → pick x (pick s (pick t 3 0) 2) 1 ≡ refusalOn p b k m r g
   unfolding refusalOn refusedBy
   in-order m r g {w} h e f l i j o =
       rw (l, ← i, ← j, ← o, ← e, ← f)
       (sym (limit-told _ h ∙ ap (λ (n : ℕ). pick (w && eqb (length k) 135) n 1) (other-way (eqb (length m) (imageLength (p .total))) _)))
 
-pub few-kept : (p : Plate) (b : Board) (k : List ℕ) → Bounds p b true → length k ≡ 135 → b .frame .len ≤ 135
-few-kept p b k ok all = leb-true (b .frame .len) 135 (both-left (leb (b .frame .len) 135) (both (plateOk p) (stateOk p (stateOf b k))) (sym (ok .bound k all)))
+pub few-kept : (p : Plate) (b : Board) (k : List ℕ) → within p b k ≡ true → b .frame .len ≤ 135
+unfolding within
+few-kept p b k e = leb-true (b .frame .len) 135 (both-left (leb (b .frame .len) 135) (both (plateOk p) (stateOk p (stateOf b k))) e)
 
 -- what is known where nothing is refused
 pub record Passed (x w y z s t : Bool) : Type 0 where

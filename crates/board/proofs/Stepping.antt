@@ -5,30 +5,36 @@ use native.Mathlib.Nat.{zero-add}
 use native.Mathlib.Decide.{ℕ-discrete}
 use mathlib.Core.Path.{_≡_, refl, sym, ap, _∙_}
 use mathlib.Core.Bool.{Bool, true, false}
-use mathlib.Core.List.{List, [], _++_, append-nil}
-use borrow.Author.Tests.{eq-eqb, ne-eqb}
+use mathlib.Core.List.{List, [], _∷_, _++_, append-nil}
+use borrow.Author.Tests.{eq-eqb, ne-eqb, eqb-true, eqb-false}
+use types.Run.{OneOf, miss}
+use denote.Enum.Declared.{tagOf}
 use lib.Dec.{eqb}
 use lib.ListN.{length, take, drop, take-append-drop, length-take, drop-of-length-le}
 use lib.Seq.{take-all}
 use Rattle.meaning.specs.Bytes.{pick, put}
 use Rattle.meaning.specs.State as meaning
-use Rattle.meaning.specs.State.{Plate, none, withLine, withMeasured, fresh, noted, poweredOn}
+use Rattle.meaning.specs.State.{Plate, none, withLine}
 use Rattle.meaning.specs.Characters.{over, more, taken, closed}
 use Rattle.meaning.specs.Frames.{Outcome, work, resting, still, upTo}
 use Rattle.meaning.specs.Frames as frames
 use Rattle.meaning.specs.Run as run
-use Rattle.meaning.specs.Run.{Call, Held, step, called, closes, refusedBy}
+use Rattle.meaning.specs.Run.{Call, Held, step, called, closes, lends, refusedBy}
 use Rattle.line.specs.declared.characters.Frame.{Frame}
 use Rattle.line.specs.Line.{lineOf, noFrame, Fits, Extends}
 use Rattle.commands.specs.declared.state.State.{State}
 use Rattle.commands.specs.State.{stateWith}
+use Rattle.meaning.proofs.Rests.{work-rests}
 use Rattle.commands.proofs.Answering.{put-nothing}
 use Rattle.board.specs.declared.limits.Board.{Board}
+use Rattle.board.specs.declared.limits.Outcome as code
+use Rattle.board.proofs.limits.Outcome.{the-type}
 use Rattle.board.specs.declared.limits.Outcome.the-variants.{Refused, Still, Over}
 use Rattle.board.specs.declared.limits.Stepped.{Stepped}
 use Rattle.board.specs.declared.closing.Closed.{Closed}
-use Rattle.board.specs.Board.{stateOf, fitsIn, refusalOn, calledOn, outcomeOf, Steps}
+use Rattle.board.specs.Board.{stateOf, fitsIn, within, toldBy, refusalOn, calledOn, outcomeOf, Steps}
 use Rattle.board.specs.Work.{Closes}
+use Rattle.board.proofs.Bounding.{lends-poll, alone-by, few-kept, facts}
 
 -- bytes put where they stand already
 put-own : (kept : List ℕ) (n : ℕ) → kept ≡ put kept 0 (take n kept)
@@ -68,6 +74,13 @@ module _ (p : Plate) (b : Board) (k m w : List ℕ) (g : Call) where
       go true e = let z : eqb (refusedBy p (stateOf b k) m (length w) g) 0 ≡ true = eq-eqb _ 0 e in rw z
       go false e = absurd (omega arith)
 
+  told-refusal : (calledOn p b k m w g) .refusal ≡ refusalOn p b k m (length w) g
+  told-refusal = go (eqb (refusalOn p b k m (length w) g) 0) refl
+    where
+      go : (t : Bool) → eqb (refusalOn p b k m (length w) g) 0 ≡ t → (calledOn p b k m w g) .refusal ≡ refusalOn p b k m (length w) g
+      go true z = let e = eqb-true (refusalOn p b k m (length w) g) 0 z in ap (λ (h : Held). h .refusal) (held-on e) ∙ sym e
+      go false z = ap (λ (h : Held). h .refusal) (held-refused refl (eqb-false (refusalOn p b k m (length w) g) 0 z))
+
   pub refused : {n : ℕ} {r : Stepped} → r ≡ (record { board = b; outcome = Refused n }) → n ≡ refusalOn p b k m (length w) g → (n ≡ 0 → ⊥)
       → Steps p b k m w g r k m w
   unfolding outcomeOf
@@ -99,32 +112,26 @@ module _ (p : Plate) (b : Board) (k m w : List ℕ) (g : Call) where
         refused = λ y. absurd (y (ap (λ (x : Held). x .refusal) (held-on e)));
       }
 
--- the calls that lend nothing
-module _ (p : Plate) (b : Board) (k m w : List ℕ) (s : State) (f : Frame) {r : Stepped} where
-  pub alone : (g : Call) → refusalOn p b k m (length w) g ≡ 0 → r ≡ (record { board = record { state = s; frame = f }; outcome = Still })
-      → closes p (stateOf b k) g ≡ false → (step p (stateOf b k) m g) .reply ≡ [] → (step p (stateOf b k) m g) .memory ≡ m
-      → stateWith s (lineOf f k) ≡ (step p (stateOf b k) m g) .state → f .len ≤ 135 → Steps p b k m w g r k m w
-  alone g e q c i j h few =
-      stepped p b k m w g e (rw (q, c)) (rw q h) (put-own k (f .len) ∙ ap (λ (x : meaning.State). put k 0 (x .line .kept)) h) (sym j)
-      (rw i (put-nothing w 0)) (rw q few)
+-- the calls that lend nothing, by what the board is told to be
+pub told-by : (p : Plate) (b next : Board) (k : List ℕ) {t u : Bool} → t ≡ within p b k → t ≡ u → toldBy u b next ≡ toldBy (within p b k) b next
+told-by p b next k e i = ap (λ (x : Bool). toldBy x b next) (sym i ∙ e)
 
-  pub measures : {x : ℕ} → refusalOn p b k m (length w) (run.measured x) ≡ 0
-      → r ≡ (record { board = record { state = s; frame = f }; outcome = Still }) → b .frame ≡ f → f .len ≤ 135
-      → stateWith s (lineOf f k) ≡ withMeasured (stateWith (b .state) (lineOf f k)) x → Steps p b k m w (run.measured x) r k m w
-  unfolding step still closes
-  measures {x} e q i few h = alone (run.measured x) e q refl refl refl (rw i h) few
+module _ (p : Plate) (b next : Board) (k m w : List ℕ) (g : Call) (all : length k ≡ 135) (l : lends g ≡ false) {r : Stepped} where
+  alone : refusalOn p b k m (length w) g ≡ 0 → r ≡ (record { board = next; outcome = Still }) → closes p (stateOf b k) g ≡ false
+      → stateOf next k ≡ (step p (stateOf b k) m g) .state → still ((step p (stateOf b k) m g) .state) m ≡ step p (stateOf b k) m g → next .frame .len ≤ 135
+      → Steps p b k m w g r k m w
+  unfolding still
+  alone e q c h i few =
+      stepped p b k m w g e (rw (q, c)) (rw q h) (put-own k (next .frame .len) ∙ ap (λ (x : meaning.State). put k 0 (x .line .kept)) h) (ap (λ (x : Outcome). x .memory) i)
+      (rw (← i) (put-nothing w 0)) (rw q few)
 
-  pub notes : {x : ℕ} → refusalOn p b k m (length w) (run.fault x) ≡ 0
-      → r ≡ (record { board = record { state = s; frame = f }; outcome = Still }) → b .frame ≡ f → f .len ≤ 135
-      → stateWith s (lineOf f k) ≡ noted (stateWith (b .state) (lineOf f k)) x → Steps p b k m w (run.fault x) r k m w
-  unfolding step still closes
-  notes {x} e q i few h = alone (run.fault x) e q refl refl refl (rw i h) few
-
-  pub powers : refusalOn p b k m (length w) run.power-on ≡ 0
-      → r ≡ (record { board = record { state = s; frame = f }; outcome = Still }) → f ≡ noFrame
-      → stateWith s none ≡ poweredOn (stateOf b k) → Steps p b k m w run.power-on r k m w
-  unfolding step still closes none
-  powers e q i h = alone run.power-on e q refl refl refl (rw i h) (rw i (omega arith))
+  pub tells : r ≡ toldBy (within p b k) b next → closes p (stateOf b k) g ≡ false → stateOf next k ≡ (step p (stateOf b k) m g) .state
+      → still ((step p (stateOf b k) m g) .state) m ≡ step p (stateOf b k) m g → (b .frame .len ≤ 135 → next .frame .len ≤ 135) → Steps p b k m w g r k m w
+  tells q c h i few = go (within p b k) refl
+    where
+      go : (t : Bool) → within p b k ≡ t → Steps p b k m w g r k m w
+      go true e = alone (alone-by p b k m (length w) g all l ∙ rw e) (q ∙ rw e) c h i (few (few-kept p b k e))
+      go false e = refused p b k m w g (q ∙ rw e) (sym (alone-by p b k m (length w) g all l ∙ rw e)) (eqb-false 1 0 refl)
 
 -- the calls that may close a frame
 module _ (p : Plate) (b : Board) (k m w : List ℕ) (t : ℕ) where
@@ -154,28 +161,87 @@ module _ (p : Plate) (b : Board) (k m w : List ℕ) (t : ℕ) where
         stepped p b k m w (run.poll t) e (rw (q, o, closed-now o, h .sent)) (rw (q, i, closed-now o) (h .state))
         (rw (closed-now o, ← h .state) (put-nothing k 0)) (rw (closed-now o) (h .memory)) (rw (closed-now o) (h .room)) (rw (q, i) (omega arith))
 
-    module _ {v : ℕ} {bad : Bool} where
-      pub character-still : {s : State} {f : Frame} {k′ : List ℕ} → refusalOn p b k m (length w) (run.character t v bad) ≡ 0
-          → r ≡ (record { board = record { state = s; frame = f }; outcome = Still }) → b .state ≡ s → over p (stateOf b k) t ≡ false
-          → Extends (more (pick (b .frame .begun) (lineOf (b .frame) k) none) t v bad) k f k′ → Steps p b k m w (run.character t v bad) r k′ m w
-      unfolding step still closes taken withLine
-      character-still {s} {f} {k′} e q i o h =
-          stepped p b k m w (run.character t v bad) e (rw (q, o)) (rw (q, still-there o, ← i) (ap (stateWith (b .state)) (h .line)))
-          (rw (still-there o) (h .bytes)) (rw (still-there o)) (rw (still-there o) (put-nothing w 0)) (rw q (h .few))
+-- an outcome by its case: refused or not
+served : (h : Held) (c : Bool) (o : code.Outcome) → OneOf (1 ∷ 2 ∷ []) (tagOf the-type o) → o ≡ outcomeOf h c → h .refusal ≡ 0
+unfolding outcomeOf
+served h c o i e = go (eqb (h .refusal) 0) refl
+  where
+    go : (t : Bool) → eqb (h .refusal) 0 ≡ t → h .refusal ≡ 0
+    go true z = eqb-true (h .refusal) 0 z
+    go false z = absurd (miss (1 ∷ 2 ∷ []) 0 tt (rw (e, z) at i))
 
-      pub character-over : {c : Closed} {f g : Frame} {k′ m′ w′ : List ℕ} → refusalOn p b k m (length w) (run.character t v bad) ≡ 0
-          → r ≡ (record { board = record { state = c .state; frame = g }; outcome = Over (c .sent) }) → f ≡ noFrame → over p (stateOf b k) t ≡ true
-          → Closes p (b .state) (b .frame) k m w c m′ w′ → Extends (more (pick (f .begun) (lineOf f k) none) t v bad) k g k′
-          → Steps p b k m w (run.character t v bad) r k′ m′ w′
-      unfolding step closes taken withLine none
-      character-over {c} {f} {g} {k′} e q i o h x =
-          let y : Extends (more none t v bad) k g k′ = rw i at x in
-          stepped p b k m w (run.character t v bad) e (rw (q, o, closed-now o, h .sent)) (rw (q, closed-now o, ← h .state) (ap (stateWith (c .state)) (y .line)))
-          (rw (closed-now o, ← h .state) (y .bytes)) (rw (closed-now o) (h .memory)) (rw (closed-now o) (h .room)) (rw q (y .few))
+unserved : (h : Held) (c : Bool) (o : code.Outcome) → tagOf the-type o ≡ 0 → o ≡ outcomeOf h c → h .refusal ≡ 0 → ⊥
+unfolding outcomeOf
+unserved h true o i e z = eqb-false 2 0 refl (rw (e, z) at i)
+unserved h false o i e z = eqb-false 1 0 refl (rw (e, z) at i)
 
-pub fresh-board : (p : Plate) (k : List ℕ) (s : State) {f : Frame} → stateWith s none ≡ fresh p → f ≡ noFrame → stateWith s (lineOf f k) ≡ fresh p
+-- a character, by the poll before it
+module _ (p : Plate) (b : Board) (k m w : List ℕ) (t : ℕ) {r : Stepped} {k′ m′ w′ : List ℕ} (s : Steps p b k m w (run.poll t) r k′ m′ w′) where
+  -- it lends the same, so it is refused alike
+  same-refusal : (v : ℕ) (bad : Bool) → refusalOn p b k m (length w) (run.poll t) ≡ refusalOn p b k m (length w) (run.character t v bad)
+  unfolding refusalOn refusedBy lends
+  same-refusal v bad = refl
+
+  pub character-refused : (v : ℕ) (bad : Bool) → tagOf the-type (r .outcome) ≡ 0 → Steps p b k m w (run.character t v bad) r k′ m′ w′
+  unfolding closes
+  character-refused v bad i =
+      let g = run.character t v bad in
+      let h : refusalOn p b k m (length w) (run.poll t) ≡ 0 → ⊥ =
+      λ z. unserved (calledOn p b k m w (run.poll t)) _ (r .outcome) i (s .outcome) (told-refusal p b k m w (run.poll t) ∙ z) in
+      let same : calledOn p b k m w g ≡ calledOn p b k m w (run.poll t) =
+      held-refused p b k m w g (same-refusal v bad) h ∙ sym (held-refused p b k m w (run.poll t) refl h) in
+      record {
+        outcome = rw same (s .outcome);
+        state = rw same (s .state);
+        bytes = rw same (s .bytes);
+        memory = rw same (s .memory);
+        room = rw same (s .room);
+        few = rw same (s .few);
+        refused = rw same (s .refused);
+      }
+
+  -- the frame that a poll leaves takes it in
+  module _ (i : OneOf (1 ∷ 2 ∷ []) (tagOf the-type (r .outcome))) where
+    abbrev after : Outcome
+    after = step p (stateOf b k) m (run.poll t)
+
+    willing : refusalOn p b k m (length w) (run.poll t) ≡ 0
+    willing = sym (told-refusal p b k m w (run.poll t)) ∙ served (calledOn p b k m w (run.poll t)) _ (r .outcome) i (s .outcome)
+
+    on : calledOn p b k m w (run.poll t)
+        ≡ (record { refusal = 0; count = length (after .reply); state = after .state; memory = after .memory; room = put w 0 (after .reply) })
+    on = held-on p b k m w (run.poll t) willing
+
+    rests : put k 0 (after .state .line .kept) ≡ k
+    unfolding step still resting withLine none
+    rests = go (over p (stateOf b k) t) refl
+      where
+        go : (x : Bool) → over p (stateOf b k) t ≡ x → put k 0 (after .state .line .kept) ≡ k
+        go true o = rw (closed-now p b k m w t o, work-rests p (stateWith (b .state) none) m (closed (lineOf (b .frame) k))) (sym (put-nothing k 0))
+        go false o = rw (still-there p b k m w t o) (sym (put-own k (b .frame .len)))
+
+    kept-still : k′ ≡ k
+    kept-still = s .bytes ∙ ap (λ (h : Held). put k 0 (h .state .line .kept)) on ∙ rests
+
+    pub character-fits : Fits (r .board .frame) k′
+    character-fits =
+        record {
+          few = s .few (ap (λ (h : Held). h .refusal) on);
+          all = ap length kept-still ∙ eqb-true (length k) 135 (facts p b k m (length w) (run.poll t) (lends-poll t) willing .all);
+        }
+
+    pub character-taken : {v : ℕ} {bad : Bool} {f : Frame} {q : Stepped} {k″ : List ℕ} → q ≡ (record { board = record { state = r .board .state; frame = f }; outcome = r .outcome })
+        → Extends (more (pick (r .board .frame .begun) (lineOf (r .board .frame) k′) none) t v bad) k′ f k″ → Steps p b k m w (run.character t v bad) q k″ m′ w′
+    unfolding step closes taken withLine outcomeOf
+    character-taken {v} {bad} {f} {q} {k″} e x =
+        let u : stateOf (r .board) k′ ≡ after .state = s .state ∙ ap (λ (h : Held). h .state) on in
+        stepped p b k m w (run.character t v bad) (sym (same-refusal v bad) ∙ willing) (rw e (s .outcome ∙ ap (λ (h : Held). outcomeOf h (closes p (stateOf b k) (run.poll t))) on)) (rw (e, ← u) (ap (stateWith (r .board .state)) (x .line)))
+        (rw (← u, ← kept-still) (x .bytes)) (s .memory ∙ ap (λ (h : Held). h .memory) on) (s .room ∙ ap (λ (h : Held). h .room) on) (rw e (x .few))
+
+-- no frame is open
+pub no-line : (k : List ℕ) (s : State) {f : Frame} {x : meaning.State} → stateWith s none ≡ x → f ≡ noFrame → stateWith s (lineOf f k) ≡ x
 unfolding none
-fresh-board p k s e h = rw h e
+no-line k s e h = rw h e
 
 pub none-fits : (k : List ℕ) {f : Frame} → f ≡ noFrame → length k ≡ 135 → Fits f k
 none-fits k e h = record { few = rw e (omega arith); all = h }

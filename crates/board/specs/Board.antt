@@ -1,13 +1,12 @@
 -- The code's board as the meaning's state, and what a call leaves (01, "Named refusals"). Assumes nothing.
 use Prim.Native.Nat.{ℕ, _≤_}
 use mathlib.Core.Path.{_≡_}
-use mathlib.Core.Bool.{Bool, not}
+use mathlib.Core.Bool.{Bool}
 use mathlib.Core.List.{List}
-use lib.Dec.{eqb, leb, ltb}
+use lib.Dec.{eqb, leb}
 use lib.ListN.{length}
-use Rattle.meaning.specs.Bytes.{pick, both, either, put}
+use Rattle.meaning.specs.Bytes.{pick, both, put}
 use Rattle.meaning.specs.State.{Plate, State, plateOk, stateOk}
-use Rattle.meaning.specs.Fields.{imageLength}
 use Rattle.meaning.specs.Run.{Call, Held, refusedBy, called, closes}
 use Rattle.line.specs.Line.{lineOf}
 use Rattle.commands.specs.State.{stateWith}
@@ -23,9 +22,9 @@ stateOf b kept = stateWith (b .state) (lineOf (b .frame) kept)
 unfoldable pub fitsIn : Board → List ℕ → Bool
 fitsIn b kept = both (leb (b .frame .len) 135) (eqb (length kept) 135)
 
--- R1 is within plate, numbers and kept bytes, whatever the 135 places hold
-pub record Bounds (p : Plate) (b : Board) (r : Bool) : Type 0 where
-  pub bound : (kept : List ℕ) → length kept ≡ 135 → r ≡ both (leb (b .frame .len) 135) (both (plateOk p) (stateOk p (stateOf b kept)))
+-- R1 does not apply, where there are 135 places: the plate, the numbers and the number of kept bytes are possible
+unfoldable pub within : Plate → Board → List ℕ → Bool
+within p b kept = both (leb (b .frame .len) 135) (both (plateOk p) (stateOk p (stateOf b kept)))
 
 -- 01, R1 to R3, 0 where none applies: the meaning's, and R1 also for what the meaning's state cannot hold
 unfoldable pub refusalOn : Plate → Board → List ℕ → List ℕ → ℕ → Call → ℕ
@@ -39,6 +38,10 @@ calledOn p b kept m room g =
 -- 01, "Named refusals", in the code's cases; `over` says whether the call closes a frame
 unfoldable pub outcomeOf : Held → Bool → Outcome
 outcomeOf h over = pick (eqb (h .refusal) 0) (pick over (Over (h .count)) Still) (Refused (h .refusal))
+
+-- of a call that lends nothing: within the limits the board is the next one, else it is refused as it was
+abbrev pub toldBy : Bool → Board → Board → Stepped
+toldBy fine b next = pick fine (record { board = next; outcome = Still }) (record { board = b; outcome = Refused 1 })
 
 -- what a call leaves of board, kept bytes, memory and room. Places past the kept bytes are untouched
 pub record Steps (p : Plate) (b : Board) (kept m w : List ℕ) (g : Call) (r : Stepped) (kept′ m′ w′ : List ℕ) : Type 0 where

@@ -6,7 +6,7 @@ ghost use lib.ListN.{length};
 ghost use Rattle.meaning.specs.State as meaning;
 ghost use Rattle.meaning.specs.Run as run;
 ghost use Rattle.line.specs.Line.{plateOf};
-ghost use Rattle.board.specs.Board.{stateOf, Steps};
+ghost use Rattle.board.specs.Board.{stateOf, within, toldBy, Steps};
 use crate::closing::close;
 use crate::limits::Board;
 use crate::limits::Outcome;
@@ -34,35 +34,6 @@ fn stepped(state: State, frame: Frame, outcome: Outcome) -> Stepped
     Stepped { board, outcome }
 }
 
-// A character at its end. Where the open frame is over it is closed, and the character opens the next.
-pub fn character(
-    plate: Plate,
-    board: Board,
-    tick: u32,
-    value: u8,
-    parity: bool,
-    kept: &mut [u8],
-    memory: &mut [u8],
-    room: &mut [u8],
-) -> Stepped
-    ensures { λ r. ⌜ Steps (plateOf plate) board (now (kept .entry)) (now (memory .entry)) (now (room .entry)) (run.character tick value parity) r (now (kept .exit)) (now (memory .exit)) (now (room .exit)) ⌝ }
-{
-    let refused = refusal(plate, board, kept.len(), memory.len(), room.len());
-    let state = board.state;
-    let frame = board.frame;
-    if refused != 0 {
-        return stepped(state, frame, Outcome::Refused(refused));
-    }
-    if frame.is_over(plate, tick) {
-        let closed = close(plate, state, frame, kept, memory, room);
-        let next = closed.state;
-        let first = Frame::none().with_character(tick, value, parity, kept);
-        return stepped(next, first, Outcome::Over(closed.sent));
-    }
-    let more = frame.with_character(tick, value, parity, kept);
-    stepped(state, more, Outcome::Still)
-}
-
 // A poll: an open frame that is over is closed, and nothing else changes.
 pub fn poll(
     plate: Plate,
@@ -88,38 +59,68 @@ pub fn poll(
     stepped(state, frame, Outcome::Still)
 }
 
+// A character at its end: first what a poll does by then, so that where the open frame is over the character opens the next.
+pub fn character(
+    plate: Plate,
+    board: Board,
+    tick: u32,
+    value: u8,
+    parity: bool,
+    kept: &mut [u8],
+    memory: &mut [u8],
+    room: &mut [u8],
+) -> Stepped
+    ensures { λ r. ⌜ Steps (plateOf plate) board (now (kept .entry)) (now (memory .entry)) (now (room .entry)) (run.character tick value parity) r (now (kept .exit)) (now (memory .exit)) (now (room .exit)) ⌝ }
+{
+    let polled = poll(plate, board, tick, kept, memory, room);
+    let outcome = polled.outcome;
+    let after = polled.board;
+    if let Outcome::Refused(_) = outcome {
+        return polled;
+    }
+    let state = after.state;
+    let frame = after.frame.with_character(tick, value, parity, kept);
+    stepped(state, frame, outcome)
+}
+
+// What lends nothing meets R1 alone; else the board is then as told.
+fn told(plate: Plate, board: Board, next: Board) -> Stepped
+    ensures { λ r. ⌜ ((kept : List ℕ) → length kept ≡ 135 → r ≡ toldBy (within (plateOf plate) board kept) board next) ⌝ }
+{
+    if !within_limits(plate, board) {
+        let outcome = Outcome::Refused(1);
+        return Stepped { board, outcome };
+    }
+    let outcome = Outcome::Still;
+    Stepped {
+        board: next,
+        outcome,
+    }
+}
+
 // 01, "measured, any 32-bit number": kept as given.
 pub fn measured(plate: Plate, board: Board, position: u32) -> Stepped
     ensures { λ r. ⌜ ((kept m w : List ℕ) → length kept ≡ 135 → Steps (plateOf plate) board kept m w (run.measured position) r kept m w) ⌝ }
 {
-    let state = board.state;
     let frame = board.frame;
-    if !within_limits(plate, board) {
-        return stepped(state, frame, Outcome::Refused(1));
-    }
-    stepped(state.with_measured(position), frame, Outcome::Still)
+    let state = board.state.with_measured(position);
+    told(plate, board, Board { state, frame })
 }
 
 // 01, "The host notes codes".
 pub fn fault(plate: Plate, board: Board, code: u8) -> Stepped
     ensures { λ r. ⌜ ((kept m w : List ℕ) → length kept ≡ 135 → Steps (plateOf plate) board kept m w (run.fault code) r kept m w) ⌝ }
 {
-    let state = board.state;
     let frame = board.frame;
-    if !within_limits(plate, board) {
-        return stepped(state, frame, Outcome::Refused(1));
-    }
-    stepped(state.note(code), frame, Outcome::Still)
+    let state = board.state.note(code);
+    told(plate, board, Board { state, frame })
 }
 
 // 01, "Power-on empties the queue, drops an open frame and unlocks; all else stays".
 pub fn power_on(plate: Plate, board: Board) -> Stepped
     ensures { λ r. ⌜ ((kept m w : List ℕ) → length kept ≡ 135 → Steps (plateOf plate) board kept m w run.power-on r kept m w) ⌝ }
 {
-    let state = board.state;
-    let frame = board.frame;
-    if !within_limits(plate, board) {
-        return stepped(state, frame, Outcome::Refused(1));
-    }
-    stepped(state.power_on(), Frame::none(), Outcome::Still)
+    let frame = Frame::none();
+    let state = board.state.power_on();
+    told(plate, board, Board { state, frame })
 }

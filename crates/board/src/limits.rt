@@ -6,7 +6,7 @@ ghost use Prim.Native.Nat.{ℕ};
 ghost use lib.ListN.{length};
 ghost use Rattle.meaning.specs.Run.{Call, lends};
 ghost use Rattle.line.specs.Line.{plateOf};
-ghost use Rattle.board.specs.Board.{refusalOn, Bounds};
+ghost use Rattle.board.specs.Board.{within, refusalOn};
 use commands::State;
 use line::Frame;
 use line::Plate;
@@ -31,7 +31,7 @@ pub struct Stepped {
 
 // R1 for the calls that lend nothing, and the first of the three for the others.
 pub fn within_limits(plate: Plate, board: Board) -> bool
-    ensures { λ r. ⌜ Bounds (plateOf plate) board r ⌝ }
+    ensures { λ r. ⌜ ((kept : List ℕ) → length kept ≡ 135 → r ≡ within (plateOf plate) board kept) ⌝ }
 {
     let state = board.state;
     let frame = board.frame;

@@ -1,12 +1,15 @@
 -- A request that is worked opens no frame: the frame's part of the state is as it was. Assumes nothing.
 use Prim.Native.Nat.{ℕ}
 use mathlib.Core.Path.{_≡_, refl}
-use mathlib.Core.Bool.{Bool, not}
+use mathlib.Core.Bool.{Bool, true, false, not}
 use mathlib.Core.List.{List}
-use lib.Dec.{T}
+use lib.Dec.{T, ltb}
+use lib.ListN.{length}
+use Rattle.meaning.specs.Bytes.{pick}
 use Rattle.meaning.specs.State.{Plate, State, withCodes, withCounter, withOffset, withQueue}
 use Rattle.meaning.specs.Commands.{Command, c42, c43, c46, c47, c49, c4A, c4B, c4C, c4D, c4E, c4F, c50, c53, unknown, commandOf, Answer, refuse, accept, quiet, error, onField, readPosition, setPosition, readCounter, stepCounter, clearCounter, readField, storeField, fieldStatus, create, modify, delete, shapeField, memoryStatus, setCode, readFault, reset, worked}
-use Rattle.meaning.specs.Frames.{outcome}
+use Rattle.meaning.specs.Characters.{Frame}
+use Rattle.meaning.specs.Frames.{commandByte, dataOf, ours, judged, short, elsewhere, answered, ending, still, outcome, leaves, work}
 use Rattle.meaning.specs.Demands.{meant}
 use Rattle.meaning.proofs.Honest.{through}
 use Rattle.meaning.proofs.Choices.{choose-by}
@@ -41,11 +44,29 @@ module _ (p : Plate) (s : State) (m : List ℕ) (d : List ℕ) where
   rested c53 = refl
   rested unknown = tt
 
+  answer-rests : (c : ℕ) (a : Answer) → Rested a → (outcome p s m c a) .state .line ≡ s .line
+  unfolding outcome
+  answer-rests c (refuse e) h = refl
+  answer-rests c (accept r s′ m′) h = h
+  answer-rests c (quiet s′ m′) h = h
+
   pub meant-rests : (c : ℕ) → (meant p s m c d) .state .line ≡ s .line
-  unfolding meant outcome
-  meant-rests c = by (worked (commandOf c) p s m d) (rested (commandOf c))
+  unfolding meant
+  meant-rests c = answer-rests c (worked (commandOf c) p s m d) (rested (commandOf c))
+
+-- .. and so does any frame that is worked
+module _ (p : Plate) (s : State) (m : List ℕ) (b : Frame) where
+  judged-rests : Rested p s m (dataOf (b .bytes)) (judged p s m b)
+  unfolding judged
+  judged-rests =
+      let on = go p s m (dataOf (b .bytes)) in
+      on _ _ _ (λ _. on _ _ _ (λ _. on _ _ _ (λ _. on _ _ _ (λ _. on _ _ _ (λ _. rested p s m (dataOf (b .bytes)) _)))))
+
+  pub work-rests : (work p s m b) .state .line ≡ s .line
+  unfolding work ending leaves still
+  work-rests = by (ltb (length (b .bytes)) 3) (not (ours p s (b .bytes)))
     where
-      by : (a : Answer) → Rested a → (outcome p s m c a) .state .line ≡ s .line
-      by (refuse e) h = refl
-      by (accept r s′ m′) h = h
-      by (quiet s′ m′) h = h
+      by : (x y : Bool) → (leaves p s m (commandByte (b .bytes)) (pick x short (pick y elsewhere (answered (judged p s m b))))) .state .line ≡ s .line
+      by true y = refl
+      by false true = refl
+      by false false = answer-rests p s m (dataOf (b .bytes)) (commandByte (b .bytes)) (judged p s m b) judged-rests

@@ -3,14 +3,14 @@ use Prim.Native.Nat.{ℕ, _+_, _^_, _-_}
 use mathlib.Core.Path.{_≡_, refl}
 use mathlib.Core.Bool.{true, false}
 use mathlib.Core.List.{List, [], _∷_, _++_}
-use Rattle.meaning.specs.Bytes.{zeros, blank, among, number, bytes3, bytes4}
+use Rattle.meaning.specs.Bytes.{zeros, blank, among, number, bytes3, bytes4, xorAll, xorFrom, same}
 use Rattle.meaning.specs.State.{Plate, State, none, plateOk, fresh, withCodes, withCounter, withOffset, withMeasured, withQueue, withLock, withLine, locks, queueable, apart, stateOk, code, queued, noted, poweredOn, position, offsetFor, ownByte}
 use Rattle.meaning.specs.Fields.{blocks, coded, codeNo, writable, exists, table, fieldCount, used, sound, freeBlocks, statusAt, survey}
 use Rattle.meaning.specs.Commands.{commandOf, lengthFits, counted, row, asked, Answer, refuse, accept, error, choose, wrongCode, readPosition, setPosition, readCounter, stepCounter, clearCounter, onField, readField, storeField, fieldStatus, freeByte, memoryStatus, setCode, readFault, reset}
 use Rattle.meaning.specs.Characters.{gap, over, more}
-use Rattle.meaning.specs.Frames.{commandByte, ours, judged, elsewhere, answered, ending, warned}
+use Rattle.meaning.specs.Frames.{commandByte, dataOf, ours, judged, elsewhere, answered, ending, warned}
 use Rattle.meaning.specs.Run.{poll, measured, lends, refusedBy}
-use Rattle.meaning.specs.Bench.{writes, addressOk, allowed, inRange}
+use Rattle.meaning.specs.Bench.{writes, written, addressOk, addressByte, boardByte, allowed, inRange, bad, branch, warning, bare, fromAsked, errorReply, rightLength, repeated, content, judge, pieceOf, handed}
 
 -- the plate of the sheet with eight blocks, its fresh state and blank memory
 abbrev eight : Plate
@@ -18,6 +18,10 @@ eight = record { total = 8; bits = 24; address = 0; ticks = 4; pause = 55 }
 
 abbrev new : State
 new = fresh eight
+
+-- a state whose parts all differ
+abbrev full : State
+full = record { codes = 1 ∷ 2 ∷ 3 ∷ 4 ∷ []; counter = 5; offset = 6; measured = 7; queue = 8 ∷ []; locked = true; line = none }
 
 -- three status bytes behind the data of eight blocks, the rest 00h
 abbrev tabled : ℕ → ℕ → ℕ → List ℕ
@@ -92,6 +96,19 @@ pub state-values : (stateOk eight (withCounter new 0x1000000) ≡ false) × (sta
 unfolding stateOk fresh withCounter withOffset
 state-values = (refl, refl)
 
+-- the size of P = 32 and of P = 1
+pub size-values : (2 ^ 32 ≡ 4294967296) × (2 ^ 1 ≡ 2)
+size-values = (refl, refl)
+
+-- each sets its own part, and all else stays
+pub with-values : (withCodes full (1 ∷ 9 ∷ 3 ∷ 4 ∷ []) ≡ record { codes = 1 ∷ 9 ∷ 3 ∷ 4 ∷ []; counter = 5; offset = 6; measured = 7; queue = 8 ∷ []; locked = true; line = none })
+    × (withCounter full 9 ≡ record { codes = 1 ∷ 2 ∷ 3 ∷ 4 ∷ []; counter = 9; offset = 6; measured = 7; queue = 8 ∷ []; locked = true; line = none })
+    × (withOffset full 9 ≡ record { codes = 1 ∷ 2 ∷ 3 ∷ 4 ∷ []; counter = 5; offset = 9; measured = 7; queue = 8 ∷ []; locked = true; line = none })
+    × (withMeasured full 9 ≡ record { codes = 1 ∷ 2 ∷ 3 ∷ 4 ∷ []; counter = 5; offset = 6; measured = 9; queue = 8 ∷ []; locked = true; line = none })
+    × (withLock (withQueue full (9 ∷ [])) false ≡ record { codes = 1 ∷ 2 ∷ 3 ∷ 4 ∷ []; counter = 5; offset = 6; measured = 7; queue = 9 ∷ []; locked = false; line = none })
+unfolding withCodes withCounter withOffset withMeasured withQueue withLock
+with-values = (refl, refl, refl, refl, refl)
+
 -- high byte first; a locked position is not told
 pub position-values : (readPosition eight (withMeasured new 0x010203) [] [] ≡ accept (0 ∷ 1 ∷ 2 ∷ 3 ∷ []) (withMeasured new 0x010203) []) × (readPosition eight (withLock new true) [] [] ≡ refuse 0x02)
 unfolding readPosition error bytes4 position fresh withMeasured withLock
@@ -152,3 +169,9 @@ length-values = (refl, refl)
 pub writes-values : ((writes 32 0x42 [] (zeros 134)) .refusal ≡ 4) × ((writes 0 0x4A (0 ∷ 0 ∷ 0 ∷ 0 ∷ []) (zeros 135)) .refusal ≡ 5)
 unfolding writes addressOk allowed asked row lengthFits commandOf inRange
 writes-values = (refl, refl)
+
+-- the four position bytes from place 2 on; the empty piece at the front where the checksum is wrong
+pub handed-values : (handed (0x40 ∷ 0x42 ∷ 0x02 ∷ []) (0x40 ∷ 0x42 ∷ 0 ∷ 1 ∷ 2 ∷ 3 ∷ 0x02 ∷ []) ≡ record { from = 2; count = 4 })
+    × (handed (0x40 ∷ 0x42 ∷ 0x02 ∷ []) (0x40 ∷ 0x42 ∷ 0 ∷ 1 ∷ 2 ∷ 3 ∷ 0x03 ∷ []) ≡ record { from = 0; count = 0 })
+unfolding handed pieceOf judge bad branch written addressByte boardByte allowed asked inRange row commandOf commandByte lengthFits dataOf fromAsked bare content errorReply rightLength repeated warning xorAll xorFrom same
+handed-values = (refl, refl)

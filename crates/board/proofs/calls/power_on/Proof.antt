@@ -1,45 +1,30 @@
 -- `board::calls::power_on` meets its contract. Assumes nothing.
-use mathlib.Core.Path.{refl, sym, _∙_}
+use mathlib.Core.Path.{refl}
+use Rattle.meaning.specs.Frames.{still}
+use Rattle.meaning.specs.Run.{step, closes, lends}
 use native.Mathlib.Omega.{arith}
-use borrow.Author.Tests.{not-true, not-false}
-use Rattle.meaning.specs.Run.{lends}
-use Rattle.board.proofs.Stepping.{refused, powers}
-use Rattle.board.proofs.Bounding.{held, alone-by}
+use Rattle.board.proofs.Stepping.{no-line, tells}
 use borrow.Author.Needs.{needs}
 use Rattle.board.proofs.calls.power_on.Statement.{statement}
 use Rattle.board.proofs.calls.power_on.Tie as tie
-
-within-limits-requires : tie.Need-within-limits-requires
-within-limits-requires c κs = search needs
-
-stepped-requires : tie.Need-stepped-requires
-stepped-requires c κs = search needs
-
-returns : tie.Need-returns
-unfolding lends
-returns c = λ k m w h. refused _ _ k m w _ (c .stepped .ensures) (sym (alone-by _ _ k m _ _ (held (c .before .before .within-limits .ensures) (not-true _ (c .before .if1 .taken))) h refl)) (λ z. omega arith)
-
-power-on-requires : tie.Need-power-on-requires
-power-on-requires c κs = search needs
+use Rattle.board.proofs.calls.power_on.Reads as reads
+use Rattle.board.proofs.calls.power_on.Lts as lts
+use Rattle.board.proofs.calls.told.Reads as told-reads
+use Rattle.commands.proofs.state.State.power_on.Reads as power-on-reads
+use Rattle.line.proofs.characters.Frame.none.Reads as none-reads
 
 none-requires : tie.Need-none-requires
 none-requires c κs = search needs
 
-stepped-requires-2 : tie.Need-stepped-requires-2
-stepped-requires-2 c κs = search needs
+power-on-requires : tie.Need-power-on-requires
+power-on-requires c κs = search needs
 
-returns-2 : tie.Need-returns-2
-unfolding lends
-returns-2 c = λ k m w h. powers _ _ k m w _ _ (alone-by _ _ k m _ _ (held (c .before .before .before .before .within-limits .ensures) (not-false _ (c .before .before .before .if1 .left))) h refl) (c .stepped2 .ensures) (c .before .none .ensures) (c .before .before .power-on .ensures _)
+told-requires : tie.Need-told-requires
+told-requires c κs = search needs
+
+returns : tie.Need-returns
+unfolding step still closes lends
+returns c = λ k m w h. tells _ _ _ k m w _ h refl (c .told .ensures k h) refl (no-line k _ (c .before .power-on .ensures _) (c .before .before .none .ensures)) refl (λ z. rw (c .before .before .none .ensures) (omega arith))
 
 pub power-on-spec : {M : Type 1} → statement M
-power-on-spec =
-    tie.close
-    (tie.spec
-    within-limits-requires
-    stepped-requires
-    returns
-    power-on-requires
-    none-requires
-    stepped-requires-2
-    returns-2)
+power-on-spec = tie.close (tie.spec none-requires power-on-requires told-requires returns)

@@ -22,16 +22,16 @@ add-sized : tie.Need-add-sized
 add-sized c = search needs
 
 returns : tie.Need-returns
-returns c = λ k m g e h l. in-order _ _ k m _ g (c .before .before .within-limits .ensures) e h l (not-true _ (c .if1 .taken)) refl refl
+returns c = λ k m g e h l. in-order _ _ k m _ g (c .before .before .within-limits .ensures k) e h l (not-true _ (c .if1 .taken)) refl refl
 
 returns-2 : tie.Need-returns-2
-returns-2 c = λ k m g e h l. in-order _ _ k m _ g (c .before .before .before .within-limits .ensures) e h l (not-false _ (c .before .if1 .left)) (not-true _ (c .if2 .taken)) refl
+returns-2 c = λ k m g e h l. in-order _ _ k m _ g (c .before .before .before .within-limits .ensures k) e h l (not-false _ (c .before .if1 .left)) (not-true _ (c .if2 .taken)) refl
 
 returns-3 : tie.Need-returns-3
-returns-3 c = λ k m g e h l. in-order _ _ k m _ g (c .before .before .before .before .within-limits .ensures) e h l (not-false _ (c .before .before .if1 .left)) (not-false _ (c .before .if2 .left)) (lt-ltb _ _ (c .if3 .taken))
+returns-3 c = λ k m g e h l. in-order _ _ k m _ g (c .before .before .before .before .within-limits .ensures k) e h l (not-false _ (c .before .before .if1 .left)) (not-false _ (c .before .if2 .left)) (lt-ltb _ _ (c .if3 .taken))
 
 returns-4 : tie.Need-returns-4
-returns-4 c = λ k m g e h l. in-order _ _ k m _ g (c .before .before .before .before .within-limits .ensures) e h l (not-false _ (c .before .before .if1 .left)) (not-false _ (c .before .if2 .left)) (le-ltb _ _ (c .if3 .left))
+returns-4 c = λ k m g e h l. in-order _ _ k m _ g (c .before .before .before .before .within-limits .ensures k) e h l (not-false _ (c .before .before .if1 .left)) (not-false _ (c .before .if2 .left)) (le-ltb _ _ (c .if3 .left))
 
 pub refusal-spec : {M : Type 1} → statement M
 refusal-spec =

@@ -11,16 +11,16 @@ is-ok-requires : tie.Need-is-ok-requires
 is-ok-requires c κs = search needs
 
 returns : tie.Need-returns
-returns c = bad-plate _ _ (sym (c .before .is-ok .ensures) ∙ not-true _ (c .if1 .taken))
+returns c = λ k all. bad-plate _ _ k (sym (c .before .is-ok .ensures) ∙ not-true _ (c .if1 .taken))
 
 returns-2 : tie.Need-returns-2
-returns-2 c = too-many _ _ (c .if2 .taken)
+returns-2 c = λ k all. too-many _ _ k (c .if2 .taken)
 
 is-ok-requires-2 : tie.Need-is-ok-requires-2
 is-ok-requires-2 c κs = few-bits _ (sym (c .before .before .before .is-ok .ensures) ∙ not-false _ (c .before .before .if1 .left))
 
 returns-3 : tie.Need-returns-3
-returns-3 c = by-state _ _ (sym (c .before .before .before .before .is-ok .ensures) ∙ not-false _ (c .before .before .before .if1 .left)) (c .before .if2 .left) (λ kept h. c .is-ok2 .ensures _ _ refl h)
+returns-3 c = λ k all. by-state _ _ k (sym (c .before .before .before .before .is-ok .ensures) ∙ not-false _ (c .before .before .before .if1 .left)) (c .before .if2 .left) all (λ h. c .is-ok2 .ensures _ _ refl h)
 
 pub within-limits-spec : {M : Type 1} → statement M
 within-limits-spec =
