@@ -1,21 +1,28 @@
 // The board's calls, each made in one place. Nothing is promised of them here, so that who plays a script need not know what the board promises.
-use crate::given::placed;
+use crate::given::given;
 use crate::given::plate_of;
 use board::Board;
 use board::Outcome;
 use board::Stepped;
 use line::Plate;
 
-// A measured position, a code that the host notes, power-on; else the board stays as it is.
-fn told(sign: u8, number: u32, plate: Plate, board: Board) -> Stepped {
+// A measured position, a code that the host notes, power-on. f and g place another board on the desk: a fresh one, or one of the numbers at c, o, q and b.
+fn told(sign: u8, numbers: &[u32; 256], plate: Plate, board: Board) -> Stepped {
+    let number = numbers[sign as usize];
+    let outcome = Outcome::Still;
     match sign {
         b'm' => board::measured(plate, board, number),
         b'n' => board::fault(plate, board, (number % 256) as u8),
         b'u' => board::power_on(plate, board),
-        _ => Stepped {
-            board: board,
-            outcome: Outcome::Still,
-        },
+        b'f' => {
+            let board = board::fresh(plate);
+            Stepped { board, outcome }
+        }
+        b'g' => {
+            let board = given(numbers[0x63], numbers[0x6F], numbers[0x71], numbers[0x62]);
+            Stepped { board, outcome }
+        }
+        _ => Stepped { board, outcome },
     }
 }
 
@@ -44,6 +51,6 @@ pub fn act(
         ),
         b'?' => board::poll(plate, board, tick, kept, memory, room),
         b'.' | b',' => board::poll(plate, board, 5000, kept, memory, room),
-        _ => told(sign, number, plate, placed(sign, numbers, board)),
+        _ => told(sign, numbers, plate, board),
     }
 }

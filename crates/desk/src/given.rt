@@ -22,7 +22,7 @@ pub fn fresh(numbers: &[u32; 256]) -> Board {
 }
 
 // A board with this counter, offset, queue of four codes, the oldest first, and number of bytes kept, else fresh.
-fn given(counter: u32, offset: u32, queue: u32, bytes: u32) -> Board {
+pub fn given(counter: u32, offset: u32, queue: u32, bytes: u32) -> Board {
     let faults = Faults {
         first: (queue / 0x1000000 % 256) as u8,
         second: (queue / 0x10000 % 256) as u8,
@@ -37,13 +37,4 @@ fn given(counter: u32, offset: u32, queue: u32, bytes: u32) -> Board {
     let mut frame = Frame::none();
     frame.len = (bytes % 256) as u8;
     Board { state, frame }
-}
-
-// f and g place another board on the desk: a fresh one, or one of the numbers at c, o, q and b.
-pub fn placed(sign: u8, numbers: &[u32; 256], board: Board) -> Board {
-    match sign {
-        b'f' => fresh(numbers),
-        b'g' => given(numbers[0x63], numbers[0x6F], numbers[0x71], numbers[0x62]),
-        _ => board,
-    }
 }

@@ -21,16 +21,6 @@ fn digit_of(byte: u8) -> u8 {
     }
 }
 
-// One more digit: decimal behind @ and the capital letters, else hexadecimal.
-fn longer(sign: u8, number: u32, digit: u8) -> u32 {
-    let high = number as u64;
-    let low = digit as u64;
-    match sign {
-        0x40..=0x5A => ((10 * high + low) % 0x100000000) as u32,
-        _ => ((16 * high + low) % 0x100000000) as u32,
-    }
-}
-
 impl Script {
     pub fn start(from: usize) -> Script {
         Script {
@@ -97,11 +87,21 @@ impl Script {
         }
     }
 
+    // A digit is decimal behind @ and the capital letters, else hexadecimal.
     fn in_word(self, byte: u8) -> Script {
         let mut next = self;
+        let sign = self.sign;
+        let number = self.number as u64;
         let digit = digit_of(byte);
         if digit < 16 {
-            next.number = longer(self.sign, self.number, digit);
+            match sign {
+                0x40..=0x5A => {
+                    next.number = ((10 * number + digit as u64) % 0x100000000) as u32;
+                }
+                _ => {
+                    next.number = ((16 * number + digit as u64) % 0x100000000) as u32;
+                }
+            }
             return next;
         }
         match byte {
@@ -114,7 +114,7 @@ impl Script {
         }
     }
 
-    // + is the checksum, a character too; a pause begins a new one; [ is the place that X goes back to.
+    // + is the checksum, a character too; a pause begins a new one; [ is the place that X goes back to, so many times in all.
     fn ended(self) -> Script {
         let mut next = self;
         let sign = self.sign;
@@ -137,24 +137,15 @@ impl Script {
                 next.turn = 0;
             }
             b'X' => {
-                return next.repeated();
+                next.turn = 0;
+                if self.turn < self.number {
+                    if self.turn + 1 < self.number {
+                        next.turn = self.turn + 1;
+                        next.at = self.mark;
+                    }
+                }
             }
             _ => {}
-        }
-        next
-    }
-
-    // So many times in all.
-    fn repeated(self) -> Script {
-        let mut next = self;
-        next.turn = 0;
-        if self.number <= self.turn {
-            return next;
-        }
-        let turn = self.turn + 1;
-        if turn < self.number {
-            next.turn = turn;
-            next.at = self.mark;
         }
         next
     }

@@ -65,15 +65,7 @@ fn run(text: &[u8], from: usize, kept: &mut [u8], memory: &mut [u8], room: &mut 
     text.len()
 }
 
-// A part of a script, with rooms of its own.
-fn play_part(text: &[u8], from: usize) -> usize {
-    let mut kept = [0u8; 135];
-    let mut memory = [0u8; 1905];
-    let mut room = [0u8; 135];
-    run(text, from, &mut kept, &mut memory, &mut room)
-}
-
-// The parts of a script, one after the other.
+// The parts of a script, one after the other, each with rooms of its own.
 pub fn play(text: &[u8]) {
     let mut at = 0;
     let mut left: u32 = 65536;
@@ -82,6 +74,9 @@ pub fn play(text: &[u8]) {
         if text.len() <= at {
             return;
         }
-        at = play_part(text, at);
+        let mut kept = [0u8; 135];
+        let mut memory = [0u8; 1905];
+        let mut room = [0u8; 135];
+        at = run(text, at, &mut kept, &mut memory, &mut room);
     }
 }

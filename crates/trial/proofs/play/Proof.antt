@@ -4,7 +4,7 @@ use Rattle.trial.proofs.play.Statement.{statement}
 use Rattle.trial.proofs.play.Tie as tie
 use Rattle.trial.proofs.play.Reads as reads
 use Rattle.trial.proofs.play.Lts as lts
-use Rattle.trial.proofs.play_part.Reads as play-part-reads
+use Rattle.trial.proofs.run.Reads as run-reads
 
 abbrev Inv-loop : tie.InvT-loop
 Inv-loop text at₀ left₀ at left = Unit
@@ -21,8 +21,17 @@ sub-left c = search needs
 returns : tie.Need-returns Inv-loop μ-loop
 returns c = search needs
 
-play-part-requires : tie.Need-play-part-requires Inv-loop μ-loop
-play-part-requires c κs = search needs
+slice-aggregate-run : tie.Need-slice-aggregate-run Inv-loop μ-loop
+slice-aggregate-run c = search needs
+
+slice-aggregate-run-2 : tie.Need-slice-aggregate-run-2 Inv-loop μ-loop
+slice-aggregate-run-2 c = search needs
+
+slice-aggregate-run-3 : tie.Need-slice-aggregate-run-3 Inv-loop μ-loop
+slice-aggregate-run-3 c = search needs
+
+run-requires : tie.Need-run-requires Inv-loop μ-loop
+run-requires c κs = search needs
 
 loop-less : tie.Need-loop-less Inv-loop μ-loop
 loop-less c = search needs
@@ -42,7 +51,10 @@ play-spec =
     loop-holds
     sub-left
     returns
-    play-part-requires
+    slice-aggregate-run
+    slice-aggregate-run-2
+    slice-aggregate-run-3
+    run-requires
     loop-less
     loop-again
     returns-2)
