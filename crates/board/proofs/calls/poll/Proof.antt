@@ -1,11 +1,22 @@
 -- `board::calls::poll` meets its contract. Assumes nothing.
 use Rattle.meaning.specs.Run.{poll}
 use Rattle.board.proofs.Bounding.{ready, lends-poll}
-use mathlib.Core.Path.{refl, sym, _∙_}
+use mathlib.Core.Path.{_≡_, refl, sym, _∙_}
+use lib.ListN.{length}
+use Rattle.line.specs.Line.{plateOf}
+use Rattle.board.specs.Board.{refusalOn}
+use Rattle.board.specs.Work.{Ready}
 use Rattle.board.proofs.Stepping.{refused, poll-over, poll-still}
 use borrow.Author.Needs.{needs}
 use Rattle.board.proofs.calls.poll.Statement.{statement}
 use Rattle.board.proofs.calls.poll.Tie as tie
+
+-- nothing is refused, and what follows from it
+willing : (c : tie.Else1) → let a = c .before .before .before .before .before .before .before .args in refusalOn (plateOf (a .plate)) (a .board) (a .kept .now) (a .memory .now) (length (a .room .now)) (poll (a .tick)) ≡ 0
+willing c = sym (c .before .before .before .refusal .ensures _ _ (poll (c .before .before .before .before .before .before .before .args .tick)) refl refl (lends-poll _)) ∙ c .if1 .left
+
+enough : (c : tie.Else1) → let a = c .before .before .before .before .before .before .before .args in Ready (a .plate) (a .board .state) (a .board .frame) (a .kept .now) (a .memory .now) (a .room .now)
+enough c = ready _ _ _ _ _ (poll (c .before .before .before .before .before .before .before .args .tick)) (lends-poll _) (willing c)
 
 refusal-requires : tie.Need-refusal-requires
 refusal-requires c κs = search needs
@@ -14,13 +25,13 @@ stepped-requires : tie.Need-stepped-requires
 stepped-requires c κs = search needs
 
 returns : tie.Need-returns
-returns c = refused _ _ _ _ _ _ (c .stepped .ensures) (c .before .before .before .before .refusal .ensures _ _ (poll (c .before .before .before .before .before .before .before .before .args .tick)) refl refl (lends-poll (c .before .before .before .before .before .before .before .before .args .tick))) (c .before .if1 .taken)
+returns c = refused _ _ _ _ _ _ (c .stepped .ensures) (c .before .before .before .before .refusal .ensures _ _ (poll (c .before .before .before .before .before .before .before .before .args .tick)) refl refl (lends-poll _)) (c .before .if1 .taken)
 
 is-over-requires : tie.Need-is-over-requires
 is-over-requires c κs = search needs
 
 close-requires : tie.Need-close-requires
-close-requires c κs = ready _ _ _ _ _ (poll (c .before .before .before .before .before .before .before .before .before .before .before .before .args .tick)) (lends-poll (c .before .before .before .before .before .before .before .before .before .before .before .before .args .tick)) (sym (c .before .before .before .before .before .before .before .before .refusal .ensures _ _ (poll (c .before .before .before .before .before .before .before .before .before .before .before .before .args .tick)) refl refl (lends-poll (c .before .before .before .before .before .before .before .before .before .before .before .before .args .tick))) ∙ c .before .before .before .before .before .if1 .left)
+close-requires c κs = enough (c .before .before .before .before .before)
 
 none-requires : tie.Need-none-requires
 none-requires c κs = search needs
@@ -38,13 +49,13 @@ same-length-3 : tie.Need-same-length-3
 same-length-3 c = search needs
 
 returns-2 : tie.Need-returns-2
-returns-2 c = poll-over _ _ _ _ _ _ (sym (c .before .before .before .before .before .before .before .before .before .before .before .before .before .before .before .before .refusal .ensures _ _ (poll (c .before .before .before .before .before .before .before .before .before .before .before .before .before .before .before .before .before .before .before .before .args .tick)) refl refl (lends-poll (c .before .before .before .before .before .before .before .before .before .before .before .before .before .before .before .before .before .before .before .before .args .tick))) ∙ c .before .before .before .before .before .before .before .before .before .before .before .before .before .if1 .left) (c .stepped2 .ensures) (c .before .none .ensures) (sym (c .before .before .before .before .before .before .before .before .before .before .before .before .is-over .ensures _ _ refl) ∙ c .before .before .before .before .before .before .before .before .before .before .before .if2 .taken) (c .before .before .before .before .before .before .before .close .ensures)
+returns-2 c = poll-over _ _ _ _ _ _ (willing (c .before .before .before .before .before .before .before .before .before .before .before .before .before)) (c .stepped2 .ensures) (c .before .none .ensures) (sym (c .before .before .before .before .before .before .before .before .before .before .before .before .is-over .ensures _ _ refl) ∙ c .before .before .before .before .before .before .before .before .before .before .before .if2 .taken) (c .before .before .before .before .before .before .before .close .ensures)
 
 stepped-requires-3 : tie.Need-stepped-requires-3
 stepped-requires-3 c κs = search needs
 
 returns-3 : tie.Need-returns-3
-returns-3 c = poll-still _ _ _ _ _ _ (sym (c .before .before .before .before .before .before .refusal .ensures _ _ (poll (c .before .before .before .before .before .before .before .before .before .before .args .tick)) refl refl (lends-poll (c .before .before .before .before .before .before .before .before .before .before .args .tick))) ∙ c .before .before .before .if1 .left) (c .stepped3 .ensures) refl (sym (c .before .before .is-over .ensures _ _ refl) ∙ c .before .if2 .left) ((ready _ _ (c .before .before .before .before .before .before .before .before .before .before .args .kept .now) (c .before .before .before .before .before .before .before .before .before .before .args .memory .now) (c .before .before .before .before .before .before .before .before .before .before .args .room .now) (poll (c .before .before .before .before .before .before .before .before .before .before .args .tick)) (lends-poll (c .before .before .before .before .before .before .before .before .before .before .args .tick)) (sym (c .before .before .before .before .before .before .refusal .ensures _ _ (poll (c .before .before .before .before .before .before .before .before .before .before .args .tick)) refl refl (lends-poll (c .before .before .before .before .before .before .before .before .before .before .args .tick))) ∙ c .before .before .before .if1 .left)) .fits .few)
+returns-3 c = poll-still _ _ _ _ _ _ (willing (c .before .before .before)) (c .stepped3 .ensures) refl (sym (c .before .before .is-over .ensures _ _ refl) ∙ c .before .if2 .left) (enough (c .before .before .before) .fits .few)
 
 pub poll-spec : {M : Type 1} → statement M
 poll-spec =
