@@ -1,6 +1,7 @@
 // A board on the desk, and the calls that the words of a script make.
 mod calls;
 mod given;
+mod turns;
 
-pub use calls::act;
 pub use given::fresh;
+pub use turns::turn;

@@ -11,41 +11,7 @@
 //   &80 w00 s80    a place in memory, a byte set there; a byte of memory shown
 //   [ .. X112 ]    repeated so many times; % is the turn, from 0 on
 // Letters behind a sign say nothing. Numbers are hexadecimal, behind @ and the capital letters decimal.
-use board::Board;
 use script::Script;
-
-// So many bytes, or all where there are fewer.
-fn front(bytes: &mut [u8], count: u32) -> &mut [u8] {
-    let end = count as usize;
-    if bytes.len() < end {
-        return bytes;
-    }
-    &mut bytes[..end]
-}
-
-// One word, and what comes of it printed; & is at 26h, K, L and R are at 4Bh, 4Ch and 52h.
-fn turn(
-    sign: u8,
-    numbers: &[u32; 256],
-    board: Board,
-    kept: &mut [u8],
-    memory: &mut [u8],
-    room: &mut [u8],
-) -> Board {
-    let number = numbers[sign as usize];
-    let stepped = desk::act(
-        sign,
-        numbers,
-        board,
-        front(kept, numbers[0x4B]),
-        front(memory, numbers[0x4C]),
-        front(room, numbers[0x52]),
-    );
-    let outcome = stepped.outcome;
-    script::tell(sign, outcome, room);
-    script::aside(sign, number, numbers[0x26], memory);
-    stepped.board
-}
 
 // The words of a part, one after the other; where the next part begins.
 fn run(text: &[u8], from: usize, kept: &mut [u8], memory: &mut [u8], room: &mut [u8]) -> usize {
@@ -60,7 +26,7 @@ fn run(text: &[u8], from: usize, kept: &mut [u8], memory: &mut [u8], room: &mut 
             return script.at;
         }
         numbers[script.said as usize] = script.number;
-        board = turn(script.said, &numbers, board, kept, memory, room);
+        board = desk::turn(script.said, &numbers, board, kept, memory, room);
     }
     text.len()
 }

@@ -9,7 +9,7 @@ use Rattle.trial.proofs.run.Lts as lts
 use Rattle.desk.proofs.fresh.Reads as fresh-reads
 use Rattle.script.proofs.words.Script.next.Reads as next-reads
 use Rattle.script.proofs.words.Script.start.Reads as start-reads
-use Rattle.trial.proofs.turn.Reads as turn-reads
+use Rattle.desk.proofs.turn.Reads as turn-reads
 
 abbrev Inv-loop : tie.InvT-loop
 Inv-loop text from kept₀ memory₀ room₀ script₀ numbers₀ board₀ left₀ kept memory room script numbers board left =

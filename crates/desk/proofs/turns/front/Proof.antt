@@ -1,12 +1,12 @@
--- `trial::front` meets its contract. Assumes nothing.
+-- `desk::turns::front` meets its contract. Assumes nothing.
 use mathlib.Core.Path.{sym}
 use native.Mathlib.Omega.{arith}
 use lib.Seq.{length-take-le}
 use borrow.Author.Needs.{needs}
-use Rattle.trial.proofs.front.Statement.{statement}
-use Rattle.trial.proofs.front.Tie as tie
-use Rattle.trial.proofs.front.Reads as reads
-use Rattle.trial.proofs.front.Lts as lts
+use Rattle.desk.proofs.turns.front.Statement.{statement}
+use Rattle.desk.proofs.turns.front.Tie as tie
+use Rattle.desk.proofs.turns.front.Reads as reads
+use Rattle.desk.proofs.turns.front.Lts as lts
 
 returns : tie.Need-returns
 returns c = search needs
