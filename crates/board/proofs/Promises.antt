@@ -26,8 +26,6 @@ use Rattle.board.specs.declared.limits.Board.{Board}
 use Rattle.board.specs.declared.limits.Outcome as code
 use Rattle.board.specs.declared.limits.Stepped.{Stepped}
 use Rattle.board.specs.Board.{stateOf, fitsIn, refusalOn, calledOn, outcomeOf, Steps}
-use Rattle.board.specs.declared.closing.Closed.{Closed}
-use Rattle.board.specs.Work.{Closes}
 use Rattle.board.specs.Promises.{DoesStep, Within, Reached, start, next}
 use Rattle.meaning.proofs.Choices.{told-true, true-told, pick-same}
 use Rattle.board.proofs.Bounding.{lends-poll}
@@ -153,14 +151,6 @@ pub alone-tight : (p : Plate) (b : Board) (g : Call) (r t : Stepped) → ((kept 
     → ((kept m w : List ℕ) → length kept ≡ 135 → Steps p b kept m w g t kept m w) → r ≡ t
 alone-tight p b g r t h i =
     (calls-tight p b (zeros 135) [] [] g (h (zeros 135) [] [] (length-replicate {A = ℕ} 135 0)) (i (zeros 135) [] [] (length-replicate {A = ℕ} 135 0))) .stepped
-
-closings : {s t : State} {m n : ℕ} → s ≡ t → m ≡ n → _≡_ {A = Closed} (record { state = s; sent = m }) (record { state = t; sent = n })
-closings i j = rw (i, j)
-
-pub close-tight : (p : Plate) (s : State) (f : Frame) (k m w : List ℕ) (r t : Closed) (m′ m″ w′ w″ : List ℕ) → Closes p s f k m w r m′ w′ → Closes p s f k m w t m″ w″
-    → (r ≡ t) × (m′ ≡ m″) × (w′ ≡ w″)
-close-tight p s f k m w r t m′ m″ w′ w″ h i =
-    (closings (same-state (r .state) (t .state) meaning.none meaning.none (h .state ∙ sym (i .state))) (h .sent ∙ sym (i .sent)), h .memory ∙ sym (i .memory), h .room ∙ sym (i .room))
 
 -- a fresh board keeps no byte
 pub fresh-empty : (p : Plate) (b : Board) → ((kept : List ℕ) → stateOf b kept ≡ fresh p) → b .frame .len ≡ 0

@@ -242,6 +242,3 @@ module _ (p : Plate) (b : Board) (k m w : List ℕ) (t : ℕ) {r : Stepped} {k�
 pub no-line : (k : List ℕ) (s : State) {f : Frame} {x : meaning.State} → stateWith s none ≡ x → f ≡ noFrame → stateWith s (lineOf f k) ≡ x
 unfolding none
 no-line k s e h = rw h e
-
-pub none-fits : (k : List ℕ) {f : Frame} → f ≡ noFrame → length k ≡ 135 → Fits f k
-none-fits k e h = record { few = rw e (omega arith); all = h }

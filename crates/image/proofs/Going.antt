@@ -49,9 +49,6 @@ module _ (img : List ℕ) (all : length img ≡ 165) (p t s : ℕ) where
   abbrev front : List ℕ
   front = take 21 img
 
-  abbrev stamped : List ℕ
-  stamped = put img 23 (p ∷ low4 t (s ∷ []))
-
   stamped-is : put img 23 (p ∷ low4 t (s ∷ [])) ≡ take 21 img ++ (arg img 21 ∷ arg img 22 ∷ p ∷ low4 t (s ∷ arg img 29 ∷ keptIn img))
   unfolding put
   stamped-is =
