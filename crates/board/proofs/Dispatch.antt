@@ -1,16 +1,18 @@
 -- Each command by its row: what it asks, and what it leaves as it was. Assumes nothing.
 use Prim.Native.Nat.{ℕ, _≤_}
-use mathlib.Core.Path.{_≡_, refl, sym, _∙_}
+use native.Mathlib.Omega.{arith}
+use mathlib.Core.Path.{_≡_, refl, sym, ap, _∙_}
 use mathlib.Core.Bool.{Bool, true, false, false≢true}
 use mathlib.Core.List.{List, []}
-use borrow.Author.Tests.{eqb-true}
-use lib.Dec.{eqb}
+use borrow.Author.Tests.{eqb-true, ne-eqb, leb-true}
+use lib.Dec.{eqb, leb}
 use lib.ListN.{length}
-use Rattle.meaning.specs.Bytes.{pick, either, among}
+use Rattle.meaning.specs.Bytes.{pick, both}
 use Rattle.meaning.specs.State as meaning
 use Rattle.meaning.specs.State.{none}
 use Rattle.meaning.specs.Commands as commands
-use Rattle.meaning.specs.Commands.{Command, c43, c49, c4A, c4B, c4C, c4D, c4E, c4F, unknown, commandOf, asked, row, lengthFits, error, choose, onField, readPosition, setPosition, readCounter, stepCounter, clearCounter, readField, storeField, fieldStatus, create, modify, delete, shapeField, memoryStatus, setCode, readFault, reset, worked}
+use Rattle.meaning.specs.Commands.{Command, c43, c49, c4A, c4B, c4C, c4D, c4F, c53, unknown, commandOf, asked, row, lengthFits, error, choose, onField, readPosition, setPosition, readCounter, stepCounter, clearCounter, readField, storeField, fieldStatus, create, modify, delete, shapeField, memoryStatus, setCode, readFault, reset, worked}
+use Rattle.meaning.proofs.Choices.{both-left, both-right}
 use Rattle.frame.specs.declared.answer.Answer.{Answer}
 use Rattle.frame.specs.Answers.{memoryAfter, stateAfter, Works}
 use Rattle.fields.specs.Memory.{Lent}
@@ -22,22 +24,13 @@ use Rattle.commands.specs.declared.state.State.{State}
 use Rattle.commands.specs.declared.rows.Worked.{Worked}
 use Rattle.commands.specs.State.{stateWith}
 use Rattle.commands.specs.Rows.{Answers}
-use Rattle.board.specs.Work.{Workable, WorksOn, ofFields, OnFields}
+use Rattle.board.specs.Work.{Workable, Changeable, WorksOn, leavesState, Tells}
 use Rattle.board.proofs.Endings.{unknown-never}
 
 -- what the rows ask
-module _ (p : Plate) (s : State) {c : ℕ} (d m w : List ℕ) (h : Workable p s c d m w) where
-  pub bits-fit : p .bits ≤ 32
-  bits-fit = few-bits (plateOf p) (h .plate)
-
-  pub lent : Lent (p .total) m w
-  lent = record { fit = record { few = total-fits (plateOf p) (h .plate); long = h .size }; room = h .room }
-
-  fitting : {k : Command} → commandOf c ≡ k → asked k d ≡ true
-  fitting e = rw e at (h .fits)
-
+module _ (c : ℕ) (d : List ℕ) (h : asked (commandOf c) d ≡ true) where
   exact : (n : ℕ) {k : Command} → commandOf c ≡ k → ((x : List ℕ) → asked k x ≡ eqb (length x) n) → length d ≡ n
-  exact n e f = eqb-true (length d) n (sym (f d) ∙ fitting e)
+  exact n e f = eqb-true (length d) n (sym (f d) ∙ rw e at h)
 
   pub five : c ≡ 0x43 → length d ≡ 5
   unfolding commandOf asked row lengthFits
@@ -50,6 +43,19 @@ module _ (p : Plate) (s : State) {c : ℕ} (d m w : List ℕ) (h : Workable p s 
   pub three : c ≡ 0x4F → length d ≡ 3
   unfolding commandOf asked row lengthFits
   three e = exact 3 {k = c4F} (rw e) (λ x. refl)
+
+module _ (p : Plate) (s : State) {c : ℕ} (d m w : List ℕ) (h : Workable p s c d m w) where
+  pub bits-fit : p .bits ≤ 32
+  bits-fit = few-bits (plateOf p) (h .plate)
+
+  pub changeable : leavesState c ≡ false → Changeable (p .bits) s c d w
+  changeable e = record { bits = bits-fit; counter = h .counter; room = h .room; fits = h .fits; changes = e }
+
+  pub lent : Lent (p .total) m w
+  lent = record { fit = record { few = total-fits (plateOf p) (h .plate); long = h .size }; room = h .room }
+
+  fitting : {k : Command} → commandOf c ≡ k → asked k d ≡ true
+  fitting e = rw e at (h .fits)
 
   pub asked-4A : c ≡ 0x4A → Asked c4A (p .total) m d w
   unfolding commandOf
@@ -67,29 +73,30 @@ module _ (p : Plate) (s : State) {c : ℕ} (d m w : List ℕ) (h : Workable p s 
   unfolding commandOf
   asked-4D e = record { lent = lent; wanted = fitting (rw e) }
 
--- a command of the table that is none of the other eight works on the fields
-pub on-fields : (c : ℕ) (d : List ℕ) → asked (commandOf c) d ≡ true → eqb c 0x42 ≡ false → eqb c 0x43 ≡ false → eqb c 0x46 ≡ false → eqb c 0x47 ≡ false → eqb c 0x49 ≡ false
-    → eqb c 0x4F ≡ false → eqb c 0x50 ≡ false → eqb c 0x53 ≡ false → ofFields c ≡ true
-unfolding commandOf ofFields among
-on-fields c d h i j k l n o q r =
-    go (eqb c 0x4A) (eqb c 0x4B) (eqb c 0x4C) (eqb c 0x4D) (eqb c 0x4E) (rw (i, j, k, l, n, o, q, r) at h)
-  where
-    go : (t u v x y : Bool) → asked (pick t c4A (pick u c4B (pick v c4C (pick x c4D (pick y c4E unknown))))) d ≡ true
-        → either t (either u (either v (either x (either y false)))) ≡ true
-    go true u v x y e = refl
-    go false true v x y e = refl
-    go false false true x y e = refl
-    go false false false true y e = refl
-    go false false false false true e = refl
-    go false false false false false e = absurd (false≢true (sym (unknown-never d) ∙ e))
+-- what leaves the state is no command that changes it
+kept-by : (c : ℕ) → leavesState c ≡ false → (k : ℕ) → leavesState k ≡ true → eqb c k ≡ false
+kept-by c x k y = ne-eqb c k (λ e. false≢true (sym x ∙ ap leavesState e ∙ y))
 
-pub last-of-fields : (c : ℕ) → ofFields c ≡ true → eqb c 0x4A ≡ false → eqb c 0x4B ≡ false → eqb c 0x4C ≡ false → eqb c 0x4D ≡ false → c ≡ 0x4E
-unfolding ofFields among
-last-of-fields c h i j k l = eqb-true c 0x4E (go (eqb c 0x4E) (rw (i, j, k, l) at h))
+-- a command of the table that changes the state and is none of the other five is 53h
+pub last-change : (c : ℕ) (d : List ℕ) → asked (commandOf c) d ≡ true → leavesState c ≡ false → eqb c 0x43 ≡ false → eqb c 0x47 ≡ false → eqb c 0x49 ≡ false
+    → eqb c 0x4F ≡ false → eqb c 0x50 ≡ false → c ≡ 0x53
+unfolding commandOf leavesState
+last-change c d h x j l n o q =
+    let y = kept-by c x in
+    eqb-true c 0x53 (go (eqb c 0x53) (rw (y 0x42 refl, j, y 0x46 refl, l, n, y 0x4A refl, y 0x4B refl, y 0x4C refl, y 0x4D refl, y 0x4E refl, o, q) at h))
   where
-    go : (t : Bool) → either t false ≡ true → t ≡ true
+    go : (t : Bool) → asked (pick t c53 unknown) d ≡ true → t ≡ true
     go true e = refl
-    go false e = e
+    go false e = absurd (false≢true (sym (unknown-never d) ∙ e))
+
+-- the last of those that leave the state
+pub last-told : (c : ℕ) → leavesState c ≡ true → eqb c 0x42 ≡ false → eqb c 0x46 ≡ false → (c ≡ 0x4A → ⊥) → (c ≡ 0x4B → ⊥) → (c ≡ 0x4C → ⊥) → (c ≡ 0x4D → ⊥) → c ≡ 0x4E
+unfolding leavesState
+last-told c h i j k l n o =
+    let e : both (leb 0x4A c) (leb c 0x4E) ≡ true = rw (i, j) at h in
+    let low : 0x4A ≤ c = leb-true 0x4A c (both-left (leb 0x4A c) (leb c 0x4E) e) in
+    let high : c ≤ 0x4E = leb-true c 0x4E (both-right (leb 0x4A c) (leb c 0x4E) e) in
+    omega arith
 
 -- what the rows on the state leave of the memory, and those on the fields of the state
 module _ (m : List ℕ) where
@@ -110,17 +117,17 @@ module _ (s : meaning.State) where
   chosen false a b h k = k
 
 module _ (p : meaning.Plate) (s : State) {c : ℕ} (d m w : List ℕ) {r : Worked} {w′ : List ℕ} where
-  pub row-42 : c ≡ 0x42 → Answers (readPosition p (stateWith s none) m d) s none w r w′ → WorksOn (worked (commandOf c) p (stateWith s none) m d) s m w r m w′
+  pub told-42 : c ≡ 0x42 → Answers (readPosition p (stateWith s none) m d) s none w r w′ → Tells (worked (commandOf c) p (stateWith s none) m d) (stateWith s none) m w (r .answer) m w′
   unfolding commandOf worked readPosition
-  row-42 e h = rw e (record { row = h; memory = sym (keeps m _ _ _ refl) })
+  told-42 e h = rw e (record { works = record { answer = h .answer; memory = sym (keeps m _ _ _ refl); room = h .room }; state = stays (stateWith s none) _ _ _ refl })
+
+  pub told-46 : c ≡ 0x46 → Answers (readCounter p (stateWith s none) m d) s none w r w′ → Tells (worked (commandOf c) p (stateWith s none) m d) (stateWith s none) m w (r .answer) m w′
+  unfolding commandOf worked readCounter
+  told-46 e h = rw e (record { works = record { answer = h .answer; memory = refl; room = h .room }; state = refl })
 
   pub row-43 : c ≡ 0x43 → Answers (setPosition p (stateWith s none) m d) s none w r w′ → WorksOn (worked (commandOf c) p (stateWith s none) m d) s m w r m w′
   unfolding commandOf worked setPosition
   row-43 e h = rw e (record { row = h; memory = sym (keeps m _ _ _ (keeps m _ _ _ (keeps m _ _ _ refl))) })
-
-  pub row-46 : c ≡ 0x46 → Answers (readCounter p (stateWith s none) m d) s none w r w′ → WorksOn (worked (commandOf c) p (stateWith s none) m d) s m w r m w′
-  unfolding commandOf worked readCounter
-  row-46 e h = rw e (record { row = h; memory = refl })
 
   pub row-47 : c ≡ 0x47 → Answers (stepCounter p (stateWith s none) m d) s none w r w′ → WorksOn (worked (commandOf c) p (stateWith s none) m d) s m w r m w′
   unfolding commandOf worked stepCounter choose
@@ -148,19 +155,19 @@ module _ (p : meaning.Plate) (s : State) {c : ℕ} (d m w : List ℕ) {r : Worke
 
 -- the rows on the fields
 module _ (p : meaning.Plate) (s : meaning.State) {c : ℕ} (d m w : List ℕ) {r : Answer} {m′ w′ : List ℕ} where
-  pub row-4A : c ≡ 0x4A → Works (readField p s m d) m w r m′ w′ → OnFields (worked (commandOf c) p s m d) s m w r m′ w′
+  pub row-4A : c ≡ 0x4A → Works (readField p s m d) m w r m′ w′ → Tells (worked (commandOf c) p s m d) s m w r m′ w′
   unfolding commandOf worked readField onField
   row-4A e h = rw e (record { works = h; state = stays s _ _ _ (stays s _ _ _ (stays s _ _ _ (stays s _ _ _ (stays s _ _ _ refl)))) })
 
-  pub row-4B : c ≡ 0x4B → Works (storeField p s m d) m w r m′ w′ → OnFields (worked (commandOf c) p s m d) s m w r m′ w′
+  pub row-4B : c ≡ 0x4B → Works (storeField p s m d) m w r m′ w′ → Tells (worked (commandOf c) p s m d) s m w r m′ w′
   unfolding commandOf worked storeField onField
   row-4B e h = rw e (record { works = h; state = stays s _ _ _ (stays s _ _ _ (stays s _ _ _ (stays s _ _ _ (stays s _ _ _ refl)))) })
 
-  pub row-4C : c ≡ 0x4C → Works (fieldStatus p s m d) m w r m′ w′ → OnFields (worked (commandOf c) p s m d) s m w r m′ w′
+  pub row-4C : c ≡ 0x4C → Works (fieldStatus p s m d) m w r m′ w′ → Tells (worked (commandOf c) p s m d) s m w r m′ w′
   unfolding commandOf worked fieldStatus onField
   row-4C e h = rw e (record { works = h; state = stays s _ _ _ (stays s _ _ _ refl) })
 
-  pub row-4D : c ≡ 0x4D → Works (shapeField p s m d) m w r m′ w′ → OnFields (worked (commandOf c) p s m d) s m w r m′ w′
+  pub row-4D : c ≡ 0x4D → Works (shapeField p s m d) m w r m′ w′ → Tells (worked (commandOf c) p s m d) s m w r m′ w′
   unfolding commandOf worked shapeField create modify delete
   row-4D e h =
       rw e (record {
@@ -169,10 +176,10 @@ module _ (p : meaning.Plate) (s : meaning.State) {c : ℕ} (d m w : List ℕ) {r
             (chosen s _ _ _ (stays s _ _ _ (stays s _ _ _ refl)) refl));
       })
 
-  pub row-4E : c ≡ 0x4E → Works (memoryStatus p s m d) m w r m′ w′ → OnFields (worked (commandOf c) p s m d) s m w r m′ w′
+  pub row-4E : c ≡ 0x4E → Works (memoryStatus p s m d) m w r m′ w′ → Tells (worked (commandOf c) p s m d) s m w r m′ w′
   unfolding commandOf worked memoryStatus
   row-4E e h = rw e (record { works = h; state = stays s _ _ _ refl })
 
-pub fields-worked : (a : commands.Answer) (s : State) (m w : List ℕ) {r : Answer} {m′ w′ : List ℕ} → OnFields a (stateWith s none) m w r m′ w′
+pub as-worked : (a : commands.Answer) (s : State) (m w : List ℕ) {r : Answer} {m′ w′ : List ℕ} → Tells a (stateWith s none) m w r m′ w′
     → WorksOn a s m w (record { state = s; answer = r }) m′ w′
-fields-worked a s m w h = record { row = record { answer = h .works .answer; state = sym (h .state); room = h .works .room }; memory = h .works .memory }
+as-worked a s m w h = record { row = record { answer = h .works .answer; state = sym (h .state); room = h .works .room }; memory = h .works .memory }

@@ -31,9 +31,11 @@ use Rattle.line.proofs.Judging.{ends-as-judged, request-fits}
 use Rattle.line.proofs.Limits.{low-address}
 use Rattle.commands.specs.declared.state.State.{State}
 use Rattle.commands.specs.declared.rows.Worked.{Worked}
+use Rattle.board.specs.declared.closing.Closed.{Closed}
 use Rattle.commands.specs.State.{stateWith}
 use Rattle.commands.proofs.Answering.{put-nothing}
-use Rattle.board.specs.Work.{Ready, Workable, WorksOn, replyOf, Brief, Sendable, Sends, Closes}
+use Rattle.commands.proofs.Same.{same-state}
+use Rattle.board.specs.Work.{Ready, Workable, WorksOn, replyOf, Brief, Sendable, Sends, Serves, Closes}
 use Rattle.board.proofs.Sending.{part-length, sealed-length}
 
 drop-two : (n : ℕ) (k : List ℕ) → drop 2 (take (suc (suc n)) k) ≡ take n (drop 2 k)
@@ -155,19 +157,55 @@ module _ (p : meaning.Plate) (s : State) (f : Frame) (k m w : List ℕ) {own : �
   unfolding leaves outcome replyOf
   faulty e h = record { state = rw (worked-as e); sent = rw (worked-as e) (h .count); memory = rw (worked-as e); room = rw (worked-as e) (h .bytes) }
 
-  pub requested : {c n : ℕ} {r : Worked} {m′ v w′ : List ℕ} → judgementOf own (closed (lineOf f k)) ≡ Request c → 134 ≤ length w
-      → WorksOn (worked (commandOf c) p (stateWith s none) m (dataOf (take (f .len) k))) s m w r m′ v → Sends p (r .state) c (r .answer) v n w′
-      → Closes p s f k m w (record { state = r .state; sent = n }) m′ w′
+  pub requested : {c : ℕ} {r : Closed} {m′ w′ : List ℕ} → judgementOf own (closed (lineOf f k)) ≡ Request c
+      → Serves p s c (dataOf (take (f .len) k)) m w (r .state) (r .sent) m′ w′ → Closes p s f k m w r m′ w′
   unfolding leaves closed
-  requested {c} {n} {r} {m′} {v} {w′} e wide x h =
+  requested {c} e y =
       let b : commandByte (take (f .len) k) ≡ c = (request-fits own (closed (lineOf f k)) e) .byte in
-      let a : commands.Answer = worked (commandOf c) p (stateWith s none) m (dataOf (take (f .len) k)) in
-      let y : Left p (stateWith s none) c m w a (r .state) n m′ w′ =
-      left p (stateWith s none) c m w a (r .state) (r .answer) (limits.brief p (stateWith s none) m (dataOf (take (f .len) k)) (commandOf c)) wide
-      (x .row .answer) (x .row .state) (x .memory) (x .row .room) h in
       record { state = rw (worked-as e, b) (y .state); sent = rw (worked-as e, b) (y .sent); memory = rw (worked-as e, b) (y .memory); room = rw (worked-as e, b) (y .room) }
 
--- what `work` and `reply` ask, from what `close` asks
+-- a request, worked and answered
+pub served : (p : meaning.Plate) (s : State) (c : ℕ) (d m w : List ℕ) {r : Worked} {n : ℕ} {m′ v w′ : List ℕ} → 134 ≤ length w
+    → WorksOn (worked (commandOf c) p (stateWith s none) m d) s m w r m′ v → Sends p (r .state) c (r .answer) v n w′ → Serves p s c d m w (r .state) n m′ w′
+served p s c d m w {r} {n} {m′} {v} {w′} wide x h =
+    let q : meaning.State = stateWith s none in
+    let y : Left p q c m w (worked (commandOf c) p q m d) (r .state) n m′ w′ =
+    left p q c m w (worked (commandOf c) p q m d) (r .state) (r .answer) (limits.brief p q m d (commandOf c)) wide (x .row .answer) (x .row .state) (x .memory) (x .row .room) h in
+    record { state = y .state; sent = y .sent; memory = y .memory; room = y .room }
+
+-- what a reply asks, from what a request asks
+pub sendable : (p : Plate) (s : State) (c : ℕ) (d m w : List ℕ) → Workable p s c d m w → {x : Answer} {u : List ℕ}
+    → x ≡ told (worked (commandOf c) (plateOf p) (stateWith s none) m d) → 134 ≤ length u → Sendable p c x u
+sendable p s c d m w h e l =
+    let q : meaning.State = stateWith s none in
+    record {
+      address = low-address (plateOf p) (h .plate);
+      plain = plain c d (h .fits);
+      brief = rw e (few-told (worked (commandOf c) (plateOf p) q m d) (limits.brief (plateOf p) q m d (commandOf c)));
+      room = l;
+    }
+
+-- no two differing outcomes satisfy the contract of a request, nor that of an error code
+pub record Alike (t u : State) (n k : ℕ) (m′ m″ w′ w″ : List ℕ) : Type 0 where
+  pub state : t ≡ u
+  pub sent : n ≡ k
+  pub memory : m′ ≡ m″
+  pub room : w′ ≡ w″
+
+pub serves-tight : (p : meaning.Plate) (s : State) (c : ℕ) (d m w : List ℕ) (t u : State) {n k : ℕ} {m′ m″ w′ w″ : List ℕ} → Serves p s c d m w t n m′ w′ → Serves p s c d m w u k m″ w″
+    → Alike t u n k m′ m″ w′ w″
+serves-tight p s c d m w t u x y =
+    record {
+      state = same-state t u none none (x .state ∙ sym (y .state));
+      sent = x .sent ∙ sym (y .sent);
+      memory = x .memory ∙ sym (y .memory);
+      room = x .room ∙ sym (y .room);
+    }
+
+pub sends-tight : (p : meaning.Plate) (s : State) (c : ℕ) (a : Answer) (w : List ℕ) {n k : ℕ} {w′ w″ : List ℕ} → Sends p s c a w n w′ → Sends p s c a w k w″ → (n ≡ k) × (w′ ≡ w″)
+sends-tight p s c a w x y = (x .count ∙ sym (y .count), x .bytes ∙ sym (y .bytes))
+
+-- what `serve` and `reply` ask, from what `close` asks
 module _ (p : Plate) (s : State) (f : Frame) (k m w : List ℕ) (h : Ready p s f k m w) where
   within : f .len ≤ length k
   within = omega (arith, h .fits .few, h .fits .all)
@@ -193,18 +231,6 @@ module _ (p : Plate) (s : State) (f : Frame) (k m w : List ℕ) (h : Ready p s f
     pub workable : Workable p s c (take (f .len - 1 - 2) (drop 2 k)) m w
     workable = record { plate = h .plate; counter = h .counter; size = h .size; room = h .room; fits = rw part-of right }
 
-    pub sendable : {r : Worked} {m′ v u : List ℕ} → WorksOn (worked (commandOf c) (plateOf p) (stateWith s none) m (take (f .len - 1 - 2) (drop 2 k))) s m w r m′ v
-        → 134 ≤ length u → Sendable p c (r .answer) u
-    sendable x l =
-        let d : List ℕ = take (f .len - 1 - 2) (drop 2 k) in
-        let q : meaning.State = stateWith s none in
-        record {
-          address = own-known;
-          plain = plain c (dataOf (take (f .len) k)) right;
-          brief = rw (x .row .answer) (few-told (worked (commandOf c) (plateOf p) q m d) (limits.brief (plateOf p) q m d (commandOf c)));
-          room = l;
-        }
-
-    pub worked-on : {r : Worked} {m′ v : List ℕ} → WorksOn (worked (commandOf c) (plateOf p) (stateWith s none) m (take (f .len - 1 - 2) (drop 2 k))) s m w r m′ v
-        → WorksOn (worked (commandOf c) (plateOf p) (stateWith s none) m (dataOf (take (f .len) k))) s m w r m′ v
-    worked-on x = rw part-of at x
+    pub as-served : {r : Closed} {m′ w′ : List ℕ} → Serves (plateOf p) s c (take (f .len - 1 - 2) (drop 2 k)) m w (r .state) (r .sent) m′ w′
+        → Serves (plateOf p) s c (dataOf (take (f .len) k)) m w (r .state) (r .sent) m′ w′
+    as-served x = rw part-of at x

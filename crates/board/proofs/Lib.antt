@@ -2,6 +2,6 @@
 pub mod Bounding
 pub mod Stepping
 mod Sending
-mod Endings
+pub mod Endings
 mod Dispatch
 pub mod Promises

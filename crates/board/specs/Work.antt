@@ -1,17 +1,18 @@
 -- A frame is closed: what its work, its reply and its close ask and leave (01, "Characters become frames"). Assumes nothing.
 use Prim.Native.Nat.{ℕ, _≤_, _<_}
 use mathlib.Core.Path.{_≡_}
-use mathlib.Core.Bool.{Bool, true}
+use mathlib.Core.Bool.{Bool, true, false}
 use mathlib.Core.List.{List, [], _∷_}
+use lib.Dec.{eqb, leb}
 use lib.ListN.{length}
-use Rattle.meaning.specs.Bytes.{among, part, put}
+use Rattle.meaning.specs.Bytes.{both, either, part, put}
 use Rattle.meaning.specs.State as meaning
 use Rattle.meaning.specs.State.{none, plateOk}
 use Rattle.meaning.specs.Fields.{imageLength}
-use Rattle.meaning.specs.Commands.{commandOf, asked}
+use Rattle.meaning.specs.Commands.{commandOf, asked, worked}
 use Rattle.meaning.specs.Commands as commands
 use Rattle.meaning.specs.Characters.{closed}
-use Rattle.meaning.specs.Frames.{message, work}
+use Rattle.meaning.specs.Frames.{message, outcome, work}
 use Rattle.frame.specs.declared.answer.Answer.{Answer}
 use Rattle.frame.specs.declared.answer.Answer.the-variants.{Refuse, Accept, Quiet}
 use Rattle.frame.specs.Answers.{memoryAfter, stateAfter, Works}
@@ -45,14 +46,22 @@ pub record WorksOn (a : commands.Answer) (s : State) (m w : List ℕ) (r : Worke
   pub row : Answers a s none w r w′
   pub memory : m′ ≡ memoryAfter a m
 
--- 01, rows 4Ah to 4Eh
-unfoldable pub ofFields : ℕ → Bool
-ofFields c = among c (0x4A ∷ 0x4B ∷ 0x4C ∷ 0x4D ∷ 0x4E ∷ [])
+-- 01, rows 42h, 46h, 4Ah to 4Eh
+unfoldable pub leavesState : ℕ → Bool
+leavesState c = either (eqb c 0x42) (either (eqb c 0x46) (both (leb 0x4A c) (leb c 0x4E)))
 
 -- .. which leave the state as it is
-pub record OnFields (a : commands.Answer) (s : meaning.State) (m w : List ℕ) (r : Answer) (m′ w′ : List ℕ) : Type 0 where
+pub record Tells (a : commands.Answer) (s : meaning.State) (m w : List ℕ) (r : Answer) (m′ w′ : List ℕ) : Type 0 where
   pub works : Works a m w r m′ w′
   pub state : stateAfter a s ≡ s
+
+-- what the other rows ask
+pub record Changeable (n : ℕ) (s : State) (c : ℕ) (d w : List ℕ) : Type 0 where
+  pub bits : n ≤ 32
+  pub counter : s .counter ≤ 0xFFFFFF
+  pub room : 134 ≤ length w
+  pub fits : asked (commandOf c) d ≡ true
+  pub changes : leavesState c ≡ false
 
 -- 01, "An error reply is address, 50h, code, checksum"; other data stands from place 2 of the room on; the state is the one after the work
 unfoldable pub replyOf : meaning.Plate → meaning.State → ℕ → Answer → List ℕ → List ℕ
@@ -75,6 +84,13 @@ pub record Sendable (p : Plate) (c : ℕ) (x : Answer) (w : List ℕ) : Type 0 w
 pub record Sends (p : meaning.Plate) (s : State) (c : ℕ) (x : Answer) (w : List ℕ) (r : ℕ) (w′ : List ℕ) : Type 0 where
   pub count : r ≡ length (replyOf p (stateWith s none) c x w)
   pub bytes : w′ ≡ put w 0 (replyOf p (stateWith s none) c x w)
+
+-- what a request c with the data d leaves, once it is worked and answered: the state t, and n reply bytes at the room's front
+pub record Serves (p : meaning.Plate) (s : State) (c : ℕ) (d m w : List ℕ) (t : State) (n : ℕ) (m′ w′ : List ℕ) : Type 0 where
+  pub state : stateWith t none ≡ (outcome p (stateWith s none) m c (worked (commandOf c) p (stateWith s none) m d)) .state
+  pub sent : n ≡ length ((outcome p (stateWith s none) m c (worked (commandOf c) p (stateWith s none) m d)) .reply)
+  pub memory : m′ ≡ (outcome p (stateWith s none) m c (worked (commandOf c) p (stateWith s none) m d)) .memory
+  pub room : w′ ≡ put w 0 ((outcome p (stateWith s none) m c (worked (commandOf c) p (stateWith s none) m d)) .reply)
 
 -- what a closed frame leaves: the meaning's work on a board with no frame open
 pub record Closes (p : meaning.Plate) (s : State) (f : Frame) (kept m w : List ℕ) (r : Closed) (m′ w′ : List ℕ) : Type 0 where

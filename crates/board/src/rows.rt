@@ -1,59 +1,36 @@
-// The thirteen commands (01, "judged in this order", 7).
+// The thirteen commands (01, "judged in this order", 7): those that leave the state as it is, and the others.
 ghost use mathlib.Core.Path.{_≡_};
 ghost use mathlib.Core.Bool.{true};
+ghost use mathlib.Core.List.{List};
+ghost use Prim.Native.Nat.{ℕ};
+ghost use Rattle.meaning.specs.State as meaning;
 ghost use Rattle.meaning.specs.State.{none};
 ghost use Rattle.meaning.specs.Commands.{commandOf, worked};
 ghost use Rattle.commands.specs.State.{stateWith};
 ghost use Rattle.line.specs.Line.{plateOf};
-ghost use Rattle.board.specs.Work.{Workable, WorksOn, ofFields, OnFields};
+ghost use Rattle.board.specs.Work.{Workable, Changeable, WorksOn, leavesState, Tells};
 use commands::State;
 use commands::Worked;
 use frame::Answer;
 use line::Plate;
 
-// `request` is the data part, of the length that its row wants. A command that is not in the table has no such length.
-pub fn work(
-    plate: Plate,
-    state: State,
-    command: u8,
-    request: &[u8],
-    memory: &mut [u8],
-    room: &mut [u8],
-) -> Worked
-    requires { ⌜ Workable plate state command (now request) (now memory) (now room) ⌝ }
-    ensures { λ r. ⌜ WorksOn (worked (commandOf command) (plateOf plate) (stateWith state none) (now (memory .entry)) (now (request .entry))) state (now (memory .entry)) (now (room .entry)) r (now (memory .exit)) (now (room .exit)) ⌝ }
+pub fn leaves_state(command: u8) -> bool
+    ensures { λ r. ⌜ r ≡ leavesState command ⌝ }
 {
-    let bits = plate.bits;
     if command == 0x42 {
-        return commands::read_position(bits, state, room);
-    }
-    if command == 0x43 {
-        return commands::set_position(bits, state, request);
+        return true;
     }
     if command == 0x46 {
-        return commands::read_counter(state, room);
+        return true;
     }
-    if command == 0x47 {
-        return commands::step_counter(state);
+    if command < 0x4A {
+        return false;
     }
-    if command == 0x49 {
-        return commands::clear_counter(state, request);
-    }
-    if command == 0x4F {
-        return commands::set_code(state, request, room);
-    }
-    if command == 0x50 {
-        return commands::read_fault(state, room);
-    }
-    if command == 0x53 {
-        return commands::reset(state);
-    }
-    let answer = on_fields(plate, state, command, request, memory, room);
-    Worked { state, answer }
+    command <= 0x4E
 }
 
-// The commands that work on the fields; the state stays as it is.
-fn on_fields(
+// `request` is the data part, of the length that its row wants. A command that is not in the table has no such length.
+pub fn tell(
     plate: Plate,
     state: State,
     command: u8,
@@ -61,11 +38,19 @@ fn on_fields(
     memory: &mut [u8],
     room: &mut [u8],
 ) -> Answer
-    requires { ⌜ (Workable plate state command (now request) (now memory) (now room)) × (ofFields command ≡ true) ⌝ }
-    ensures { λ r. ⌜ OnFields (worked (commandOf command) (plateOf plate) (stateWith state none) (now (memory .entry)) (now (request .entry))) (stateWith state none) (now (memory .entry)) (now (room .entry)) r (now (memory .exit)) (now (room .exit)) ⌝ }
+    requires { ⌜ (Workable plate state command (now request) (now memory) (now room)) × (leavesState command ≡ true) ⌝ }
+    ensures { λ r. ⌜ Tells (worked (commandOf command) (plateOf plate) (stateWith state none) (now (memory .entry)) (now (request .entry))) (stateWith state none) (now (memory .entry)) (now (room .entry)) r (now (memory .exit)) (now (room .exit)) ⌝ }
 {
     let total = plate.total as usize;
     let codes = state.codes;
+    if command == 0x42 {
+        let position = commands::read_position(plate.bits, state, room);
+        return position.answer;
+    }
+    if command == 0x46 {
+        let counter = commands::read_counter(state, room);
+        return counter.answer;
+    }
     if command == 0x4A {
         return fields::read_field(memory, total, codes, request, room);
     }
@@ -79,4 +64,27 @@ fn on_fields(
         return fields::shape_field(memory, total, codes, request, room);
     }
     fields::memory_status(memory, total, room)
+}
+
+// The commands that change the state; the memory stays as it is.
+pub fn change(bits: u32, state: State, command: u8, request: &[u8], room: &mut [u8]) -> Worked
+    requires { ⌜ Changeable bits state command (now request) (now room) ⌝ }
+    ensures { λ r. ⌜ ((p : meaning.Plate) (m : List ℕ) → p .bits ≡ bits → WorksOn (worked (commandOf command) p (stateWith state none) m (now (request .entry))) state m (now (room .entry)) r m (now (room .exit))) ⌝ }
+{
+    if command == 0x43 {
+        return commands::set_position(bits, state, request);
+    }
+    if command == 0x47 {
+        return commands::step_counter(state);
+    }
+    if command == 0x49 {
+        return commands::clear_counter(state, request);
+    }
+    if command == 0x4F {
+        return commands::set_code(state, request, room);
+    }
+    if command == 0x50 {
+        return commands::read_fault(state, room);
+    }
+    commands::reset(state)
 }

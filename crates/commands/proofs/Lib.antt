@@ -1,6 +1,6 @@
 -- What the proofs of several functions use, and the laws that callers cite.
 pub mod Places
-mod States
+pub mod States
 mod Turns
 pub mod Answering
 mod Ways

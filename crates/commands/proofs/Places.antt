@@ -138,6 +138,15 @@ pub sound-empty : (f : Faults) {t : Bool} → eqb (f .first) 0 ≡ true → t �
 unfolding queueOf
 sound-empty f e h = h ∙ sym (empty-first (f .first) (waiting (f .second) (waiting (f .third) (waiting (f .fourth) []))) e)
 
+-- one code waits: the other places are empty
+pub sound-one : (f : Faults) {t : Bool} → mayPrecede (f .first) (waiting (f .second) (waiting (f .third) (waiting (f .fourth) []))) ≡ true → eqb (f .second) 0 ≡ true
+    → t ≡ not (waits (waiting (f .third) (waiting (f .fourth) (waiting 0 [])))) → t ≡ apart (queueOf f)
+unfolding queueOf waiting
+sound-one f p e h =
+    h ∙ sym (apart-more (f .first) (waiting (f .second) (waiting (f .third) (waiting (f .fourth) [])))
+    ∙ ap (λ (b : Bool). both b (apart (waiting (f .second) (waiting (f .third) (waiting (f .fourth) []))))) p
+    ∙ empty-first (f .second) (waiting (f .third) (waiting (f .fourth) [])) e)
+
 pub sound-four : (f : Faults) {t : Bool}
     → both (mayPrecede (f .first) (waiting (f .second) (waiting (f .third) (waiting (f .fourth) []))))
     (both (mayPrecede (f .second) (waiting (f .third) (waiting (f .fourth) (waiting 0 []))))

@@ -163,6 +163,9 @@ impl Faults {
         if !may_precede(self.first, self.second, self.third, self.fourth) {
             return false;
         }
+        if self.second == 0 {
+            return no_more(self.third, self.fourth, 0);
+        }
         if !may_precede(self.second, self.third, self.fourth, 0) {
             return false;
         }

@@ -4,3 +4,4 @@ pub mod Kept
 pub mod Judging
 pub mod Limits
 pub mod Tight
+mod Powers

@@ -42,31 +42,17 @@ impl Plate {
     }
 }
 
+// A power of two has one bit set.
 fn ticks_ok(ticks: u32) -> bool
     ensures { λ r. ⌜ r ≡ among ticks (1 ∷ 2 ∷ 4 ∷ 8 ∷ 16 ∷ 32 ∷ 64 ∷ []) ⌝ }
 {
-    if ticks == 1 {
-        return true;
+    if ticks < 1 {
+        return false;
     }
-    if ticks == 2 {
-        return true;
+    if 64 < ticks {
+        return false;
     }
-    if ticks == 4 {
-        return true;
-    }
-    if ticks == 8 {
-        return true;
-    }
-    if ticks == 16 {
-        return true;
-    }
-    if ticks == 32 {
-        return true;
-    }
-    if ticks == 64 {
-        return true;
-    }
-    false
+    ticks & (ticks - 1) == 0
 }
 
 fn pause_ok(pause: u32) -> bool

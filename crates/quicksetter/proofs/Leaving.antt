@@ -1,17 +1,17 @@
--- What a call leaves: what is no image; the board's call, written back; a character that is taken in place. Assumes nothing.
-use Prim.Native.Nat.{ℕ, _+_, _<_, _≤_}
+-- What a call leaves: what is no image; the board's call, written back. Assumes nothing.
+use Prim.Native.Nat.{ℕ, _+_, _≤_}
 use native.Mathlib.Omega.{arith}
 use mathlib.Core.Path.{_≡_, refl, sym, ap, _∙_, subst}
 use mathlib.Core.Bool.{Bool, true, false, false≢true}
 use mathlib.Core.List.{List, [], _++_}
-use borrow.Author.Tests.{eq-eqb, ne-eqb, le-leb, eqb-true}
+use borrow.Author.Tests.{eq-eqb, le-leb, eqb-true}
 use lib.Dec.{eqb}
 use lib.ListN.{length, take, drop, length-take}
 use lib.Seq.{take-at, drop-at, length-take-le}
 use Rattle.meaning.specs.Bytes.{pick, put, arg}
 use Rattle.meaning.specs.State as meaning
-use Rattle.meaning.specs.State.{Plate, Line, none, withLine}
-use Rattle.meaning.specs.Characters.{over, more, taken}
+use Rattle.meaning.specs.State.{Plate}
+use Rattle.meaning.specs.Characters.{over}
 use Rattle.meaning.specs.Frames.{Outcome, still, upTo}
 use Rattle.meaning.specs.Run.{Call, character, poll, measured, fault, power-on, Held, step, called, closes, refusedBy}
 use Rattle.meaning.proofs.Puts.{length-put}
@@ -19,18 +19,17 @@ use Rattle.line.specs.declared.characters.Frame.{Frame}
 use Rattle.line.specs.Line.{lineOf}
 use Rattle.commands.specs.declared.state.State.{State}
 use Rattle.commands.specs.State.{stateWith}
-use Rattle.commands.proofs.Answering.{put-nothing}
 use Rattle.board.specs.declared.limits.Board.{Board}
 use Rattle.board.specs.declared.limits.Outcome as code
 use Rattle.board.specs.declared.limits.Outcome.the-variants.{Refused, Still, Over}
 use Rattle.board.specs.declared.limits.Stepped.{Stepped}
 use Rattle.board.specs.Board.{fitsIn, calledOn, outcomeOf, Steps}
-use Rattle.image.specs.Image.{isImage, stateIn, frameIn, keptIn, heldIn, stateBytes, lineBytes, frameBytes, imageOf, Takes, PutsBoard}
+use Rattle.image.specs.Image.{isImage, frameIn, keptIn, heldIn, stateBytes, lineBytes, frameBytes, imageOf, PutsBoard}
 use Rattle.image.proofs.Standing.{line-row}
-use Rattle.image.proofs.Parts.{kept-length, front-length, state-as-it-was, same-front}
-use Rattle.image.proofs.Round.{good, kept-stays, lent-back, image-as-it-was}
+use Rattle.image.proofs.Parts.{kept-length}
+use Rattle.image.proofs.Round.{good, kept-stays, lent-back}
 use Rattle.quicksetter.specs.declared.notes.Note.{Note}
-use Rattle.quicksetter.specs.Calls.{boardIn, callOf, callFor, calledBy, numberOf, imageAfter, Called, outcomeNumber, LeftBy, Finishes}
+use Rattle.quicksetter.specs.Calls.{boardIn, callFor, calledBy, numberOf, imageAfter, Called, outcomeNumber, LeftBy, Finishes}
 
 -- a call that closes no frame brings no reply
 silent : (p : Plate) (s : meaning.State) (m : List ℕ) (g : Call) → closes p s g ≡ false → (step p s m g) .reply ≡ []
@@ -170,75 +169,6 @@ module _ (p : Plate) (img m w : List ℕ) (g : Call) where
 pub for-note : {p : Plate} {b : Board} {t : Stepped} {n x : Note} → n ≡ x
     → ((k y z : List ℕ) → length k ≡ 135 → Steps p b k y z (callFor x) t k y z) → (k y z : List ℕ) → length k ≡ 135 → Steps p b k y z (callFor n) t k y z
 for-note {p} {b} {t} e q = subst (λ (v : Note). (k y z : List ℕ) → length k ≡ 135 → Steps p b k y z (callFor v) t k y z) (sym e) q
-
--- a character of a frame that is not over, taken in place
-module _ (p : Plate) (img m w : List ℕ) (tick v : ℕ) (bad : Bool) (e : isImage img ≡ true) (small : (i : ℕ) → arg img i < 256)
-    (free : refusedBy p (heldIn img) m (length w) (character tick v bad) ≡ 0) (open-still : over p (heldIn img) tick ≡ false) where
-  abbrev next : Line
-  next = more (pick (frameIn img .begun) (lineOf (frameIn img) (keptIn img)) none) tick v bad
-
-  at-once : calledBy p img m w (character tick v bad)
-      ≡ (record { refusal = 0; count = 0; state = stateWith (stateIn img) next; memory = m; room = w })
-  unfolding calledBy called step upTo still taken withLine
-  at-once =
-      let z : eqb (refusedBy p (heldIn img) m (length w) (character tick v bad)) 0 ≡ true = eq-eqb _ 0 free in
-      let y : put w 0 [] ≡ w = sym (put-nothing w 0) in
-      rw (e, z, open-still, y)
-
-  pub taken-in-place : {img′ : List ℕ} → Takes next img img′ → Called p img m w (character tick v bad) 0 img′ m w
-  unfolding numberOf imageAfter imageOf
-  taken-in-place {img′} t =
-      let all : length img ≡ 165 = (good img e) .all in
-      let front : stateBytes (stateWith (stateIn img) next) ≡ take 21 img = state-as-it-was img all small ((good img e) .locked) next in
-      let rest : List ℕ = lineBytes next ++ put (keptIn img) 0 (next .kept) in
-      let same : take 21 img′ ≡ take 21 img = ap (take 21) (t .image) ∙ take-at (take 21 img) rest 21 (front-length img all) in
-      let s : stateIn img′ ≡ stateIn img = same-front img′ img same in
-      record {
-        answer = rw at-once;
-        state = rw at-once (rw (s, t .holds));
-        image = rw (at-once, front) (t .image);
-        memory = rw at-once;
-        room = rw at-once;
-      }
-
--- a poll of a frame that is not over, or of none: nothing is done
-module _ (p : Plate) (img m w : List ℕ) (tick : ℕ) (e : isImage img ≡ true) (small : (i : ℕ) → arg img i < 256)
-    (free : refusedBy p (heldIn img) m (length w) (poll tick) ≡ 0) (open-still : over p (heldIn img) tick ≡ false) where
-  nothing-done : calledBy p img m w (poll tick) ≡ (record { refusal = 0; count = 0; state = heldIn img; memory = m; room = w })
-  unfolding calledBy called step upTo still
-  nothing-done =
-      let z : eqb (refusedBy p (heldIn img) m (length w) (poll tick)) 0 ≡ true = eq-eqb _ 0 free in
-      let y : put w 0 [] ≡ w = sym (put-nothing w 0) in
-      rw (e, z, open-still, y)
-
-  pub left-in-place : Called p img m w (poll tick) 0 img m w
-  unfolding numberOf imageAfter
-  left-in-place =
-      record {
-        answer = rw nothing-done;
-        state = rw nothing-done;
-        image = rw nothing-done (sym (image-as-it-was img e small));
-        memory = rw nothing-done;
-        room = rw nothing-done;
-      }
-
--- the call that an event is
-module _ (p : Plate) (img m w : List ℕ) (tick v : ℕ) {kind r : ℕ} {img′ m′ w′ : List ℕ} where
-  pub polled : kind ≡ 2 → Called p img m w (poll tick) r img′ m′ w′ → Called p img m w (callOf kind tick v) r img′ m′ w′
-  unfolding callOf
-  polled e q = rw e q
-
-  pub stepped : (kind ≡ 2 → ⊥) → Called p img m w (character tick v (eqb kind 1)) r img′ m′ w′ → Called p img m w (callOf kind tick v) r img′ m′ w′
-  unfolding callOf
-  stepped n q = rw (ne-eqb kind 2 n) q
-
-module _ (p : Plate) (img m w : List ℕ) (tick v : ℕ) {r : ℕ} {img′ m′ w′ : List ℕ} where
-  pub as-told : {a b : Bool} → a ≡ b → Called p img m w (character tick v a) r img′ m′ w′ → Called p img m w (character tick v b) r img′ m′ w′
-  as-told e q = subst (λ (x : Bool). Called p img m w (character tick v x) r img′ m′ w′) e q
-
-  pub as-kind : (kind : ℕ) {bad : Bool} → ((t x : ℕ) → callOf kind t x ≡ character t x bad) → Called p img m w (callOf kind tick v) r img′ m′ w′
-      → Called p img m w (character tick v bad) r img′ m′ w′
-  as-kind kind e q = subst (λ (x : Call). Called p img m w x r img′ m′ w′) (e tick v) q
 
 -- the frame's test, of the state that the image holds
 pub over-in : (p : Plate) (img : List ℕ) (tick : ℕ) {f : Frame} {r : Bool} → f ≡ frameIn img

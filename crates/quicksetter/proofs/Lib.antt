@@ -1,6 +1,7 @@
 -- What the proofs of several functions use, and the theorems of the entry points.
 mod Leaving
-mod Calm
+mod Refusing
+mod Closing
 mod Finishing
 mod Freshening
 mod Judging

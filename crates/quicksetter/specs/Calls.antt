@@ -1,21 +1,23 @@
 -- What a call from C leaves of image, memory and room, and the number that comes back (01, "Named refusals"). Assumes nothing.
-use Prim.Native.Nat.{ℕ, _+_}
+use Prim.Native.Nat.{ℕ, _+_, _-_, _≤_, _^_}
 use mathlib.Core.Path.{_≡_}
 use mathlib.Core.Bool.{Bool, true}
 use mathlib.Core.List.{List}
-use lib.Dec.{eqb}
-use lib.ListN.{length}
+use lib.Dec.{eqb, leb, ltb}
+use lib.ListN.{length, take, drop}
 use Rattle.meaning.specs.Bytes.{pick, both, zeros}
 use Rattle.meaning.specs.State as meaning
-use Rattle.meaning.specs.Run.{Call, character, poll, measured, fault, power-on, Held, called, refusedBy}
+use Rattle.meaning.specs.Fields.{imageLength}
+use Rattle.meaning.specs.Run.{Call, poll, measured, fault, power-on, Held, called}
 use Rattle.line.specs.declared.plate.Plate.{Plate}
 use Rattle.board.specs.declared.limits.Board.{Board}
 use Rattle.board.specs.declared.limits.Outcome.{Outcome}
 use Rattle.board.specs.declared.limits.Outcome.the-variants.{Refused, Still, Over}
 use Rattle.board.specs.declared.limits.Stepped.{Stepped}
+use Rattle.board.specs.Work.{Workable, Serves, Closes}
 use Rattle.quicksetter.specs.declared.notes.Note.{Note}
 use Rattle.quicksetter.specs.declared.notes.Note.the-variants.{Measured, Fault, PowerOn}
-use Rattle.image.specs.Image.{isImage, stateIn, frameIn, heldIn, keptIn, imageOf, PutsBoard}
+use Rattle.image.specs.Image.{numberAt, isImage, stateIn, frameIn, heldIn, keptIn, imageOf, PutsState, PutsBoard}
 
 abbrev pub plateFrom : ℕ → ℕ → ℕ → ℕ → ℕ → Plate
 plateFrom t b a k q = record { total = t; bits = b; address = a; ticks = k; pause = q }
@@ -52,20 +54,49 @@ pub record Freshens (p : meaning.Plate) (img : List ℕ) (r : ℕ) (img′ : Lis
   pub answer : r ≡ pick (freshOk p img) 0 257
   pub image : img′ ≡ pick (freshOk p img) (imageOf (meaning.fresh p) (zeros 135)) img
 
--- what came, as the entries hand it on: a character without (0) or with (1) a parity fault, or a poll (2)
-unfoldable pub callOf : ℕ → ℕ → ℕ → Call
-callOf kind tick value = pick (eqb kind 2) (poll tick) (character tick value (eqb kind 1))
-
 -- 01, "The host notes codes": what a host tells besides
 abbrev pub callFor : Note → Call
 callFor (Measured n) = measured n
 callFor (Fault c) = fault c
 callFor PowerOn = power-on
 
+-- R1 does not apply to plate and image, whatever codes wait
+unfoldable pub possible : meaning.Plate → List ℕ → Bool
+possible p img = both (isImage img) (both (leb (numberAt img 4) 0xFFFFFF) (both (meaning.plateOk p) (ltb (numberAt img 8) (2 ^ p .bits))))
+
 -- R1 to R3 do not apply
 pub record Unrefused (p : meaning.Plate) (img : List ℕ) (memory room : ℕ) : Type 0 where
   pub image : isImage img ≡ true
-  pub within : (m : List ℕ) (g : Call) → length m ≡ memory → refusedBy p (heldIn img) m room g ≡ 0
+  pub plate : meaning.plateOk p ≡ true
+  pub state : meaning.stateOk p (heldIn img) ≡ true
+  pub size : memory ≡ imageLength (p .total)
+  pub wide : 134 ≤ room
+
+-- the data of a kept request that ends before a place of the image
+abbrev pub dataTo : ℕ → List ℕ → List ℕ
+dataTo end img = take (end - 32) (drop 32 img)
+
+-- a request that the image's board may work
+pub record Servable (p : Plate) (c end : ℕ) (img m w : List ℕ) : Type 0 where
+  pub image : isImage img ≡ true
+  pub starts : 32 ≤ end
+  pub ends : end ≤ 165
+  pub works : Workable p (stateIn img) c (dataTo end img) m w
+
+-- the request c with the data d is worked and answered, and the image holds the state after it; but for the state's bytes it is as it was
+pub record ServedIn (p : meaning.Plate) (c : ℕ) (d img m w : List ℕ) (r : ℕ) (img′ m′ w′ : List ℕ) : Type 0 where
+  pub serves : Serves p (stateIn img) c d m w (stateIn img′) r m′ w′
+  pub state : PutsState (stateIn img′) img img′
+
+-- the same of the open frame, which is closed
+pub record ClosedIn (p : meaning.Plate) (img m w : List ℕ) (r : ℕ) (img′ m′ w′ : List ℕ) : Type 0 where
+  pub closes : Closes p (stateIn img) (frameIn img) (keptIn img) m w (record { state = stateIn img′; sent = r }) m′ w′
+  pub state : PutsState (stateIn img′) img img′
+
+-- what a poll leaves of an image that is not refused; the places of the kept bytes stay
+pub record Polls (p : meaning.Plate) (img m w : List ℕ) (tick r : ℕ) (img′ m′ w′ : List ℕ) : Type 0 where
+  pub called : Called p img m w (poll tick) r img′ m′ w′
+  pub kept : keptIn img′ ≡ keptIn img
 
 -- the outcome of the board's call as the number for C, and the board written back where it was not refused
 abbrev pub outcomeNumber : Outcome → ℕ

@@ -4,43 +4,32 @@ ghost use mathlib.Core.Bool.{true};
 ghost use Prim.Native.Nat.{ℕ, _≤_};
 ghost use lib.ListN.{length};
 ghost use Rattle.meaning.specs.Bytes.{differ};
+ghost use Rattle.meaning.specs.State.{apart};
 ghost use Rattle.meaning.specs.Characters.{over};
 ghost use Rattle.meaning.specs.Run as run;
 ghost use Rattle.line.specs.Line.{plateOf};
-ghost use Rattle.image.specs.Image.{heldIn};
-ghost use Rattle.quicksetter.specs.Calls.{plateFrom, callOf, Called, Unrefused};
+ghost use Rattle.commands.specs.Queue.{queueOf};
+ghost use Rattle.image.specs.Image.{stateIn, heldIn};
+ghost use Rattle.quicksetter.specs.Calls.{plateFrom, possible, dataTo, Called, Unrefused, Servable, ServedIn, ClosedIn, Polls};
 use crate::answer::REFUSED;
-use crate::answer::finish;
-use crate::given::board_in;
 use crate::given::plate_from;
 use image::COUNTER;
 use image::KEPT;
 use image::LENGTH;
 use image::OFFSET;
 use image::WAITING;
+use line::Frame;
+use line::Judgement;
+use line::Plate;
 
-// What came: a character, one with a parity fault, or a poll.
-const FAULTY: u8 = 1;
+// Where the data of the kept request starts.
+const DATA: usize = 32;
 
-const POLL: u8 = 2;
-
-// What nearly every call meets: no code waits, and R1 to R3 do not apply. Where it says no, `event` decides.
-fn is_calm(
-    image: &[u8],
-    total: u32,
-    bits: u32,
-    address: u32,
-    ticks: u32,
-    pause: u32,
-    memory: &[u8],
-    room: &[u8],
-) -> bool
-    ensures { λ r. ⌜ (r ≡ true → Unrefused (plateOf (plateFrom total bits address ticks pause)) (now (image .entry)) (length (now (memory .entry))) (length (now (room .entry)))) ⌝ }
+// R1 of the plate and of the image, but for the waiting codes.
+fn is_possible(image: &[u8], total: u32, bits: u32, address: u32, ticks: u32, pause: u32) -> bool
+    ensures { λ r. ⌜ r ≡ possible (plateOf (plateFrom total bits address ticks pause)) (now (image .entry)) ⌝ }
 {
     if !image::is_image(image) {
-        return false;
-    }
-    if frame::number_at(image, WAITING) != 0 {
         return false;
     }
     if 0xFFFFFF < frame::number_at(image, COUNTER) {
@@ -53,10 +42,19 @@ fn is_calm(
     if commands::size(bits) <= frame::number_at(image, OFFSET) as u64 {
         return false;
     }
-    if memory.len() as u64 != 16 * (total as u64) + total as u64 {
-        return false;
+    true
+}
+
+// R1 of the waiting codes; that none waits, as is usual, is told at once.
+fn is_sound(image: &[u8]) -> bool
+    requires { ⌜ 165 ≤ length (now image) ⌝ }
+    ensures { λ r. ⌜ r ≡ apart (queueOf (stateIn (now (image .entry)) .faults)) ⌝ }
+{
+    if frame::number_at(image, WAITING) == 0 {
+        return true;
     }
-    134 <= room.len()
+    let state = image::state_in(image);
+    state.faults.is_sound()
 }
 
 // Whether the image's open frame is over at that tick.
@@ -77,12 +75,32 @@ fn is_over(
     frame.is_over(plate, tick)
 }
 
-// Any character or poll, by the board. Its parameters are those of `qs_character`, so that handing them on costs nothing.
-fn event(
+// A request, worked on the state that the image holds. Only where the state may change are its bytes written.
+fn served(
     image: &mut [u8],
-    tick: u32,
-    value: u8,
-    kind: u8,
+    plate: Plate,
+    command: u8,
+    end: usize,
+    memory: &mut [u8],
+    room: &mut [u8],
+) -> usize
+    requires { ⌜ Servable plate command end (now image) (now memory) (now room) ⌝ }
+    ensures { λ r. ⌜ ServedIn (plateOf plate) command (dataTo end (now (image .entry))) (now (image .entry)) (now (memory .entry)) (now (room .entry)) r (now (image .exit)) (now (memory .exit)) (now (room .exit)) ⌝ }
+{
+    if board::leaves_state(command) {
+        let state = image::state_in(image);
+        return board::ask(plate, state, command, &image[DATA..end], memory, room);
+    }
+    let state = image::state_in(image);
+    let closed = board::order(plate, state, command, &image[DATA..end], memory, room);
+    let next = closed.state;
+    image::put_state(next, image);
+    closed.sent
+}
+
+// The open frame, judged, worked and answered. The number is the reply's length.
+fn answered(
+    image: &mut [u8],
     total: u32,
     bits: u32,
     address: u32,
@@ -91,43 +109,70 @@ fn event(
     memory: &mut [u8],
     room: &mut [u8],
 ) -> usize
-    ensures { λ r. ⌜ Called (plateOf (plateFrom total bits address ticks pause)) (now (image .entry)) (now (memory .entry)) (now (room .entry)) (callOf kind tick value) r (now (image .exit)) (now (memory .exit)) (now (room .exit)) ⌝ }
+    requires { ⌜ Unrefused (plateOf (plateFrom total bits address ticks pause)) (now image) (length (now memory)) (length (now room)) ⌝ }
+    ensures { λ r. ⌜ ClosedIn (plateOf (plateFrom total bits address ticks pause)) (now (image .entry)) (now (memory .entry)) (now (room .entry)) r (now (image .exit)) (now (memory .exit)) (now (room .exit)) ⌝ }
 {
-    if !image::is_image(image) {
-        return REFUSED + 1;
-    }
     let plate = plate_from(total, bits, address, ticks, pause);
-    let before = board_in(image);
-    if kind == POLL {
-        let polled = board::poll(plate, before, tick, &mut image[KEPT..LENGTH], memory, room);
-        return finish(polled, image);
+    let frame = image::frame_in(image);
+    match frame.judged(line::own_byte(plate), &image[KEPT..LENGTH]) {
+        Judgement::Short => 0,
+        Judgement::Elsewhere => 0,
+        Judgement::Fault(code) => {
+            let state = image::state_in(image);
+            board::refuse(plate, state, code, room)
+        }
+        Judgement::Request(command) => {
+            let end = KEPT + frame.len as usize - 1;
+            served(image, plate, command, end, memory, room)
+        }
     }
-    let stepped = board::character(
-        plate,
-        before,
-        tick,
-        value,
-        kind == FAULTY,
-        &mut image[KEPT..LENGTH],
-        memory,
-        room,
-    );
-    finish(stepped, image)
+}
+
+// The open frame is over: it is answered and put away.
+fn shut(
+    image: &mut [u8],
+    total: u32,
+    bits: u32,
+    address: u32,
+    ticks: u32,
+    pause: u32,
+    memory: &mut [u8],
+    room: &mut [u8],
+) -> usize
+    requires { ⌜ Unrefused (plateOf (plateFrom total bits address ticks pause)) (now image) (length (now memory)) (length (now room)) ⌝ }
+    ensures { λ r. ⌜ ((tick : ℕ) → over (plateOf (plateFrom total bits address ticks pause)) (heldIn (now (image .entry))) tick ≡ true
+        → Polls (plateOf (plateFrom total bits address ticks pause)) (now (image .entry)) (now (memory .entry)) (now (room .entry)) tick r (now (image .exit)) (now (memory .exit)) (now (room .exit))) ⌝ }
+{
+    let sent = answered(image, total, bits, address, ticks, pause, memory, room);
+    image::put_frame(Frame::none(), image);
+    sent
+}
+
+// What a character finds done by its tick, as a poll would do it.
+fn polled(
+    image: &mut [u8],
+    tick: u32,
+    total: u32,
+    bits: u32,
+    address: u32,
+    ticks: u32,
+    pause: u32,
+    memory: &mut [u8],
+    room: &mut [u8],
+) -> usize
+    requires { ⌜ Unrefused (plateOf (plateFrom total bits address ticks pause)) (now image) (length (now memory)) (length (now room)) ⌝ }
+    ensures { λ r. ⌜ Polls (plateOf (plateFrom total bits address ticks pause)) (now (image .entry)) (now (memory .entry)) (now (room .entry)) tick r (now (image .exit)) (now (memory .exit)) (now (room .exit)) ⌝ }
+{
+    if is_over(image, tick, total, bits, address, ticks, pause) {
+        return shut(image, total, bits, address, ticks, pause, memory, room);
+    }
+    0
 }
 
 fn is_fault(parity: u8) -> bool
     ensures { λ r. ⌜ r ≡ differ parity 0 ⌝ }
 {
     parity != 0
-}
-
-fn kind_of(faulty: bool) -> u8
-    ensures { λ r. ⌜ ((tick value : ℕ) → callOf r tick value ≡ run.character tick value faulty) ⌝ }
-{
-    if faulty {
-        return FAULTY;
-    }
-    0
 }
 
 #[no_mangle]
@@ -146,18 +191,21 @@ pub extern "C" fn qs_character(
 ) -> usize
     ensures { λ r. ⌜ Called (plateOf (plateFrom total bits address ticks pause)) (now (image .entry)) (now (memory .entry)) (now (room .entry)) (run.character tick value (differ parity 0)) r (now (image .exit)) (now (memory .exit)) (now (room .exit)) ⌝ }
 {
-    let faulty = is_fault(parity);
-    if is_calm(image, total, bits, address, ticks, pause, memory, room) {
-        if !is_over(image, tick, total, bits, address, ticks, pause) {
-            image::take_character(tick, value, faulty, image);
-            return 0;
-        }
+    if !is_possible(image, total, bits, address, ticks, pause) {
+        return REFUSED + 1;
     }
-    event(
+    if !is_sound(image) {
+        return REFUSED + 1;
+    }
+    if memory.len() as u64 != 16 * (total as u64) + total as u64 {
+        return REFUSED + 2;
+    }
+    if room.len() < 134 {
+        return REFUSED + 3;
+    }
+    let sent = polled(
         image,
         tick,
-        value,
-        kind_of(faulty),
         total,
         bits,
         address,
@@ -165,7 +213,9 @@ pub extern "C" fn qs_character(
         pause,
         memory,
         room,
-    )
+    );
+    image::take_character(tick, value, is_fault(parity), image);
+    sent
 }
 
 #[no_mangle]
@@ -182,22 +232,20 @@ pub extern "C" fn qs_poll(
 ) -> usize
     ensures { λ r. ⌜ Called (plateOf (plateFrom total bits address ticks pause)) (now (image .entry)) (now (memory .entry)) (now (room .entry)) (run.poll tick) r (now (image .exit)) (now (memory .exit)) (now (room .exit)) ⌝ }
 {
-    if is_calm(image, total, bits, address, ticks, pause, memory, room) {
-        if !is_over(image, tick, total, bits, address, ticks, pause) {
-            return 0;
-        }
+    if !is_possible(image, total, bits, address, ticks, pause) {
+        return REFUSED + 1;
     }
-    event(
-        image,
-        tick,
-        0,
-        POLL,
-        total,
-        bits,
-        address,
-        ticks,
-        pause,
-        memory,
-        room,
-    )
+    if !is_sound(image) {
+        return REFUSED + 1;
+    }
+    if memory.len() as u64 != 16 * (total as u64) + total as u64 {
+        return REFUSED + 2;
+    }
+    if room.len() < 134 {
+        return REFUSED + 3;
+    }
+    if is_over(image, tick, total, bits, address, ticks, pause) {
+        return shut(image, total, bits, address, ticks, pause, memory, room);
+    }
+    0
 }

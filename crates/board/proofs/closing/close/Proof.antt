@@ -1,7 +1,7 @@
 -- `board::closing::close` meets its contract. Assumes nothing.
 use mathlib.Core.Path.{sym, _∙_}
 use native.Mathlib.Omega.{arith}
-use Rattle.board.proofs.Endings.{own-known, error-sendable, long, workable, sendable, too-short, for-another, faulty, requested, worked-on}
+use Rattle.board.proofs.Endings.{own-known, error-sendable, long, workable, too-short, for-another, faulty, requested, as-served}
 use borrow.Author.Needs.{needs}
 use Rattle.board.proofs.closing.close.Statement.{statement}
 use Rattle.board.proofs.closing.close.Tie as tie
@@ -21,8 +21,8 @@ enum-told-2 c = search needs
 enum-known-code : tie.Need-enum-known-code
 enum-known-code c = search needs
 
-reply-requires : tie.Need-reply-requires
-reply-requires c κs = error-sendable _ _ _ _ _ _ (c .before .before .before .before .before .before .before .before .before .pre) _ (c .before .before .before .before .before .before .before .before .before .pre .room)
+refuse-requires : tie.Need-refuse-requires
+refuse-requires c κs = error-sendable _ _ _ _ _ _ (c .before .before .before .before .before .before .before .before .before .pre) _ (c .before .before .before .before .before .before .before .before .before .pre .room)
 
 enum-known-command : tie.Need-enum-known-command
 enum-known-command c = search needs
@@ -33,20 +33,17 @@ cast-end c = search needs
 sub-end : tie.Need-sub-end
 sub-end c = omega (arith, long _ _ _ _ _ _ (c .before .before .before .before .before .before .before .before .before .pre) _ (sym (c .before .before .before .before .judged .ensures) ∙ c .before .before .command .given .1))
 
-sub-work : tie.Need-sub-work
-sub-work c = omega (arith, long _ _ _ _ _ _ (c .before .before .before .before .before .before .before .before .before .pre) _ (sym (c .before .before .before .before .judged .ensures) ∙ c .before .before .command .given .1))
+sub-serve : tie.Need-sub-serve
+sub-serve c = omega (arith, long _ _ _ _ _ _ (c .before .before .before .before .before .before .before .before .before .pre) _ (sym (c .before .before .before .before .judged .ensures) ∙ c .before .before .command .given .1))
 
-part-work-start : tie.Need-part-work-start
-part-work-start c = omega (arith, c .before .before .before .before .before .before .before .before .before .pre .fits .few, c .before .before .before .before .before .before .before .before .before .pre .fits .all, long _ _ _ _ _ _ (c .before .before .before .before .before .before .before .before .before .pre) _ (sym (c .before .before .before .before .judged .ensures) ∙ c .before .before .command .given .1))
+part-serve-start : tie.Need-part-serve-start
+part-serve-start c = omega (arith, c .before .before .before .before .before .before .before .before .before .pre .fits .few, c .before .before .before .before .before .before .before .before .before .pre .fits .all, long _ _ _ _ _ _ (c .before .before .before .before .before .before .before .before .before .pre) _ (sym (c .before .before .before .before .judged .ensures) ∙ c .before .before .command .given .1))
 
-part-work-end : tie.Need-part-work-end
-part-work-end c = search needs
+part-serve-end : tie.Need-part-serve-end
+part-serve-end c = search needs
 
-work-requires : tie.Need-work-requires
-work-requires c κs = workable _ _ _ _ _ _ (c .before .before .before .before .before .before .before .before .before .before .before .before .pre) _ (sym (c .before .before .before .before .before .before .before .judged .ensures) ∙ c .before .before .before .before .before .command .given .1)
-
-reply-requires-2 : tie.Need-reply-requires-2
-reply-requires-2 c κs = sendable _ _ _ _ _ _ (c .before .before .before .before .before .before .before .before .before .before .before .before .before .before .before .before .before .before .before .pre) _ (sym (c .before .before .before .before .before .before .before .before .before .before .before .before .before .before .judged .ensures) ∙ c .before .before .before .before .before .before .before .before .before .before .before .before .command .given .1) (c .before .before .before .before .before .before .work .ensures) (search needs)
+serve-requires : tie.Need-serve-requires
+serve-requires c κs = workable _ _ _ _ _ _ (c .before .before .before .before .before .before .before .before .before .before .before .before .pre) _ (sym (c .before .before .before .before .before .before .before .judged .ensures) ∙ c .before .before .before .before .before .command .given .1)
 
 returns : tie.Need-returns
 returns c = too-short _ _ _ _ _ _ (c .before .before .before .own-byte .ensures _) (sym (c .before .before .judged .ensures) ∙ c .enum-told .given .1)
@@ -58,7 +55,7 @@ same-length : tie.Need-same-length
 same-length c = search needs
 
 returns-3 : tie.Need-returns-3
-returns-3 c = faulty _ _ _ _ _ _ (c .before .before .before .before .before .before .before .before .own-byte .ensures _) (sym (c .before .before .before .before .before .before .before .judged .ensures) ∙ c .before .before .before .before .before .code .given .1) (c .before .before .reply .ensures)
+returns-3 c = faulty _ _ _ _ _ _ (c .before .before .before .before .before .before .before .before .own-byte .ensures _) (sym (c .before .before .before .before .before .before .before .judged .ensures) ∙ c .before .before .before .before .before .code .given .1) (c .before .before .refuse .ensures)
 
 same-length-2 : tie.Need-same-length-2
 same-length-2 c = search needs
@@ -67,7 +64,7 @@ same-length-3 : tie.Need-same-length-3
 same-length-3 c = search needs
 
 returns-4 : tie.Need-returns-4
-returns-4 c = requested _ _ _ _ _ _ (c .before .before .before .before .before .before .before .before .before .before .before .before .before .before .before .before .before .before .own-byte .ensures _) (sym (c .before .before .before .before .before .before .before .before .before .before .before .before .before .before .before .before .before .judged .ensures) ∙ c .before .before .before .before .before .before .before .before .before .before .before .before .before .before .before .command .given .1) (c .before .before .before .before .before .before .before .before .before .before .before .before .before .before .before .before .before .before .before .before .before .before .pre .room) (worked-on _ _ _ _ _ _ (c .before .before .before .before .before .before .before .before .before .before .before .before .before .before .before .before .before .before .before .before .before .before .pre) _ (sym (c .before .before .before .before .before .before .before .before .before .before .before .before .before .before .before .before .before .judged .ensures) ∙ c .before .before .before .before .before .before .before .before .before .before .before .before .before .before .before .command .given .1) (c .before .before .before .before .before .before .before .before .before .work .ensures)) (c .before .before .reply2 .ensures)
+returns-4 c = requested _ _ _ _ _ _ (c .before .before .before .before .before .before .before .before .before .before .before .before .before .own-byte .ensures _) (sym (c .before .before .before .before .before .before .before .before .before .before .before .before .judged .ensures) ∙ c .before .before .before .before .before .before .before .before .before .before .command .given .1) (as-served _ _ _ _ _ _ (c .before .before .before .before .before .before .before .before .before .before .before .before .before .before .before .before .before .pre) _ (sym (c .before .before .before .before .before .before .before .before .before .before .before .before .judged .ensures) ∙ c .before .before .before .before .before .before .before .before .before .before .command .given .1) {r = c .before .before .before .before .serve .result} (c .before .before .before .before .serve .ensures))
 
 pub close-spec : {M : Type 1} → statement M
 close-spec =
@@ -78,15 +75,14 @@ close-spec =
     enum-told
     enum-told-2
     enum-known-code
-    reply-requires
+    refuse-requires
     enum-known-command
     cast-end
     sub-end
-    sub-work
-    part-work-start
-    part-work-end
-    work-requires
-    reply-requires-2
+    sub-serve
+    part-serve-start
+    part-serve-end
+    serve-requires
     returns
     returns-2
     same-length

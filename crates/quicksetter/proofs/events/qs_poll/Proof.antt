@@ -1,43 +1,91 @@
 -- `quicksetter::events::qs_poll` meets its contract. Assumes nothing.
-use mathlib.Core.Path.{refl, sym, _∙_}
+use mathlib.Core.Path.{_≡_, sym, _∙_}
+use mathlib.Core.Bool.{true}
 use native.Mathlib.Omega.{arith}
 use denote.Ref.{now}
-use borrow.Author.Tests.{not-true}
+use borrow.Author.Tests.{not-true, not-false}
+use lib.ListN.{length}
+use Rattle.meaning.specs.State.{apart}
+use Rattle.meaning.specs.Run.{poll}
+use Rattle.line.specs.Line.{plateOf}
+use Rattle.commands.specs.Queue.{queueOf}
+use Rattle.image.specs.Image.{stateIn}
 use Rattle.image.proofs.Round.{good}
-use Rattle.quicksetter.specs.Calls.{callOf}
-use Rattle.quicksetter.proofs.Leaving.{left-in-place}
+use Rattle.quicksetter.specs.Calls.{plateFrom, possible, Unrefused}
+use Rattle.quicksetter.proofs.Refusing.{an-image, lends-poll, impossible, unsound, other-size, too-narrow, unrefused}
+use Rattle.quicksetter.proofs.Closing.{nothing-over}
 use borrow.Author.Needs.{needs}
 use Rattle.quicksetter.proofs.events.qs_poll.Statement.{statement}
 use Rattle.quicksetter.proofs.events.qs_poll.Tie as tie
 use Rattle.quicksetter.proofs.events.qs_poll.Reads as reads
 use Rattle.quicksetter.proofs.events.qs_poll.Lts as lts
-use Rattle.quicksetter.proofs.events.event.Reads as event-reads
-use Rattle.quicksetter.proofs.events.is_calm.Reads as is-calm-reads
 use Rattle.quicksetter.proofs.events.is_over.Reads as is-over-reads
+use Rattle.quicksetter.proofs.events.is_possible.Reads as is-possible-reads
+use Rattle.quicksetter.proofs.events.is_sound.Reads as is-sound-reads
+use Rattle.quicksetter.proofs.events.shut.Reads as shut-reads
 
-is-calm-requires : tie.Need-is-calm-requires
-is-calm-requires c κs = search needs
+can : (c : tie.Else1) → let a = c .before .before .before .before .before .before .args in possible (plateOf (plateFrom (a .total) (a .bits) (a .address) (a .ticks) (a .pause))) (now (a .image)) ≡ true
+can c = sym (c .before .is-possible .ensures) ∙ not-false _ (c .if1 .left)
 
-is-over-requires : tie.Need-is-over-requires
-is-over-requires c κs = omega (arith, good _ ((c .before .before .is-calm .ensures (c .before .if1 .taken)) .image) .all)
+sound : (c : tie.Else2) → let a = c .before .before .before .before .before .before .before .before .before .args in apart (queueOf (stateIn (now (a .image)) .faults)) ≡ true
+sound c = sym (c .before .is-sound .ensures) ∙ not-false _ (c .if2 .left)
+
+passed : (c : tie.Else4) → let a = c .before .before .before .before .before .before .before .before .before .before .before .args in Unrefused (plateOf (plateFrom (a .total) (a .bits) (a .address) (a .ticks) (a .pause))) (now (a .image)) (length (now (a .memory))) (length (now (a .room)))
+passed c = let a = c .before .before .before .before .before .before .before .before .before .before .before .args in unrefused _ _ (now (a .memory)) (now (a .room)) (poll 0) (can (c .before .before .before .before .before)) (sound (c .before .before)) (c .before .if3 .left) (c .if4 .left)
+
+is-possible-requires : tie.Need-is-possible-requires
+is-possible-requires c κs = search needs
+
+add-result : tie.Need-add-result
+add-result c = search needs
 
 same-length : tie.Need-same-length
 same-length c = search needs
 
+returns : tie.Need-returns
+returns c = impossible _ _ _ _ _ (sym (c .before .is-possible .ensures) ∙ not-true _ (c .if1 .taken))
+
+is-sound-requires : tie.Need-is-sound-requires
+is-sound-requires c κs = omega (arith, good _ (an-image _ _ (can (c .before))) .all)
+
+add-result-2 : tie.Need-add-result-2
+add-result-2 c = search needs
+
 same-length-2 : tie.Need-same-length-2
 same-length-2 c = search needs
+
+returns-2 : tie.Need-returns-2
+returns-2 c = unsound _ _ _ _ _ (can (c .before .before .before)) (sym (c .before .is-sound .ensures) ∙ not-true _ (c .if2 .taken))
+
+mul-if3 : tie.Need-mul-if3
+mul-if3 c = search needs
+
+add-if3 : tie.Need-add-if3
+add-if3 c = search needs
+
+add-result-3 : tie.Need-add-result-3
+add-result-3 c = search needs
 
 same-length-3 : tie.Need-same-length-3
 same-length-3 c = search needs
 
-returns : tie.Need-returns
-returns c = left-in-place _ (now (c .before .before .before .before .before .before .before .before .before .before .before .args .image)) _ _ _ ((c .before .before .before .before .is-calm .ensures (c .before .before .before .if1 .taken)) .image) (λ i. (c .before .before .before .before .before .before .before .before .before .before .slice-known .given i) .fits) ((c .before .before .before .before .is-calm .ensures (c .before .before .before .if1 .taken)) .within _ _ refl) (sym (c .before .is-over .ensures) ∙ not-true _ (c .if2 .taken))
+returns-3 : tie.Need-returns-3
+returns-3 c = other-size _ _ _ _ _ (can (c .before .before .before .before)) (sound (c .before)) (lends-poll _) (c .if3 .taken)
 
-event-requires : tie.Need-event-requires
-event-requires c κs = search needs
+add-result-4 : tie.Need-add-result-4
+add-result-4 c = search needs
 
 same-length-4 : tie.Need-same-length-4
 same-length-4 c = search needs
+
+returns-4 : tie.Need-returns-4
+returns-4 c = too-narrow _ _ _ _ _ (can (c .before .before .before .before .before)) (sound (c .before .before)) (c .before .if3 .left) (lends-poll _) (c .if4 .taken)
+
+is-over-requires : tie.Need-is-over-requires
+is-over-requires c κs = omega (arith, good _ (an-image _ _ (can (c .before .before .before .before .before .before))) .all)
+
+shut-requires : tie.Need-shut-requires
+shut-requires c κs = passed (c .before .before .before .before .before .before)
 
 same-length-5 : tie.Need-same-length-5
 same-length-5 c = search needs
@@ -45,22 +93,43 @@ same-length-5 c = search needs
 same-length-6 : tie.Need-same-length-6
 same-length-6 c = search needs
 
-returns-2 : tie.Need-returns-2
-unfolding callOf
-returns-2 c = c .before .before .before .before .before .before .event .ensures
+same-length-7 : tie.Need-same-length-7
+same-length-7 c = search needs
+
+returns-5 : tie.Need-returns-5
+returns-5 c = (c .before .before .before .before .before .before .shut .ensures _ (sym (c .before .before .before .before .before .before .before .before .before .before .before .is-over .ensures) ∙ c .before .before .before .before .before .before .before .before .before .before .if5 .taken)) .called
+
+same-length-8 : tie.Need-same-length-8
+same-length-8 c = search needs
+
+returns-6 : tie.Need-returns-6
+returns-6 c = (nothing-over _ (now (c .before .before .before .before .before .before .before .before .before .before .before .before .before .before .args .image)) _ _ (passed (c .before .before .before)) _ (λ i. (c .before .before .before .before .before .before .before .before .before .before .before .before .before .slice-known .given i) .fits) (sym (c .before .is-over .ensures) ∙ c .if5 .left)) .called
 
 pub qs-poll-spec : {M : Type 1} → statement M
 qs-poll-spec =
     tie.close
     (tie.spec
-    is-calm-requires
-    is-over-requires
+    is-possible-requires
+    add-result
     same-length
-    same-length-2
-    same-length-3
     returns
-    event-requires
+    is-sound-requires
+    add-result-2
+    same-length-2
+    returns-2
+    mul-if3
+    add-if3
+    add-result-3
+    same-length-3
+    returns-3
+    add-result-4
     same-length-4
+    returns-4
+    is-over-requires
+    shut-requires
     same-length-5
     same-length-6
-    returns-2)
+    same-length-7
+    returns-5
+    same-length-8
+    returns-6)

@@ -1,0 +1,28 @@
+-- `board::closing::ask` meets its contract. Assumes nothing.
+use Rattle.board.proofs.Dispatch.{as-worked}
+use Rattle.board.proofs.Endings.{served, sendable}
+use borrow.Author.Needs.{needs}
+use Rattle.board.proofs.closing.ask.Statement.{statement}
+use Rattle.board.proofs.closing.ask.Tie as tie
+use Rattle.board.proofs.closing.ask.Reads as reads
+use Rattle.board.proofs.closing.ask.Lts as lts
+use Rattle.board.proofs.reply.reply.Reads as reply-reads
+use Rattle.board.proofs.rows.tell.Reads as tell-reads
+
+tell-requires : tie.Need-tell-requires
+tell-requires c κs = search needs
+
+reply-requires : tie.Need-reply-requires
+reply-requires c κs = sendable _ _ _ _ _ _ (c .before .before .before .before .before .before .before .before .before .before .before .pre .0) (c .before .before .before .before .before .tell .ensures .works .answer) (search needs)
+
+same-length : tie.Need-same-length
+same-length c = search needs
+
+same-length-2 : tie.Need-same-length-2
+same-length-2 c = search needs
+
+returns : tie.Need-returns
+returns c = served _ _ _ _ _ _ (c .before .before .before .before .before .before .before .before .before .before .before .before .before .before .pre .0 .room) (as-worked _ _ _ _ (c .before .before .before .before .before .before .before .before .tell .ensures)) (c .before .before .reply .ensures)
+
+pub ask-spec : {M : Type 1} → statement M
+ask-spec = tie.close (tie.spec tell-requires reply-requires same-length same-length-2 returns)

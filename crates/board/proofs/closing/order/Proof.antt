@@ -1,0 +1,28 @@
+-- `board::closing::order` meets its contract. Assumes nothing.
+use mathlib.Core.Path.{refl}
+use denote.Ref.{now}
+use Rattle.line.specs.Line.{plateOf}
+use Rattle.board.proofs.Dispatch.{changeable}
+use Rattle.board.proofs.Endings.{served, sendable}
+use borrow.Author.Needs.{needs}
+use Rattle.board.proofs.closing.order.Statement.{statement}
+use Rattle.board.proofs.closing.order.Tie as tie
+use Rattle.board.proofs.closing.order.Reads as reads
+use Rattle.board.proofs.closing.order.Lts as lts
+use Rattle.board.proofs.reply.reply.Reads as reply-reads
+use Rattle.board.proofs.rows.change.Reads as change-reads
+
+change-requires : tie.Need-change-requires
+change-requires c κs = changeable _ _ _ _ _ (c .before .before .before .before .pre .0) (c .before .before .before .before .pre .1)
+
+reply-requires : tie.Need-reply-requires
+reply-requires c κs = sendable _ _ _ _ _ _ (c .before .before .before .before .before .before .before .before .before .pre .0) (c .before .before .before .before .change .ensures (plateOf (c .before .before .before .before .before .before .before .before .before .args .plate)) (now (c .before .before .before .before .before .before .before .before .before .args .memory)) refl .row .answer) (search needs)
+
+same-length : tie.Need-same-length
+same-length c = search needs
+
+returns : tie.Need-returns
+returns c = served _ _ _ _ _ _ (c .before .before .before .before .before .before .before .before .before .before .before .before .pre .0 .room) (c .before .before .before .before .before .before .before .change .ensures (plateOf (c .before .before .before .before .before .before .before .before .before .before .before .before .args .plate)) (now (c .before .before .before .before .before .before .before .before .before .before .before .before .args .memory)) refl) (c .before .before .reply .ensures)
+
+pub order-spec : {M : Type 1} → statement M
+order-spec = tie.close (tie.spec change-requires reply-requires same-length returns)

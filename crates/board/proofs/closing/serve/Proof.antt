@@ -1,0 +1,51 @@
+-- `board::closing::serve` meets its contract. Assumes nothing.
+use mathlib.Core.Path.{sym, _∙_}
+use borrow.Author.Needs.{needs}
+use Rattle.board.proofs.closing.serve.Statement.{statement}
+use Rattle.board.proofs.closing.serve.Tie as tie
+use Rattle.board.proofs.closing.serve.Reads as reads
+use Rattle.board.proofs.closing.serve.Lts as lts
+use Rattle.board.proofs.closing.ask.Reads as ask-reads
+use Rattle.board.proofs.closing.order.Reads as order-reads
+use Rattle.board.proofs.rows.leaves_state.Reads as leaves-state-reads
+
+leaves-state-requires : tie.Need-leaves-state-requires
+leaves-state-requires c κs = search needs
+
+ask-requires : tie.Need-ask-requires
+ask-requires c κs = (c .before .before .before .before .before .before .before .pre, sym (c .before .before .before .leaves-state .ensures) ∙ c .before .before .if1 .taken)
+
+same-length : tie.Need-same-length
+same-length c = search needs
+
+same-length-2 : tie.Need-same-length-2
+same-length-2 c = search needs
+
+returns : tie.Need-returns
+returns c = search needs
+
+order-requires : tie.Need-order-requires
+order-requires c κs = (c .before .before .before .before .before .before .before .pre, sym (c .before .before .before .leaves-state .ensures) ∙ c .before .before .if1 .left)
+
+same-length-3 : tie.Need-same-length-3
+same-length-3 c = search needs
+
+same-length-4 : tie.Need-same-length-4
+same-length-4 c = search needs
+
+returns-2 : tie.Need-returns-2
+returns-2 c = search needs
+
+pub serve-spec : {M : Type 1} → statement M
+serve-spec =
+    tie.close
+    (tie.spec
+    leaves-state-requires
+    ask-requires
+    same-length
+    same-length-2
+    returns
+    order-requires
+    same-length-3
+    same-length-4
+    returns-2)
