@@ -79,6 +79,12 @@ pub reset-values : (reset eight (withLock (withQueue new (0x1E ∷ [])) true) []
 unfolding reset poweredOn fresh withQueue withLock withLine
 reset-values = (refl, refl)
 
+-- power-on empties the queue, unlocks and drops the frame; codes, counter, offset and measured position stay
+pub power-on-values : poweredOn (withLine full (record { begun = true; kept = 9 ∷ []; sum = 9; longer = true; parity = true; last = 9 }))
+    ≡ record { codes = 1 ∷ 2 ∷ 3 ∷ 4 ∷ []; counter = 5; offset = 6; measured = 7; queue = []; locked = false; line = none }
+unfolding poweredOn withQueue withLock withLine
+power-on-values = refl
+
 pub warned-values : (warned 0x50 (0x1E ∷ []) ≡ 0xD0) × (warned 0x50 [] ≡ 0x50)
 unfolding warned
 warned-values = (refl, refl)
