@@ -8,3 +8,4 @@ mod Judging
 pub mod Tight
 pub mod Theorems
 pub mod Staying
+pub mod Running

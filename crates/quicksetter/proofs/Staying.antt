@@ -38,22 +38,22 @@ image-of-state s places e h =
     rw (n, flag-small (s .locked), flag-small (s .line .begun), flag-small (s .line .longer), flag-small (s .line .parity), le-leb (length (s .line .kept)) 135 h)
 
 -- plate, image, state and memory are within their limits
-record Holds (p : Plate) (img m : List ℕ) : Type 0 where
-  plate : plateOk p ≡ true
-  image : isImage img ≡ true
-  state : stateOk p (heldIn img) ≡ true
-  size : length m ≡ imageLength (p .total)
+pub record Holds (p : Plate) (img m : List ℕ) : Type 0 where
+  pub plate : plateOk p ≡ true
+  pub image : isImage img ≡ true
+  pub state : stateOk p (heldIn img) ≡ true
+  pub size : length m ≡ imageLength (p .total)
 
-unrefused : (p : Plate) (img m : List ℕ) (n : ℕ) (g : Call) → Holds p img m → 134 ≤ n → refusedBy p (heldIn img) m n g ≡ 0
+pub unrefused : (p : Plate) (img m : List ℕ) (n : ℕ) (g : Call) → Holds p img m → 134 ≤ n → refusedBy p (heldIn img) m n g ≡ 0
 unfolding refusedBy
 unrefused p img m n g h wide = rw (h .plate, h .state, eq-eqb (length m) (imageLength (p .total)) (h .size), le-ltb n 134 wide) (pick-same (lends g) 0)
 
 -- a fresh image
-was-fresh : (b : Bool) → _≡_ {A = ℕ} 0 (pick b 0 257) → b ≡ true
+pub was-fresh : (b : Bool) → _≡_ {A = ℕ} 0 (pick b 0 257) → b ≡ true
 was-fresh true e = refl
 was-fresh false e = absurd (false≢true (ap (λ (n : ℕ). eqb n 257) e))
 
-starts : (p : Plate) (old img m : List ℕ) → Freshens p old 0 img → length m ≡ imageLength (p .total) → Holds p img m
+pub starts : (p : Plate) (old img m : List ℕ) → Freshens p old 0 img → length m ≡ imageLength (p .total) → Holds p img m
 unfolding freshOk fresh none
 starts p old img m f l =
     let k : freshOk p old ≡ true = was-fresh (freshOk p old) (f .answer) in
@@ -66,7 +66,7 @@ starts p old img m f l =
     }
 
 -- a call that is not refused leaves an image within the limits
-goes-on : (p : Plate) (img m w : List ℕ) (g : Call) (r : ℕ) (img′ m′ w′ : List ℕ) → Holds p img m → 134 ≤ length w → Called p img m w g r img′ m′ w′ → Holds p img′ m′
+pub goes-on : (p : Plate) (img m w : List ℕ) (g : Call) (r : ℕ) (img′ m′ w′ : List ℕ) → Holds p img m → 134 ≤ length w → Called p img m w g r img′ m′ w′ → Holds p img′ m′
 unfolding imageAfter
 goes-on p img m w g r img′ m′ w′ h wide c =
     let free : T (eqb (refusedBy p (heldIn img) m (length w) g) 0) = rw (unrefused p img m (length w) g h wide) tt in

@@ -2,12 +2,14 @@
 use Prim.Native.Nat.{ℕ, _+_, _≤_}
 use mathlib.Core.Path.{_≡_}
 use mathlib.Core.Bool.{true, false, not}
-use mathlib.Core.List.{List}
+use mathlib.Core.List.{List, [], _∷_}
 use lib.Dec.{T, eqb}
-use lib.ListN.{length}
+use lib.ListN.{length, take}
+use Rattle.meaning.specs.Bytes.{zeros}
 use Rattle.meaning.specs.State.{Plate}
 use Rattle.meaning.specs.Fields.{imageLength}
-use Rattle.meaning.specs.Run.{Call, refusedBy}
+use Rattle.meaning.specs.Run.{Call, refusedBy, run, traffic}
+use Rattle.meaning.specs.Ledger.{Agrees}
 use Rattle.meaning.specs.Demands.{Served}
 use Rattle.image.specs.Image.{isImage, heldIn}
 use Rattle.quicksetter.specs.Calls.{Called, Freshens}
@@ -44,3 +46,22 @@ pub data Reached (p : Plate) : List ℕ → List ℕ → Type 0 where
 -- Demand 1: no such call is ever refused: what comes back is the length of a reply
 abbrev pub NeverRefused : Type 0
 NeverRefused = (p : Plate) (img m w : List ℕ) (g : Call) (r : ℕ) (img′ m′ w′ : List ℕ) → Reached p img m → 134 ≤ length w → Called p img m w g r img′ m′ w′ → r ≤ 134
+
+-- Demand 3: a host that starts with a fresh image and blank memory, and then only calls, with room enough: its calls, newest first; image, memory and last reply
+pub data Ran (p : Plate) : List Call → List ℕ → List ℕ → List ℕ → Type 0 where
+  began : (old img : List ℕ) → Freshens p old 0 img → Ran p [] img (zeros (imageLength (p .total))) []
+  called : (gs : List Call) (img m x w : List ℕ) (g : Call) (r : ℕ) (img′ m′ w′ : List ℕ) → Ran p gs img m x → 134 ≤ length w → Called p img m w g r img′ m′ w′
+      → Ran p (g ∷ gs) img′ m′ (take r w′)
+
+-- what it holds and hears is the meaning's run
+pub record AsRun (p : Plate) (gs : List Call) (img m x : List ℕ) : Type 0 where
+  pub state : heldIn img ≡ (run p gs) .state
+  pub memory : m ≡ (run p gs) .memory
+  pub reply : x ≡ (run p gs) .reply
+
+abbrev pub QsRuns : Type 0
+QsRuns = (p : Plate) (gs : List Call) (img m x : List ℕ) → Ran p gs img m x → AsRun p gs img m x
+
+-- so memory, free blocks, field bytes and codes are what the traffic says
+abbrev pub QsMemoryByTraffic : Type 0
+QsMemoryByTraffic = (p : Plate) (gs : List Call) (img m x : List ℕ) → Ran p gs img m x → Agrees p (heldIn img) m (traffic p gs)
