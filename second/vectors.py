@@ -51,7 +51,7 @@ alike (x ∷ xs) [] = false
 alike (x ∷ xs) (y ∷ ys) = both (same x y) (alike xs ys)
 
 unfoldable prints : Plate → List Call → List (List ℕ) → Bool
-prints p gs ls = alike (lines p (fresh p) (zeros (imageLength (p .total))) gs) ls
+prints p gs ls = alike (lines p (fresh p) (zeros (memoryLength (p .total))) gs) ls
 """
 
 OWN = ["spoke", "lines", "alike", "prints"]

@@ -9,12 +9,12 @@ use denote.Enum.Declared.{tagOf}
 use Rattle.tape.specs.Text.{firstLine}
 use Rattle.tape.specs.Reader.{Printed}
 use Rattle.tape.proofs.Texts.{same-room}
-use Rattle.answers.specs.declared.session.Phase.{Phase}
-use Rattle.answers.specs.declared.session.Phase.the-variants.{Ended}
-use Rattle.answers.specs.declared.session.Session.{Session}
-use Rattle.answers.specs.declared.passes.Eaten.{Eaten}
-use Rattle.answers.specs.Sessions.{largestImage, Starts, Ready, Eats}
-use Rattle.answers.proofs.session.Phase.{the-type}
+use Rattle.passes.specs.declared.session.Phase.{Phase}
+use Rattle.passes.specs.declared.session.Phase.the-variants.{Ended}
+use Rattle.passes.specs.declared.session.Session.{Session}
+use Rattle.passes.specs.declared.passes.Eaten.{Eaten}
+use Rattle.passes.specs.Sessions.{largestImage, Starts, Ready, Eats}
+use Rattle.passes.proofs.session.Phase.{the-type}
 use Rattle.answer.specs.Program.{Leaves, Buffers}
 
 pub not-ended : (f : Phase) → OneOf (0 ∷ 1 ∷ []) (tagOf the-type f) → f ≡ Ended → ⊥

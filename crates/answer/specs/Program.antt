@@ -4,8 +4,8 @@ use mathlib.Core.Path.{_≡_}
 use mathlib.Core.List.{List, []}
 use lib.ListN.{length, take}
 use Rattle.meaning.specs.Bytes.{zeros}
-use Rattle.answers.specs.declared.session.Phase.the-variants.{Ended}
-use Rattle.answers.specs.Sessions.{largestImage, Ready}
+use Rattle.passes.specs.declared.session.Phase.the-variants.{Ended}
+use Rattle.passes.specs.Sessions.{largestImage, Ready}
 use Rattle.answer.specs.declared.Fed.{Fed}
 
 -- bytes that were read stand behind those that the window had

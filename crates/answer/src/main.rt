@@ -1,18 +1,18 @@
 // The answer program: reads a tape on standard input and prints the replies (01, "The answer program"). The bytes at hand lie in a window of
 // 65,536 bytes and the lines are gathered in a room of as many, so a tape may have any length. What is printed of a window is proved in the
-// crate `answers`; what is read and written is tested.
+// crate `passes`; what is read and written is tested.
 ghost use mathlib.Core.Path.{_≡_};
 ghost use mathlib.Core.List.{[]};
 ghost use Prim.Native.Nat.{_+_, _-_, _≤_, _<_};
 ghost use lib.ListN.{length};
 ghost use Rattle.meaning.specs.Bytes.{part, put};
 ghost use Rattle.answer.specs.Program.{Refills, Leaves, Buffers};
-ghost use Rattle.answers.specs.Sessions.{Ready};
-use answers::Phase;
-use answers::Session;
-use answers::Stop;
+ghost use Rattle.passes.specs.Sessions.{Ready};
 use libc::STDIN_FILENO;
 use libc::STDOUT_FILENO;
+use passes::Phase;
+use passes::Session;
+use passes::Stop;
 
 // What a window came to: where the tape stands, how far the window was read, how much of the room is used.
 struct Fed {
@@ -56,7 +56,7 @@ fn feed(
         if 9223372036854775808 <= session.place {
             return Fed { session, at, used };
         }
-        let eaten = answers::eat(session, &window[at..], kept, memory, reply, out, used);
+        let eaten = passes::eat(session, &window[at..], kept, memory, reply, out, used);
         session = eaten.session;
         at += eaten.read;
         used = eaten.used;
@@ -97,11 +97,11 @@ fn end(session: Session, rest: &[u8], out: &mut [u8], used: usize)
 {
     if out.len() - used < 25 {
         flush(out, used);
-        let last = answers::finish(session, rest, out, 0);
+        let last = passes::finish(session, rest, out, 0);
         flush(out, last);
         return;
     }
-    let last = answers::finish(session, rest, out, used);
+    let last = passes::finish(session, rest, out, used);
     flush(out, last);
 }
 

@@ -17,8 +17,8 @@ use Rattle.meaning.specs.Frames.{commandByte, dataOf}
 use Rattle.meaning.specs.Bench.{inRange, allowed, addressOk, addressFor, request, writes, written, judge, fromAsked, bare, refusal, done, failed, bad, branch, warning, errorReply, rightLength, repeated, content}
 use Rattle.meaning.proofs.Steps.{Named, named}
 use Rattle.meaning.proofs.Wire.{length-sealed, writes-well}
-use Rattle.frame.specs.Table.{lengthOf, rowOf}
-use Rattle.frame.specs.declared.table.Row.{Row}
+use Rattle.wire.specs.Table.{lengthOf, rowOf}
+use Rattle.wire.specs.declared.table.Row.{Row}
 use Rattle.bench.specs.Outcomes.{writtenOf}
 use Rattle.bench.specs.declared.request.Written.the-variants.{Request, R4, R5}
 use Rattle.meaning.proofs.Choices.{both-left, both-false}

@@ -5,7 +5,7 @@ use Prim.Native.Nat.{ℕ}
 use lib.Dec.{eqb}
 use Rattle.meaning.specs.Bytes.{pick}
 use Rattle.meaning.specs.Bench as meaning
-use Rattle.frame.proofs.Tight.{one-outcome}
+use Rattle.wire.proofs.Tight.{one-outcome}
 use Rattle.bench.specs.Outcomes.{writtenOf, numberOf, verdictOf, withoutData}
 use Rattle.bench.specs.declared.request.Written.{Written}
 use Rattle.bench.specs.declared.request.Written.the-variants.{Request, R4, R5}

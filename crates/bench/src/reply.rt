@@ -61,7 +61,7 @@ fn is_written(request: &[u8]) -> bool
     if request.len() < 3 {
         return false;
     }
-    if frame::xor_of(request) != 0 {
+    if wire::xor_of(request) != 0 {
         return false;
     }
     if !is_address(request[0]) {
@@ -120,11 +120,11 @@ fn done_verdict(request: &[u8], reply: &[u8]) -> Verdict
     requires { ⌜ Ordinary (now request) (now reply) ⌝ }
     ensures { λ r. ⌜ verdictOf r ≡ withoutData (content (now (request .entry)) (now (reply .entry))) ⌝ }
 {
-    let row = frame::row_of(request[1]);
+    let row = wire::row_of(request[1]);
     let wanted = row.reply;
     let asked = data_part(request);
     let answered = data_part(reply);
-    if !frame::length_fits(wanted, byte_at(asked, 2), answered.len()) {
+    if !wire::length_fits(wanted, byte_at(asked, 2), answered.len()) {
         return Verdict::Refused(Refusal::B5);
     }
     if !same(first(answered, row.repeats), first(asked, row.repeats)) {
@@ -146,7 +146,7 @@ pub fn judge(request: &[u8], reply: &[u8]) -> Verdict
     if reply.len() < 3 {
         return Verdict::Refused(Refusal::B1);
     }
-    if frame::xor_of(reply) != 0 {
+    if wire::xor_of(reply) != 0 {
         return Verdict::Refused(Refusal::B2);
     }
     if !from_asked(request[0], reply[0]) {

@@ -37,10 +37,10 @@ fn address_byte(address: u32) -> u8
 pub fn is_allowed(command: u8, body: &[u8]) -> bool
     ensures { λ r. ⌜ r ≡ allowed (commandOf command) (now (body .entry)) ⌝ }
 {
-    let row = frame::row_of(command);
+    let row = wire::row_of(command);
     let wanted = row.request;
     let count = byte_at(body, 2);
-    if !frame::length_fits(wanted, count, body.len()) {
+    if !wire::length_fits(wanted, count, body.len()) {
         return false;
     }
     if command == 0x4A {
@@ -65,7 +65,7 @@ pub fn write_request(address: u32, command: u8, body: &[u8], room: &mut [u8]) ->
     if !is_allowed(command, body) {
         return Written::R5;
     }
-    frame::write(address_byte(address), command, body, room);
+    wire::write(address_byte(address), command, body, room);
     Written::Request {
         len: body.len() + 3,
     }

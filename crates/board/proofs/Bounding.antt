@@ -9,7 +9,7 @@ use lib.Dec.{eqb, leb, ltb}
 use lib.ListN.{length, take, length-take}
 use Rattle.meaning.specs.Bytes.{pick, both, either}
 use Rattle.meaning.specs.State.{Plate, plateOk, stateOk}
-use Rattle.meaning.specs.Fields.{imageLength}
+use Rattle.meaning.specs.Fields.{memoryLength}
 use Rattle.meaning.specs.Run.{Call, poll, refusedBy, lends}
 use Rattle.line.specs.declared.plate.Plate as line
 use Rattle.line.specs.Line.{plateOf}
@@ -67,11 +67,11 @@ module _ (p : Plate) (b : Board) (k : List ℕ) where
 
   -- of one that lends: R1 to R3 in that order, by what the tests told
   pub in-order : (m : List ℕ) (r : ℕ) (g : Call) {w x s t : Bool} {kept memory : ℕ} → (length k ≡ 135 → w ≡ within p b k) → length k ≡ kept → length m ≡ memory → lends g ≡ true
-      → w && eqb kept 135 ≡ x → eqb memory (imageLength (p .total)) ≡ s → ltb r 134 ≡ t → pick x (pick s (pick t 3 0) 2) 1 ≡ refusalOn p b k m r g
+      → w && eqb kept 135 ≡ x → eqb memory (memoryLength (p .total)) ≡ s → ltb r 134 ≡ t → pick x (pick s (pick t 3 0) 2) 1 ≡ refusalOn p b k m r g
   unfolding refusalOn refusedBy
   in-order m r g {w} h e f l i j o =
       rw (l, ← i, ← j, ← o, ← e, ← f)
-      (sym (limit-told _ h ∙ ap (λ (n : ℕ). pick (w && eqb (length k) 135) n 1) (other-way (eqb (length m) (imageLength (p .total))) _)))
+      (sym (limit-told _ h ∙ ap (λ (n : ℕ). pick (w && eqb (length k) 135) n 1) (other-way (eqb (length m) (memoryLength (p .total))) _)))
 
 pub few-kept : (p : Plate) (b : Board) (k : List ℕ) → within p b k ≡ true → b .frame .len ≤ 135
 unfolding within
@@ -96,7 +96,7 @@ passed true true true true true true e = absurd (omega arith)
 passed true true true true true false e = record { few = refl; all = refl; plate = refl; state = refl; size = refl; wide = refl }
 
 module _ (p : Plate) (b : Board) (k m : List ℕ) (r : ℕ) (g : Call) (l : lends g ≡ true) (e : refusalOn p b k m r g ≡ 0) where
-  pub facts : Passed (leb (b .frame .len) 135) (eqb (length k) 135) (plateOk p) (stateOk p (stateOf b k)) (eqb (length m) (imageLength (p .total))) (ltb r 134)
+  pub facts : Passed (leb (b .frame .len) 135) (eqb (length k) 135) (plateOk p) (stateOk p (stateOf b k)) (eqb (length m) (memoryLength (p .total))) (ltb r 134)
   unfolding refusalOn refusedBy fitsIn
   facts = passed _ _ _ _ _ _ (rw l at e)
 
@@ -113,6 +113,6 @@ ready p b k m w g l e =
       plate = f .plate;
       counter = counts (plateOf p) b k m (length w) g l e;
       fits = record { few = leb-true (b .frame .len) 135 (f .few); all = eqb-true (length k) 135 (f .all) };
-      size = eqb-true (length m) (imageLength (p .total)) (f .size);
+      size = eqb-true (length m) (memoryLength (p .total)) (f .size);
       room = ltb-false (length w) 134 (f .wide);
     }

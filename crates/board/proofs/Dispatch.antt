@@ -13,17 +13,17 @@ use Rattle.meaning.specs.State.{none}
 use Rattle.meaning.specs.Commands as commands
 use Rattle.meaning.specs.Commands.{Command, c43, c49, c4A, c4B, c4C, c4D, c4F, c53, unknown, commandOf, asked, row, lengthFits, error, choose, onField, readPosition, setPosition, readCounter, stepCounter, clearCounter, readField, storeField, fieldStatus, create, modify, delete, shapeField, memoryStatus, setCode, readFault, reset, worked}
 use Rattle.meaning.proofs.Choices.{both-left, both-right}
-use Rattle.frame.specs.declared.answer.Answer.{Answer}
-use Rattle.frame.specs.Answers.{memoryAfter, stateAfter, Works}
+use Rattle.wire.specs.declared.answer.Answer.{Answer}
+use Rattle.wire.specs.Answers.{memoryAfter, stateAfter, Works}
 use Rattle.fields.specs.Memory.{Lent}
 use Rattle.fields.specs.Replies.{Asked}
 use Rattle.line.specs.declared.plate.Plate.{Plate}
 use Rattle.line.specs.Line.{plateOf}
 use Rattle.line.proofs.Limits.{total-fits, few-bits}
-use Rattle.commands.specs.declared.state.State.{State}
-use Rattle.commands.specs.declared.rows.Worked.{Worked}
-use Rattle.commands.specs.State.{stateWith}
-use Rattle.commands.specs.Rows.{Answers}
+use Rattle.state.specs.declared.state.State.{State}
+use Rattle.state.specs.declared.rows.Worked.{Worked}
+use Rattle.state.specs.State.{stateWith}
+use Rattle.state.specs.Rows.{Answers}
 use Rattle.board.specs.Work.{Workable, Changeable, WorksOn, leavesState, Tells}
 use Rattle.board.proofs.Endings.{unknown-never}
 

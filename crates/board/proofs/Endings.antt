@@ -17,24 +17,24 @@ use Rattle.meaning.specs.Characters.{closed}
 use Rattle.meaning.specs.Frames.{commandByte, dataOf, message, warned, still, outcome, leaves, work}
 use Rattle.meaning.proofs.Puts.{length-put}
 use Rattle.meaning.proofs.Limits as limits
-use Rattle.frame.specs.declared.answer.Answer.{Answer}
-use Rattle.frame.specs.declared.answer.Answer.the-variants.{Refuse, Accept, Quiet}
-use Rattle.frame.specs.Answers.{told, dataIn, memoryAfter, stateAfter}
-use Rattle.frame.proofs.Laws.{seal-data}
+use Rattle.wire.specs.declared.answer.Answer.{Answer}
+use Rattle.wire.specs.declared.answer.Answer.the-variants.{Refuse, Accept, Quiet}
+use Rattle.wire.specs.Answers.{told, dataIn, memoryAfter, stateAfter}
+use Rattle.wire.proofs.Laws.{seal-data}
 use Rattle.line.specs.declared.plate.Plate.{Plate}
-use Rattle.line.specs.declared.characters.Frame.{Frame}
+use Rattle.line.specs.declared.characters.OpenFrame.{OpenFrame}
 use Rattle.line.specs.declared.judge.Judgement.{Judgement}
 use Rattle.line.specs.declared.judge.Judgement.the-variants.{Short, Elsewhere, Fault, Request}
 use Rattle.line.specs.Line.{plateOf, lineOf}
 use Rattle.line.specs.Judge.{judgementOf, endingBy}
 use Rattle.line.proofs.Judging.{ends-as-judged, request-fits}
 use Rattle.line.proofs.Limits.{low-address}
-use Rattle.commands.specs.declared.state.State.{State}
-use Rattle.commands.specs.declared.rows.Worked.{Worked}
+use Rattle.state.specs.declared.state.State.{State}
+use Rattle.state.specs.declared.rows.Worked.{Worked}
 use Rattle.board.specs.declared.closing.Closed.{Closed}
-use Rattle.commands.specs.State.{stateWith}
-use Rattle.commands.proofs.Answering.{put-nothing}
-use Rattle.commands.proofs.Same.{same-state}
+use Rattle.state.specs.State.{stateWith}
+use Rattle.state.proofs.Answering.{put-nothing}
+use Rattle.state.proofs.Same.{same-state}
 use Rattle.board.specs.Work.{Ready, Workable, WorksOn, replyOf, Brief, Sendable, Sends, Serves, Closes}
 use Rattle.board.proofs.Sending.{part-length, sealed-length}
 
@@ -137,7 +137,7 @@ left p s c m w (commands.quiet s′ m″) t x {n} {m′} {v} {w′} few wide i j
     let y : Sends p t c Quiet w n w′ = rw (i, l) at h in
     record { state = j; sent = y .count; memory = k; room = y .bytes }
 
-module _ (p : meaning.Plate) (s : State) (f : Frame) (k m w : List ℕ) {own : ℕ} (o : own ≡ ownByte p (stateWith s none)) where
+module _ (p : meaning.Plate) (s : State) (f : OpenFrame) (k m w : List ℕ) {own : ℕ} (o : own ≡ ownByte p (stateWith s none)) where
   worked-as : {j : Judgement} → judgementOf own (closed (lineOf f k)) ≡ j
       → work p (stateWith s none) m (closed (lineOf f k))
       ≡ leaves p (stateWith s none) m (commandByte (take (f .len) k)) (endingBy p (stateWith s none) m (closed (lineOf f k)) j)
@@ -206,7 +206,7 @@ pub sends-tight : (p : meaning.Plate) (s : State) (c : ℕ) (a : Answer) (w : Li
 sends-tight p s c a w x y = (x .count ∙ sym (y .count), x .bytes ∙ sym (y .bytes))
 
 -- what `serve` and `reply` ask, from what `close` asks
-module _ (p : Plate) (s : State) (f : Frame) (k m w : List ℕ) (h : Ready p s f k m w) where
+module _ (p : Plate) (s : State) (f : OpenFrame) (k m w : List ℕ) (h : Ready p s f k m w) where
   within : f .len ≤ length k
   within = omega (arith, h .fits .few, h .fits .all)
 

@@ -11,17 +11,17 @@ use lib.ListN.{length, take, length-take, length-replicate}
 use Rattle.meaning.specs.Bytes.{pick, put, both, zeros}
 use Rattle.meaning.specs.State as meaning
 use Rattle.meaning.specs.State.{Plate, Line, stateOk, fresh}
-use Rattle.meaning.specs.Fields.{imageLength}
+use Rattle.meaning.specs.Fields.{memoryLength}
 use Rattle.meaning.specs.Run as run
 use Rattle.meaning.specs.Run.{Call, Held, step, called, refusedBy, lends}
 use Rattle.meaning.proofs.Puts.{length-put}
 use Rattle.meaning.proofs.Limits.{keeps-limits, fresh-within}
 use Rattle.meaning.proofs.Sizes.{keeps-size}
-use Rattle.line.specs.declared.characters.Frame.{Frame}
+use Rattle.line.specs.declared.characters.OpenFrame.{OpenFrame}
 use Rattle.line.specs.Line.{lineOf}
 use Rattle.line.proofs.Tight.{same-line-same-frame, put-long}
-use Rattle.commands.specs.declared.state.State.{State}
-use Rattle.commands.proofs.Same.{same-state}
+use Rattle.state.specs.declared.state.State.{State}
+use Rattle.state.proofs.Same.{same-state}
 use Rattle.board.specs.declared.limits.Board.{Board}
 use Rattle.board.specs.declared.limits.Outcome as code
 use Rattle.board.specs.declared.limits.Stepped.{Stepped}
@@ -60,7 +60,7 @@ module _ (p : Plate) (b : Board) (k m w : List ℕ) {r : Stepped} {k′ m′ w�
 pub unrefused : (p : Plate) (b : Board) (k m : List ℕ) (n : ℕ) (g : Call) → Within p b k m → 134 ≤ n → refusalOn p b k m n g ≡ 0
 unfolding refusalOn refusedBy fitsIn
 unrefused p b k m n g h wide =
-    rw (le-leb (b .frame .len) 135 (h .few), eq-eqb (length k) 135 (h .places), h .plate, h .state, eq-eqb (length m) (imageLength (p .total)) (h .size), le-ltb n 134 wide)
+    rw (le-leb (b .frame .len) 135 (h .few), eq-eqb (length k) 135 (h .places), h .plate, h .state, eq-eqb (length m) (memoryLength (p .total)) (h .size), le-ltb n 134 wide)
     (pick-same (lends g) 0)
 
 -- and an unrefused call stays within
@@ -91,7 +91,7 @@ reached-within p (next b k m w g r k′ m′ w′ h wide s) = stays-within p b k
 pub never-refused : (p : Plate) (b : Board) (k m : List ℕ) (n : ℕ) (g : Call) → Reached p b k m → 134 ≤ n → refusalOn p b k m n g ≡ 0
 never-refused p b k m n g h wide = unrefused p b k m n g (reached-within p h) wide
 
-boards : {s t : State} {f g : Frame} → s ≡ t → f ≡ g → _≡_ {A = Board} (record { state = s; frame = f }) (record { state = t; frame = g })
+boards : {s t : State} {f g : OpenFrame} → s ≡ t → f ≡ g → _≡_ {A = Board} (record { state = s; frame = f }) (record { state = t; frame = g })
 boards i j = rw (i, j)
 
 -- the meaning's state says which board it is

@@ -8,12 +8,12 @@ use Rattle.meaning.specs.Bytes.{put, part}
 use Rattle.meaning.specs.State as meaning
 use Rattle.meaning.specs.State.{none, ownByte}
 use Rattle.meaning.specs.Frames.{sealed, message, warned}
-use Rattle.frame.specs.declared.answer.Answer.{Answer}
-use Rattle.frame.specs.declared.answer.Answer.the-variants.{Refuse, Accept, Quiet}
-use Rattle.commands.specs.declared.state.State.{State}
-use Rattle.commands.specs.Queue.{queueOf}
-use Rattle.commands.specs.State.{stateWith}
-use Rattle.commands.proofs.Answering.{put-nothing}
+use Rattle.wire.specs.declared.answer.Answer.{Answer}
+use Rattle.wire.specs.declared.answer.Answer.the-variants.{Refuse, Accept, Quiet}
+use Rattle.state.specs.declared.state.State.{State}
+use Rattle.state.specs.Queue.{queueOf}
+use Rattle.state.specs.State.{stateWith}
+use Rattle.state.proofs.Answering.{put-nothing}
 use Rattle.board.specs.Work.{replyOf, Brief, Sends}
 
 pub sealed-length : (a c : ℕ) (d : List ℕ) → length (sealed (a ∷ c ∷ d)) ≡ length d + 3

@@ -20,12 +20,12 @@ use Rattle.meaning.specs.Frames.{Outcome, work, resting, still, upTo}
 use Rattle.meaning.specs.Frames as frames
 use Rattle.meaning.specs.Run as run
 use Rattle.meaning.specs.Run.{Call, Held, step, called, closes, lends, refusedBy}
-use Rattle.line.specs.declared.characters.Frame.{Frame}
+use Rattle.line.specs.declared.characters.OpenFrame.{OpenFrame}
 use Rattle.line.specs.Line.{lineOf, noFrame, Fits, Extends}
-use Rattle.commands.specs.declared.state.State.{State}
-use Rattle.commands.specs.State.{stateWith}
+use Rattle.state.specs.declared.state.State.{State}
+use Rattle.state.specs.State.{stateWith}
 use Rattle.meaning.proofs.Rests.{work-rests}
-use Rattle.commands.proofs.Answering.{put-nothing}
+use Rattle.state.proofs.Answering.{put-nothing}
 use Rattle.board.specs.declared.limits.Board.{Board}
 use Rattle.board.specs.declared.limits.Outcome as code
 use Rattle.board.proofs.limits.Outcome.{the-type}
@@ -146,14 +146,14 @@ module _ (p : Plate) (b : Board) (k m w : List ℕ) (t : ℕ) where
   closed-now o = rw o
 
   module _ {r : Stepped} where
-    pub poll-still : {s : State} {f : Frame} → refusalOn p b k m (length w) (run.poll t) ≡ 0 → r ≡ (record { board = record { state = s; frame = f }; outcome = Still })
+    pub poll-still : {s : State} {f : OpenFrame} → refusalOn p b k m (length w) (run.poll t) ≡ 0 → r ≡ (record { board = record { state = s; frame = f }; outcome = Still })
         → b ≡ (record { state = s; frame = f }) → over p (stateOf b k) t ≡ false → f .len ≤ 135 → Steps p b k m w (run.poll t) r k m w
     unfolding step still closes
     poll-still e q i o few =
         stepped p b k m w (run.poll t) e (rw (q, o)) (rw (q, still-there o, i)) (rw (still-there o) (put-own k (b .frame .len))) (rw (still-there o))
         (rw (still-there o) (put-nothing w 0)) (rw q few)
 
-    pub poll-over : {c : Closed} {f : Frame} {m′ w′ : List ℕ} → refusalOn p b k m (length w) (run.poll t) ≡ 0
+    pub poll-over : {c : Closed} {f : OpenFrame} {m′ w′ : List ℕ} → refusalOn p b k m (length w) (run.poll t) ≡ 0
         → r ≡ (record { board = record { state = c .state; frame = f }; outcome = Over (c .sent) }) → f ≡ noFrame → over p (stateOf b k) t ≡ true
         → Closes p (b .state) (b .frame) k m w c m′ w′ → Steps p b k m w (run.poll t) r k m′ w′
     unfolding step closes none
@@ -230,7 +230,7 @@ module _ (p : Plate) (b : Board) (k m w : List ℕ) (t : ℕ) {r : Stepped} {k�
           all = ap length kept-still ∙ eqb-true (length k) 135 (facts p b k m (length w) (run.poll t) (lends-poll t) willing .all);
         }
 
-    pub character-taken : {v : ℕ} {bad : Bool} {f : Frame} {q : Stepped} {k″ : List ℕ} → q ≡ (record { board = record { state = r .board .state; frame = f }; outcome = r .outcome })
+    pub character-taken : {v : ℕ} {bad : Bool} {f : OpenFrame} {q : Stepped} {k″ : List ℕ} → q ≡ (record { board = record { state = r .board .state; frame = f }; outcome = r .outcome })
         → Extends (more (pick (r .board .frame .begun) (lineOf (r .board .frame) k′) none) t v bad) k′ f k″ → Steps p b k m w (run.character t v bad) q k″ m′ w′
     unfolding step closes taken withLine outcomeOf
     character-taken {v} {bad} {f} {q} {k″} e x =
@@ -239,6 +239,6 @@ module _ (p : Plate) (b : Board) (k m w : List ℕ) (t : ℕ) {r : Stepped} {k�
         (rw (← u, ← kept-still) (x .bytes)) (s .memory ∙ ap (λ (h : Held). h .memory) on) (s .room ∙ ap (λ (h : Held). h .room) on) (rw e (x .few))
 
 -- no frame is open
-pub no-line : (k : List ℕ) (s : State) {f : Frame} {x : meaning.State} → stateWith s none ≡ x → f ≡ noFrame → stateWith s (lineOf f k) ≡ x
+pub no-line : (k : List ℕ) (s : State) {f : OpenFrame} {x : meaning.State} → stateWith s none ≡ x → f ≡ noFrame → stateWith s (lineOf f k) ≡ x
 unfolding none
 no-line k s e h = rw h e

@@ -9,7 +9,7 @@ use Rattle.meaning.specs.Bytes.{pick, both, put}
 use Rattle.meaning.specs.State.{Plate, State, plateOk, stateOk}
 use Rattle.meaning.specs.Run.{Call, Held, refusedBy, called, closes}
 use Rattle.line.specs.Line.{lineOf}
-use Rattle.commands.specs.State.{stateWith}
+use Rattle.state.specs.State.{stateWith}
 use Rattle.board.specs.declared.limits.Board.{Board}
 use Rattle.board.specs.declared.limits.Outcome.{Outcome}
 use Rattle.board.specs.declared.limits.Outcome.the-variants.{Refused, Still, Over}

@@ -6,7 +6,7 @@ use mathlib.Core.List.{List}
 use lib.ListN.{length}
 use Rattle.meaning.specs.Bytes.{pick, put}
 use Rattle.meaning.specs.State.{Plate, plateOk, stateOk, fresh}
-use Rattle.meaning.specs.Fields.{imageLength}
+use Rattle.meaning.specs.Fields.{memoryLength}
 use Rattle.meaning.specs.Run.{Call, step, closes}
 use Rattle.board.specs.declared.limits.Board.{Board}
 use Rattle.board.specs.declared.limits.Outcome.the-variants.{Still, Over}
@@ -26,10 +26,10 @@ pub record Within (p : Plate) (b : Board) (kept m : List ℕ) : Type 0 where
   pub state : stateOk p (stateOf b kept) ≡ true
   pub few : b .frame .len ≤ 135
   pub places : length kept ≡ 135
-  pub size : length m ≡ imageLength (p .total)
+  pub size : length m ≡ memoryLength (p .total)
 
 -- what a host holds that starts fresh with a good plate, 135 places and a memory of the right size, and only calls, with room enough
 pub data Reached (p : Plate) : Board → List ℕ → List ℕ → Type 0 where
-  start : (b : Board) (kept m : List ℕ) → plateOk p ≡ true → length kept ≡ 135 → length m ≡ imageLength (p .total) → b .frame .len ≤ 135 → stateOf b kept ≡ fresh p → Reached p b kept m
+  start : (b : Board) (kept m : List ℕ) → plateOk p ≡ true → length kept ≡ 135 → length m ≡ memoryLength (p .total) → b .frame .len ≤ 135 → stateOf b kept ≡ fresh p → Reached p b kept m
   next : (b : Board) (kept m w : List ℕ) (g : Call) (r : Stepped) (kept′ m′ w′ : List ℕ) → Reached p b kept m → 134 ≤ length w
       → Steps p b kept m w g r kept′ m′ w′ → Reached p (r .board) kept′ m′

@@ -8,36 +8,36 @@ use lib.ListN.{length}
 use Rattle.meaning.specs.Bytes.{both, either, part, put}
 use Rattle.meaning.specs.State as meaning
 use Rattle.meaning.specs.State.{none, plateOk}
-use Rattle.meaning.specs.Fields.{imageLength}
+use Rattle.meaning.specs.Fields.{memoryLength}
 use Rattle.meaning.specs.Commands.{commandOf, asked, worked}
 use Rattle.meaning.specs.Commands as commands
 use Rattle.meaning.specs.Characters.{closed}
 use Rattle.meaning.specs.Frames.{message, outcome, work}
-use Rattle.frame.specs.declared.answer.Answer.{Answer}
-use Rattle.frame.specs.declared.answer.Answer.the-variants.{Refuse, Accept, Quiet}
-use Rattle.frame.specs.Answers.{memoryAfter, stateAfter, Works}
+use Rattle.wire.specs.declared.answer.Answer.{Answer}
+use Rattle.wire.specs.declared.answer.Answer.the-variants.{Refuse, Accept, Quiet}
+use Rattle.wire.specs.Answers.{memoryAfter, stateAfter, Works}
 use Rattle.line.specs.declared.plate.Plate.{Plate}
-use Rattle.line.specs.declared.characters.Frame.{Frame}
+use Rattle.line.specs.declared.characters.OpenFrame.{OpenFrame}
 use Rattle.line.specs.Line.{plateOf, lineOf, Fits}
-use Rattle.commands.specs.declared.state.State.{State}
-use Rattle.commands.specs.declared.rows.Worked.{Worked}
-use Rattle.commands.specs.State.{stateWith}
-use Rattle.commands.specs.Rows.{Answers}
+use Rattle.state.specs.declared.state.State.{State}
+use Rattle.state.specs.declared.rows.Worked.{Worked}
+use Rattle.state.specs.State.{stateWith}
+use Rattle.state.specs.Rows.{Answers}
 use Rattle.board.specs.declared.closing.Closed.{Closed}
 
 -- within the limits, R1 to R3
-pub record Ready (p : Plate) (s : State) (f : Frame) (kept m w : List ℕ) : Type 0 where
+pub record Ready (p : Plate) (s : State) (f : OpenFrame) (kept m w : List ℕ) : Type 0 where
   pub plate : plateOk (plateOf p) ≡ true
   pub counter : s .counter ≤ 0xFFFFFF
   pub fits : Fits f kept
-  pub size : length m ≡ imageLength (p .total)
+  pub size : length m ≡ memoryLength (p .total)
   pub room : 134 ≤ length w
 
 -- .. and a request whose data d has its row's length
 pub record Workable (p : Plate) (s : State) (c : ℕ) (d m w : List ℕ) : Type 0 where
   pub plate : plateOk (plateOf p) ≡ true
   pub counter : s .counter ≤ 0xFFFFFF
-  pub size : length m ≡ imageLength (p .total)
+  pub size : length m ≡ memoryLength (p .total)
   pub room : 134 ≤ length w
   pub fits : asked (commandOf c) d ≡ true
 
@@ -93,7 +93,7 @@ pub record Serves (p : meaning.Plate) (s : State) (c : ℕ) (d m w : List ℕ) (
   pub room : w′ ≡ put w 0 ((outcome p (stateWith s none) m c (worked (commandOf c) p (stateWith s none) m d)) .reply)
 
 -- what a closed frame leaves: the meaning's work on a board with no frame open
-pub record Closes (p : meaning.Plate) (s : State) (f : Frame) (kept m w : List ℕ) (r : Closed) (m′ w′ : List ℕ) : Type 0 where
+pub record Closes (p : meaning.Plate) (s : State) (f : OpenFrame) (kept m w : List ℕ) (r : Closed) (m′ w′ : List ℕ) : Type 0 where
   pub state : stateWith (r .state) none ≡ (work p (stateWith s none) m (closed (lineOf f kept))) .state
   pub sent : r .sent ≡ length ((work p (stateWith s none) m (closed (lineOf f kept))) .reply)
   pub memory : m′ ≡ (work p (stateWith s none) m (closed (lineOf f kept))) .memory

@@ -13,9 +13,9 @@ use crate::limits::Outcome;
 use crate::limits::Stepped;
 use crate::limits::refusal;
 use crate::limits::within_limits;
-use commands::State;
-use line::Frame;
+use line::OpenFrame;
 use line::Plate;
+use state::State;
 
 // 01, "Fresh state". Its limits are the plate's, so a plate beyond its limits is told by the first call.
 pub fn fresh(plate: Plate) -> Board
@@ -23,11 +23,11 @@ pub fn fresh(plate: Plate) -> Board
 {
     Board {
         state: State::fresh(),
-        frame: Frame::none(),
+        frame: OpenFrame::none(),
     }
 }
 
-fn stepped(state: State, frame: Frame, outcome: Outcome) -> Stepped
+fn stepped(state: State, frame: OpenFrame, outcome: Outcome) -> Stepped
     ensures { λ r. ⌜ r ≡ record { board = record { state = state; frame = frame }; outcome = outcome } ⌝ }
 {
     let board = Board { state, frame };
@@ -54,7 +54,7 @@ pub fn poll(
     if frame.is_over(plate, tick) {
         let closed = close(plate, state, frame, kept, memory, room);
         let next = closed.state;
-        return stepped(next, Frame::none(), Outcome::Over(closed.sent));
+        return stepped(next, OpenFrame::none(), Outcome::Over(closed.sent));
     }
     stepped(state, frame, Outcome::Still)
 }
@@ -120,7 +120,7 @@ pub fn fault(plate: Plate, board: Board, code: u8) -> Stepped
 pub fn power_on(plate: Plate, board: Board) -> Stepped
     ensures { λ r. ⌜ ((kept m w : List ℕ) → length kept ≡ 135 → Steps (plateOf plate) board kept m w run.power-on r kept m w) ⌝ }
 {
-    let frame = Frame::none();
+    let frame = OpenFrame::none();
     let state = board.state.power_on();
     told(plate, board, Board { state, frame })
 }

@@ -7,11 +7,11 @@ use crate::reply::reply;
 use crate::rows::change;
 use crate::rows::leaves_state;
 use crate::rows::tell;
-use commands::State;
-use frame::Answer;
-use line::Frame;
 use line::Judgement;
+use line::OpenFrame;
 use line::Plate;
+use state::State;
+use wire::Answer;
 
 // The state after a frame is closed, and how many reply bytes stand at the room's front, 0 being silence.
 pub struct Closed {
@@ -83,7 +83,7 @@ fn serve(
 pub(crate) fn close(
     plate: Plate,
     state: State,
-    frame: Frame,
+    frame: OpenFrame,
     kept: &[u8],
     memory: &mut [u8],
     room: &mut [u8],

@@ -7,14 +7,14 @@ ghost use lib.ListN.{length};
 ghost use Rattle.meaning.specs.Run.{Call, lends};
 ghost use Rattle.line.specs.Line.{plateOf};
 ghost use Rattle.board.specs.Board.{within, refusalOn};
-use commands::State;
-use line::Frame;
+use line::OpenFrame;
 use line::Plate;
+use state::State;
 
 // All that the board keeps, but for the lent memory and the lent places of the kept bytes.
 pub struct Board {
     pub state: State,
-    pub frame: Frame,
+    pub frame: OpenFrame,
 }
 
 // Refused, R1 to R3, and nothing is changed; no frame closed; a frame closed, and so many reply bytes at the room's front, 0 being silence.

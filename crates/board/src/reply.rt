@@ -1,9 +1,9 @@
 // The reply to a request, from the state after the work (01, "the reply always carries the board's own address").
 ghost use Rattle.line.specs.Line.{plateOf};
 ghost use Rattle.board.specs.Work.{Sendable, Sends};
-use commands::State;
-use frame::Answer;
 use line::Plate;
+use state::State;
+use wire::Answer;
 
 // The reply's data stands at place 2 of the room on; its length comes back, 0 being silence.
 pub fn reply(plate: Plate, state: State, command: u8, answer: Answer, room: &mut [u8]) -> usize
@@ -15,11 +15,11 @@ pub fn reply(plate: Plate, state: State, command: u8, answer: Answer, room: &mut
     match answer {
         Answer::Refuse(code) => {
             let body = [code];
-            frame::write(own, faults.marked(0x50), &body, room);
+            wire::write(own, faults.marked(0x50), &body, room);
             4
         }
         Answer::Accept(n) => {
-            frame::seal(own, faults.marked(command), n, room);
+            wire::seal(own, faults.marked(command), n, room);
             n + 3
         }
         Answer::Quiet => 0,

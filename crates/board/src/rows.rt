@@ -6,13 +6,13 @@ ghost use Prim.Native.Nat.{ℕ};
 ghost use Rattle.meaning.specs.State as meaning;
 ghost use Rattle.meaning.specs.State.{none};
 ghost use Rattle.meaning.specs.Commands.{commandOf, worked};
-ghost use Rattle.commands.specs.State.{stateWith};
+ghost use Rattle.state.specs.State.{stateWith};
 ghost use Rattle.line.specs.Line.{plateOf};
 ghost use Rattle.board.specs.Work.{Workable, Changeable, WorksOn, leavesState, Tells};
-use commands::State;
-use commands::Worked;
-use frame::Answer;
 use line::Plate;
+use state::State;
+use state::Worked;
+use wire::Answer;
 
 pub fn leaves_state(command: u8) -> bool
     ensures { λ r. ⌜ r ≡ leavesState command ⌝ }
@@ -44,11 +44,11 @@ pub fn tell(
     let total = plate.total as usize;
     let codes = state.codes;
     if command == 0x42 {
-        let position = commands::read_position(plate.bits, state, room);
+        let position = state::read_position(plate.bits, state, room);
         return position.answer;
     }
     if command == 0x46 {
-        let counter = commands::read_counter(state, room);
+        let counter = state::read_counter(state, room);
         return counter.answer;
     }
     if command == 0x4A {
@@ -72,19 +72,19 @@ pub fn change(bits: u32, state: State, command: u8, request: &[u8], room: &mut [
     ensures { λ r. ⌜ ((p : meaning.Plate) (m : List ℕ) → p .bits ≡ bits → WorksOn (worked (commandOf command) p (stateWith state none) m (now (request .entry))) state m (now (room .entry)) r m (now (room .exit))) ⌝ }
 {
     if command == 0x43 {
-        return commands::set_position(bits, state, request);
+        return state::set_position(bits, state, request);
     }
     if command == 0x47 {
-        return commands::step_counter(state);
+        return state::step_counter(state);
     }
     if command == 0x49 {
-        return commands::clear_counter(state, request);
+        return state::clear_counter(state, request);
     }
     if command == 0x4F {
-        return commands::set_code(state, request, room);
+        return state::set_code(state, request, room);
     }
     if command == 0x50 {
-        return commands::read_fault(state, room);
+        return state::read_fault(state, room);
     }
-    commands::reset(state)
+    state::reset(state)
 }

@@ -1,9 +1,9 @@
 // The plate and the board, as a script gives their numbers.
 use board::Board;
-use commands::Faults;
-use commands::State;
-use line::Frame;
+use line::OpenFrame;
 use line::Plate;
+use state::Faults;
+use state::State;
 
 // The numbers at T, P, N, U and G: total blocks, position bits, address, ticks a bit, pause.
 pub fn plate_of(numbers: &[u32; 256]) -> Plate {
@@ -34,7 +34,7 @@ pub fn given(counter: u32, offset: u32, queue: u32, bytes: u32) -> Board {
     state.counter = counter;
     state.offset = offset;
     state.faults = faults;
-    let mut frame = Frame::none();
+    let mut frame = OpenFrame::none();
     frame.len = (bytes % 256) as u8;
     Board { state, frame }
 }

@@ -21,7 +21,7 @@ use Rattle.meaning.proofs.Rests.{meant-rests}
 use Rattle.meaning.proofs.Steps.{both-0, both-1}
 use Rattle.meaning.proofs.Limits.{replies-fit}
 use Rattle.line.proofs.Limits.{low-address}
-use Rattle.commands.proofs.Answering.{put-nothing}
+use Rattle.state.proofs.Answering.{put-nothing}
 use Rattle.board.specs.declared.limits.Board.{Board}
 use Rattle.board.specs.declared.limits.Outcome.the-variants.{Still, Over}
 use Rattle.board.specs.declared.limits.Stepped.{Stepped}

@@ -10,7 +10,7 @@ use lib.Seq.{take-length}
 use borrow.Author.Tests.{le-ltb}
 use Rattle.meaning.specs.Bytes.{pick, either, arg}
 use Rattle.meaning.specs.State.{Plate, State, ownByte}
-use Rattle.meaning.specs.Fields.{imageLength}
+use Rattle.meaning.specs.Fields.{memoryLength}
 use Rattle.meaning.specs.Commands.{commandOf, worked}
 use Rattle.meaning.specs.Characters.{closed}
 use Rattle.meaning.specs.Frames.{sealed, ours, ending, leaves, still, work, resting, upTo}
@@ -42,7 +42,7 @@ request-long a c d = omega (arith, length-sealed (a ∷ c ∷ d))
 
 module _ (p : Plate) (s : State) (m : List ℕ) (tick spacing : ℕ) (a c : ℕ) (d : List ℕ) (idle : s .line .begun ≡ false) (low : tick < 2 ^ 32)
     (close : spacing < p .pause * p .ticks) (few : p .pause * p .ticks < 2 ^ 32) (short : length (request a c d) ≤ 135)
-    (home : p .address ≤ 31) (size : length m ≡ imageLength (p .total)) (may : T (allowed (commandOf c) d)) where
+    (home : p .address ≤ 31) (size : length m ≡ memoryLength (p .total)) (may : T (allowed (commandOf c) d)) where
   abbrev q : List ℕ
   q = request a c d
 
@@ -98,7 +98,7 @@ module _ (p : Plate) (s : State) (m : List ℕ) (tick spacing : ℕ) (a c : ℕ)
       go false e = answered-elsewhere e
 
 -- what the bench makes of it: by the row's answer, or silence
-module _ (p : Plate) (s : State) (m : List ℕ) (n c : ℕ) (d : List ℕ) (home : p .address ≤ 31) (size : length m ≡ imageLength (p .total))
+module _ (p : Plate) (s : State) (m : List ℕ) (n c : ℕ) (d : List ℕ) (home : p .address ≤ 31) (size : length m ≡ memoryLength (p .total))
     (right : T (addressOk n)) (may : T (allowed (commandOf c) d)) where
   abbrev to : ℕ
   to = addressFor n

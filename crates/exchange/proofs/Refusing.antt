@@ -10,7 +10,7 @@ use lib.Seq.{take-append-seam}
 use borrow.Author.Tests.{ne-eqb, le-leb, lt-leb, eqb-false}
 use Rattle.meaning.specs.Bytes.{pick, both, either, put}
 use Rattle.meaning.specs.State.{Plate, plateOk, stateOk}
-use Rattle.meaning.specs.Fields.{imageLength}
+use Rattle.meaning.specs.Fields.{memoryLength}
 use Rattle.meaning.specs.Commands.{commandOf}
 use Rattle.meaning.specs.Run.{Call, poll, lends, refusedBy}
 use Rattle.meaning.specs.Bench.{addressOk, addressFor, allowed, request, writes}
@@ -32,7 +32,7 @@ use Rattle.meaning.proofs.Puts.{put-front}
 pub refusal-few : (p : Plate) (b : Board) (kept m : List ℕ) (r : ℕ) (g : Call) → refusalOn p b kept m r g ≤ 3
 unfolding refusalOn refusedBy
 refusal-few p b kept m r g =
-    go (fitsIn b kept) (either (not (plateOk p)) (not (stateOk p (stateOf b kept)))) (lends g) (not (eqb (length m) (imageLength (p .total)))) (ltb r 134)
+    go (fitsIn b kept) (either (not (plateOk p)) (not (stateOk p (stateOf b kept)))) (lends g) (not (eqb (length m) (memoryLength (p .total)))) (ltb r 134)
   where
     go : (x y z u v : Bool) → pick x (pick y 1 (pick z (pick u 2 (pick v 3 0)) 0)) 1 ≤ 3
     go false y z u v = omega arith

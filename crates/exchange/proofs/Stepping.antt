@@ -7,7 +7,7 @@ use borrow.Author.Tests.{leb-true, eqb-true, ltb-false}
 use lib.ListN.{length}
 use Rattle.meaning.specs.Bytes.{put}
 use Rattle.meaning.specs.State.{Plate}
-use Rattle.meaning.specs.Fields.{imageLength}
+use Rattle.meaning.specs.Fields.{memoryLength}
 use Rattle.meaning.specs.Run.{Call, Held, step, lends}
 use Rattle.board.specs.declared.limits.Board.{Board}
 use Rattle.board.specs.declared.limits.Stepped.{Stepped}
@@ -25,7 +25,7 @@ module _ (p : Plate) (b : Board) (kept m : List ℕ) (r : ℕ) (g : Call) (l : l
     state = f .state;
     few = leb-true (b .frame .len) 135 (f .few);
     places = eqb-true (length kept) 135 (f .all);
-    size = eqb-true (length m) (imageLength (p .total)) (f .size);
+    size = eqb-true (length m) (memoryLength (p .total)) (f .size);
   }
 
   pub wide : 134 ≤ r

@@ -13,7 +13,7 @@ use Rattle.meaning.specs.Characters.{taken}
 use Rattle.meaning.specs.Frames.{Outcome, still}
 use Rattle.meaning.specs.Run.{Call, character, step, runFrom}
 use Rattle.meaning.proofs.Puts.{drop-put-low, put-front}
-use Rattle.commands.proofs.Answering.{put-nothing}
+use Rattle.state.proofs.Answering.{put-nothing}
 use Rattle.board.specs.declared.limits.Board.{Board}
 use Rattle.board.specs.declared.limits.Stepped.{Stepped}
 use Rattle.board.specs.Board.{stateOf, Steps}

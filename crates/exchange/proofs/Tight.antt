@@ -12,7 +12,7 @@ use Rattle.meaning.specs.Bytes.{pick}
 use Rattle.meaning.specs.State.{Plate}
 use Rattle.meaning.specs.Run.{poll}
 use Rattle.meaning.specs.Bench.{addressFor, request}
-use Rattle.frame.proofs.Tight.{one-outcome}
+use Rattle.wire.proofs.Tight.{one-outcome}
 use Rattle.line.proofs.Tight.{put-long}
 use Rattle.board.specs.declared.limits.Board.{Board}
 use Rattle.board.specs.Board.{stateOf, refusalOn}

@@ -15,11 +15,11 @@ use Rattle.meaning.specs.State.{Plate, State}
 use Rattle.meaning.specs.Fields.{bytesOf, blocks, writable, Survey, survey}
 use Rattle.meaning.specs.Commands as meaning
 use Rattle.meaning.specs.Commands.{refuse, accept, error, onField, barred, outside, readField, storeField}
-use Rattle.frame.specs.declared.answer.Answer.{Answer}
-use Rattle.frame.specs.declared.answer.Answer.the-variants.{Accept}
-use Rattle.frame.specs.Answers.{told, Works}
+use Rattle.wire.specs.declared.answer.Answer.{Answer}
+use Rattle.wire.specs.declared.answer.Answer.the-variants.{Accept}
+use Rattle.wire.specs.Answers.{told, Works}
 use Rattle.fields.specs.Memory.{Fit}
-use Rattle.frame.proofs.Laws.{tail-filled}
+use Rattle.wire.proofs.Laws.{tail-filled}
 use Rattle.meaning.proofs.Puts.{length-put, put-put}
 use Rattle.fields.specs.Replies.{named, readOwn, storeOwn, Replied}
 use Rattle.fields.specs.Found.{codeIn, orElse, OpenTo}

@@ -13,9 +13,9 @@ use Rattle.meaning.specs.State.{Plate, State}
 use Rattle.meaning.specs.Fields.{Survey, survey}
 use Rattle.meaning.specs.Commands as meaning
 use Rattle.meaning.specs.Commands.{asked, row, lengthFits, refuse, accept, error, onField, fieldStatus, memoryStatus, freeByte, c4A, c4B, c4C, c4D}
-use Rattle.frame.specs.declared.answer.Answer.{Answer}
-use Rattle.frame.specs.declared.answer.Answer.the-variants.{Refuse}
-use Rattle.frame.specs.Answers.{told, dataIn, memoryAfter, Works}
+use Rattle.wire.specs.declared.answer.Answer.{Answer}
+use Rattle.wire.specs.declared.answer.Answer.the-variants.{Refuse}
+use Rattle.wire.specs.Answers.{told, dataIn, memoryAfter, Works}
 use Rattle.fields.specs.Replies.{Replied}
 use Rattle.fields.specs.Found.{codeIn, FoundIn}
 use Rattle.fields.specs.declared.find.Found.{Found}

@@ -5,9 +5,9 @@ use mathlib.Core.List.{List}
 use Rattle.meaning.specs.State.{Plate, State, fresh, withCodes}
 use Rattle.meaning.specs.Fields as meaning
 use Rattle.meaning.specs.Commands.{Answer}
-use Rattle.frame.specs.declared.answer.Answer as declared
-use Rattle.frame.specs.Answers.{Works}
-use Rattle.frame.proofs.Tight.{one-outcome}
+use Rattle.wire.specs.declared.answer.Answer as declared
+use Rattle.wire.specs.Answers.{Works}
+use Rattle.wire.proofs.Tight.{one-outcome}
 use Rattle.fields.specs.Memory.{surveyOf}
 use Rattle.fields.specs.declared.seen.Survey.{Survey}
 

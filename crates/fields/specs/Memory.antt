@@ -10,7 +10,7 @@ use Rattle.fields.specs.declared.table.Tally.{Tally}
 -- 01, "Plate" and "Memory": at most 112 blocks, and 17T bytes
 pub record Fit (total : ℕ) (m : List ℕ) : Type 0 where
   pub few : total ≤ 112
-  pub long : length m ≡ meaning.imageLength total
+  pub long : length m ≡ meaning.memoryLength total
 
 -- .. with a room that is large enough (R3)
 pub record Lent (total : ℕ) (m w : List ℕ) : Type 0 where

@@ -9,8 +9,8 @@ use Rattle.meaning.specs.Bytes.{arg, part, put}
 use Rattle.meaning.specs.State.{State}
 use Rattle.meaning.specs.Commands as Commands
 use Rattle.meaning.specs.Commands.{Command, asked, error, accept}
-use Rattle.frame.specs.declared.answer.Answer.{Answer}
-use Rattle.frame.specs.declared.answer.Answer.the-variants.{Accept}
+use Rattle.wire.specs.declared.answer.Answer.{Answer}
+use Rattle.wire.specs.declared.answer.Answer.the-variants.{Accept}
 use Rattle.fields.specs.Memory.{Lent}
 
 -- a request's data d of the length that the command k wants (01, "judged in this order", 6), and what is lent

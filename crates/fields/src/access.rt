@@ -4,14 +4,14 @@ ghost use mathlib.Core.List.{List};
 ghost use Prim.Native.Nat.{ℕ};
 ghost use Rattle.meaning.specs.State.{Plate, State};
 ghost use Rattle.meaning.specs.Commands.{c4A, c4B, readField, storeField};
-ghost use Rattle.frame.specs.Answers.{Works};
+ghost use Rattle.wire.specs.Answers.{Works};
 ghost use Rattle.fields.specs.Replies.{Asked, Readable, Storable, readOwn, storeOwn};
 use crate::find::Found;
 use crate::find::open_field;
 use crate::reply::repeat_three;
 use crate::status::is_writable;
-use frame::Answer;
-use frame::fill;
+use wire::Answer;
+use wire::fill;
 
 // The reader of offset and count, on the field's own part of memory. 11h; field, offset, count and the bytes.
 fn read_own(own: &[u8], request: &[u8], room: &mut [u8]) -> Answer

@@ -5,7 +5,7 @@ ghost use mathlib.Core.List.{[], _∷_};
 ghost use lib.ListN.{length};
 ghost use Rattle.meaning.specs.Bytes.{put};
 ghost use Rattle.fields.specs.Replies.{Repeatable, Replied, named};
-use frame::Answer;
+use wire::Answer;
 
 pub(crate) fn reply_two(first: u8, second: u8, room: &mut [u8]) -> Answer
     requires { ⌜ 134 ≤ length (now room) ⌝ }

@@ -5,7 +5,7 @@ ghost use Prim.Native.Nat.{ℕ, _+_, _≤_, _<_};
 ghost use Rattle.meaning.specs.Bytes.{both, differ};
 ghost use Rattle.meaning.specs.State.{Plate, State};
 ghost use Rattle.meaning.specs.Commands.{c4D, create, modify, delete, shapeField};
-ghost use Rattle.frame.specs.Answers.{Works};
+ghost use Rattle.wire.specs.Answers.{Works};
 ghost use Rattle.fields.specs.Memory.{Sits, surveyOf};
 ghost use Rattle.fields.specs.Replies.{Asked};
 ghost use Rattle.fields.specs.Shape.{Blocks, Judged, Shapes, Surveyed, codeOf};
@@ -18,7 +18,7 @@ use crate::status::blocks_in;
 use crate::status::has_field;
 use crate::status::is_wrong_code;
 use crate::table::survey;
-use frame::Answer;
+use wire::Answer;
 
 pub enum Grant {
     Granted(Change),

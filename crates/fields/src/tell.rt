@@ -4,14 +4,14 @@ ghost use mathlib.Core.List.{List};
 ghost use Prim.Native.Nat.{ℕ, _≤_};
 ghost use Rattle.meaning.specs.State.{Plate, State};
 ghost use Rattle.meaning.specs.Commands.{c4C, fieldStatus, memoryStatus, freeByte};
-ghost use Rattle.frame.specs.Answers.{Works};
+ghost use Rattle.wire.specs.Answers.{Works};
 ghost use Rattle.fields.specs.Memory.{Lent};
 ghost use Rattle.fields.specs.Replies.{Asked};
 use crate::find::Found;
 use crate::find::find_field;
 use crate::reply::reply_two;
 use crate::table::survey;
-use frame::Answer;
+use wire::Answer;
 
 // 4Ch: field. 03h; 12h; field and status.
 pub fn field_status(memory: &[u8], total: usize, request: &[u8], room: &mut [u8]) -> Answer

@@ -9,7 +9,7 @@ use borrow.Author.Tests.{leb-true, le-leb}
 use lib.Dec.{leb, lit<}
 use lib.Bits.{bitAnd, and-block, and-high}
 use Rattle.meaning.specs.Bytes.{arg, part, both, little}
-use Rattle.frame.proofs.Numbers.{little-at}
+use Rattle.wire.proofs.Numbers.{little-at}
 use Rattle.meaning.proofs.Choices.{both-left, both-right}
 use Rattle.image.specs.Image.{flagsOk}
 

@@ -14,7 +14,7 @@ use Rattle.meaning.specs.Bytes.{arg, put, pick}
 use Rattle.meaning.specs.State.{Line, none}
 use Rattle.meaning.specs.Characters.{more}
 use Rattle.meaning.proofs.Puts.{length-put}
-use Rattle.line.specs.declared.characters.Frame.{Frame}
+use Rattle.line.specs.declared.characters.OpenFrame.{OpenFrame}
 use Rattle.line.specs.Line.{lineOf, noFrame, Fits, Extends}
 use Rattle.line.proofs.Kept.{has-room, has-none}
 use Rattle.image.specs.Image.{low4, flagByte, frameIn, keptIn, lineBytes, frameRow, frameBytes, Open, Takes, PutsFrame}
@@ -23,14 +23,14 @@ use Rattle.image.proofs.Parts.{front-length, kept-length, laid-out, tak
 use Rattle.image.proofs.Round.{good}
 
 -- the first of a frame
-pub begins : (img : List ℕ) (tick v : ℕ) (bad : Bool) {n r : Frame} {kept img′ : List ℕ} → length img ≡ 165 → n ≡ noFrame
+pub begins : (img : List ℕ) (tick v : ℕ) (bad : Bool) {n r : OpenFrame} {kept img′ : List ℕ} → length img ≡ 165 → n ≡ noFrame
     → Extends (more (pick (n .begun) (lineOf n (keptIn img)) none) tick v bad) (keptIn img) r kept
     → PutsFrame r (take 30 img ++ (kept ++ drop 135 (drop 30 img))) img′ → Takes (more none tick v bad) img img′
 begins img tick v bad {n} {r} {kept} all e x q =
     let y : Extends (more none tick v bad) (keptIn img) r kept = rw e at x in
     takes img (more none tick v bad) all y q
 
-pub nothing-fits : (img : List ℕ) {n : Frame} → length img ≡ 165 → n ≡ noFrame → Fits n (keptIn img)
+pub nothing-fits : (img : List ℕ) {n : OpenFrame} → length img ≡ 165 → n ≡ noFrame → Fits n (keptIn img)
 nothing-fits img all e = record { few = rw e (omega arith); all = kept-length img all }
 
 set-past : (front ys : List ℕ) (j v : ℕ) → set (front ++ ys) (length front + j) v ≡ front ++ set ys j v
@@ -95,7 +95,7 @@ module _ (img : List ℕ) (o : Open img) (tick v : ℕ) (bad : Bool) (low : tick
   longer-is = flag-back (arg img 22) ((good img (o .image)) .longer)
 
   -- a line that f and the places say, by its bytes
-  rows : (l : Line) (f : Frame) (kept : List ℕ) → Extends l (keptIn img) f kept → length kept ≡ 135
+  rows : (l : Line) (f : OpenFrame) (kept : List ℕ) → Extends l (keptIn img) f kept → length kept ≡ 135
       → lineBytes l ≡ frameBytes f
   rows l f kept x c = sym (ap lineBytes (x .line)) ∙ line-row f kept (record { few = x .few; all = c })
 

@@ -8,10 +8,10 @@ use lib.Seq.{take-all, take-at, drop-at, drop-drop, drop-cons, take-take, take-a
 use Rattle.meaning.specs.Bytes.{arg, part, put, little}
 use Rattle.meaning.specs.State.{Line, none}
 use Rattle.meaning.proofs.Puts.{length-put}
-use Rattle.frame.proofs.Numbers.{little-at}
-use Rattle.commands.specs.declared.state.State.{State}
-use Rattle.commands.specs.State.{stateWith}
-use Rattle.line.specs.declared.characters.Frame.{Frame}
+use Rattle.wire.proofs.Numbers.{little-at}
+use Rattle.state.specs.declared.state.State.{State}
+use Rattle.state.specs.State.{stateWith}
+use Rattle.line.specs.declared.characters.OpenFrame.{OpenFrame}
 use Rattle.line.specs.Line.{lineOf, Fits, Extends}
 use Rattle.image.specs.Image.{low4, stateIn, frameIn, keptIn, stateBytes, lineBytes, frameRow, frameBytes, Takes, PutsState, PutsFrame, PutsBoard}
 use Rattle.image.proofs.Standing.{places, byte-0, byte-1, byte-2, byte-3, flag-back, line-row, frame-again}
@@ -70,7 +70,7 @@ pub line-length : (l : Line) → length (lineBytes l) ≡ 9
 unfolding lineBytes
 line-length l = refl
 
-pub takes : (img : List ℕ) (l : Line) {r : Frame} {kept img′ : List ℕ} → length img ≡ 165 → Extends l (keptIn img) r kept
+pub takes : (img : List ℕ) (l : Line) {r : OpenFrame} {kept img′ : List ℕ} → length img ≡ 165 → Extends l (keptIn img) r kept
     → PutsFrame r (take 30 img ++ (kept ++ drop 135 (drop 30 img))) img′ → Takes l img img′
 takes img l {r} {kept} {img′} all x q =
     let few : length (l .kept) ≤ 135 = rw (← ap (λ (y : Line). length (y .kept)) (x .line)) (rw length-take (omega (arith, x .few))) in
@@ -87,7 +87,7 @@ takes img l {r} {kept} {img′} all x q =
     }
 
 -- an image whose frame's numbers and kept bytes are those of l
-pub takes-of : (img : List ℕ) (l : Line) {f : Frame} {kept img′ : List ℕ} → length img ≡ 165 → f .last < 2 ^ 32
+pub takes-of : (img : List ℕ) (l : Line) {f : OpenFrame} {kept img′ : List ℕ} → length img ≡ 165 → f .last < 2 ^ 32
     → Extends l (keptIn img) f kept → length kept ≡ 135 → img′ ≡ take 21 img ++ (lineBytes l ++ kept) → Takes l img img′
 unfolding put
 takes-of img l {f} {kept} {img′} all k x c e =
@@ -108,7 +108,7 @@ pub state-length : (s : State) (l : Line) → length (stateBytes (stateWith s l)
 unfolding stateBytes
 state-length s l = refl
 
-frame-length : (f : Frame) → length (frameBytes f) ≡ 9
+frame-length : (f : OpenFrame) → length (frameBytes f) ≡ 9
 unfolding frameRow
 frame-length f = refl
 
@@ -117,7 +117,7 @@ unfolding put
 put-first s img l e = e ∙ rw (state-length s l)
 
 -- state and numbers are written one after the other
-pub puts-board : (s : State) (f : Frame) (img : List ℕ) {m img′ : List ℕ} → length img ≡ 165 → PutsState s img m → PutsFrame f m img′
+pub puts-board : (s : State) (f : OpenFrame) (img : List ℕ) {m img′ : List ℕ} → length img ≡ 165 → PutsState s img m → PutsFrame f m img′
     → PutsBoard s f img img′
 unfolding put
 puts-board s f img {m} {img′} all a b =

@@ -10,9 +10,9 @@ use lib.Dec.{eqb, leb}
 use lib.ListN.{length, take, drop, take-append-drop}
 use lib.Seq.{length-take-le}
 use Rattle.meaning.specs.Bytes.{arg, part, put, both}
-use Rattle.commands.specs.declared.state.State.{State}
-use Rattle.commands.specs.State.{stateWith}
-use Rattle.line.specs.declared.characters.Frame.{Frame}
+use Rattle.state.specs.declared.state.State.{State}
+use Rattle.state.specs.State.{stateWith}
+use Rattle.line.specs.declared.characters.OpenFrame.{OpenFrame}
 use Rattle.line.specs.Line.{lineOf, Fits}
 use Rattle.image.specs.Image.{flagsOk, isImage, stateIn, frameIn, keptIn, heldIn, stateBytes, lineBytes, frameBytes, imageOf}
 use Rattle.image.proofs.Standing.{Typed, state-first, frame-again, line-row}
@@ -68,7 +68,7 @@ image-as-it-was img e small =
     rw (a, b, c) (parts-joined img (g .all))
 
 -- a board of the code's types
-module _ (s : State) (f : Frame) (kept : List ℕ) (t : Typed s) (k : f .last < 2 ^ 32) (fits : Fits f kept) where
+module _ (s : State) (f : OpenFrame) (kept : List ℕ) (t : Typed s) (k : f .last < 2 ^ 32) (fits : Fits f kept) where
   written : imageOf (stateWith s (lineOf f kept)) kept ≡ stateBytes (stateWith s (lineOf f kept)) ++ (lineBytes (lineOf f kept) ++ kept)
   unfolding imageOf
   written = rw (kept-stays kept (f .len) (omega (arith, fits .few, fits .all)))

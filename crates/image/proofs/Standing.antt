@@ -11,15 +11,15 @@ use lib.Seq.{drop-drop, length-take-le}
 use Rattle.meaning.specs.Bytes.{arg, part, pick, put, little}
 use Rattle.meaning.specs.State.{Line, none}
 use Rattle.meaning.proofs.Puts.{put-at}
-use Rattle.frame.proofs.Numbers.{low-first, little-at}
-use Rattle.commands.specs.declared.faults.Faults.{Faults}
-use Rattle.commands.specs.declared.state.State.{State}
-use Rattle.commands.specs.Queue.{waiting, queueOf}
-use Rattle.commands.specs.State.{stateWith}
-use Rattle.line.specs.declared.characters.Frame.{Frame}
+use Rattle.wire.proofs.Numbers.{low-first, little-at}
+use Rattle.state.specs.declared.faults.Faults.{Faults}
+use Rattle.state.specs.declared.state.State.{State}
+use Rattle.state.specs.Queue.{waiting, queueOf}
+use Rattle.state.specs.State.{stateWith}
+use Rattle.line.specs.declared.characters.OpenFrame.{OpenFrame}
 use Rattle.line.specs.Line.{lineOf, Fits}
 use Rattle.image.specs.Image.{low4, flagByte, stateIn, stateBytes, frameIn, lineBytes, frameRow, frameBytes, PutsState, PutsFrame}
-use Rattle.commands.proofs.Places.{front}
+use Rattle.state.proofs.Places.{front}
 
 later-place : (c i : ℕ) (q : List ℕ) → arg (waiting c q) (suc i) ≡ arg q i
 unfolding waiting
@@ -148,7 +148,7 @@ pub put-whole : (m bs : List ℕ) → length m ≤ length bs → put m 0 bs ≡ 
 unfolding put
 put-whole m bs h = rw (zero-add, drop-of-length-le m h) (append-nil bs)
 
-pub frame-again : (f : Frame) (img : List ℕ) → 30 ≤ length img → f .last < 2 ^ 32
+pub frame-again : (f : OpenFrame) (img : List ℕ) → 30 ≤ length img → f .last < 2 ^ 32
     → frameIn (put img 21 (frameBytes f)) ≡ f
 unfolding frameIn frameRow
 frame-again f img h k =
@@ -156,7 +156,7 @@ frame-again f img h k =
     let at : (j : ℕ) → j < 9 → arg (put img 21 row) (21 + j) ≡ arg row j = λ j l. put-at img 21 row (omega arith) j l in
     rw (little-at (put img 21 row) 24, at 0 (omega arith), at 1 (omega arith), at 2 (omega arith), at 3 (omega arith), at 4 (omega arith), at 5 (omega arith), at 6 (omega arith), at 7 (omega arith), at 8 (omega arith), flag-again (f .begun), flag-again (f .longer), flag-again (f .parity), number-again (f .last) k)
 
-pub line-row : (f : Frame) (kept : List ℕ) → Fits f kept
+pub line-row : (f : OpenFrame) (kept : List ℕ) → Fits f kept
     → lineBytes (lineOf f kept) ≡ frameBytes f
 unfolding frameRow lineBytes
 line-row f kept fits = rw (length-take-le (f .len) kept (omega (arith, fits .few, fits .all)))
@@ -169,7 +169,7 @@ part-filled img i n row {after} h l e =
     let w : after ≡ row = e ∙ put-whole (take n (drop i img)) row (omega arith) in
     rw w (lent-part img i n row l)
 
-pub puts-frame : (f : Frame) (img : List ℕ) {a b d : ℕ} {row after : List ℕ} → 30 ≤ length img → f .last < 2 ^ 32
+pub puts-frame : (f : OpenFrame) (img : List ℕ) {a b d : ℕ} {row after : List ℕ} → 30 ≤ length img → f .last < 2 ^ 32
     → a ≡ flagByte (f .begun) → b ≡ flagByte (f .longer) → d ≡ flagByte (f .parity) → row ≡ frameRow f a b d
     → after ≡ put (take 9 (drop 21 img)) 0 row → PutsFrame f img (take 21 img ++ (after ++ drop 9 (drop 21 img)))
 unfolding frameRow

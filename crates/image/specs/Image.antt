@@ -7,9 +7,9 @@ use lib.Dec.{eqb, leb}
 use lib.ListN.{length, take, drop}
 use Rattle.meaning.specs.Bytes.{both, arg, part, put, little}
 use Rattle.meaning.specs.State as meaning
-use Rattle.commands.specs.declared.state.State.{State}
-use Rattle.commands.specs.State.{stateWith}
-use Rattle.line.specs.declared.characters.Frame.{Frame}
+use Rattle.state.specs.declared.state.State.{State}
+use Rattle.state.specs.State.{stateWith}
+use Rattle.line.specs.declared.characters.OpenFrame.{OpenFrame}
 use Rattle.line.specs.Line.{lineOf}
 
 -- numbers stand low byte first
@@ -39,7 +39,7 @@ stateIn img =
     }
 
 -- 21 whether a frame is open; 22 longer than 135; 23 a parity fault; 24 the last stamp; 28 the XOR of all its bytes; 29 how many are kept
-unfoldable pub frameIn : List ℕ → Frame
+unfoldable pub frameIn : List ℕ → OpenFrame
 frameIn img =
     record {
       begun = flagAt img 21;
@@ -77,10 +77,10 @@ unfoldable pub lineBytes : meaning.Line → List ℕ
 lineBytes l = flagByte (l .begun) ∷ flagByte (l .longer) ∷ flagByte (l .parity) ∷ low4 (l .last) (l .sum ∷ length (l .kept) ∷ [])
 
 -- the same of the code's frame
-unfoldable pub frameRow : Frame → ℕ → ℕ → ℕ → List ℕ
+unfoldable pub frameRow : OpenFrame → ℕ → ℕ → ℕ → List ℕ
 frameRow f begun longer parity = begun ∷ longer ∷ parity ∷ low4 (f .last) (f .sum ∷ f .len ∷ [])
 
-abbrev pub frameBytes : Frame → List ℕ
+abbrev pub frameBytes : OpenFrame → List ℕ
 frameBytes f = frameRow f (flagByte (f .begun)) (flagByte (f .longer)) (flagByte (f .parity))
 
 -- a state as an image over the 135 places for kept bytes: those past the kept ones stay as they were
@@ -93,12 +93,12 @@ pub record PutsState (s : State) (img img′ : List ℕ) : Type 0 where
   pub holds : stateIn img′ ≡ s
 
 -- a frame's numbers are written over an image's
-pub record PutsFrame (f : Frame) (img img′ : List ℕ) : Type 0 where
+pub record PutsFrame (f : OpenFrame) (img img′ : List ℕ) : Type 0 where
   pub image : img′ ≡ put img 21 (frameBytes f)
   pub holds : frameIn img′ ≡ f
 
 -- both are; the places stay
-pub record PutsBoard (s : State) (f : Frame) (img img′ : List ℕ) : Type 0 where
+pub record PutsBoard (s : State) (f : OpenFrame) (img img′ : List ℕ) : Type 0 where
   pub image : (l : meaning.Line) → img′ ≡ stateBytes (stateWith s l) ++ (frameBytes f ++ keptIn img)
   pub state : stateIn img′ ≡ s
   pub frame : frameIn img′ ≡ f

@@ -17,9 +17,9 @@ use crate::layout::OFFSET;
 use crate::layout::PARITY;
 use crate::layout::SUM;
 use crate::layout::WAITING;
-use commands::Faults;
-use commands::State;
-use line::Frame;
+use line::OpenFrame;
+use state::Faults;
+use state::State;
 
 fn is_one(byte: u8) -> bool
     ensures { λ r. ⌜ r ≡ eqb byte 1 ⌝ }
@@ -32,7 +32,7 @@ fn flags_ok(image: &[u8]) -> bool
     requires { ⌜ 165 ≤ length (now image) ⌝ }
     ensures { λ r. ⌜ r ≡ flagsOk (now (image .entry)) ⌝ }
 {
-    if frame::number_at(image, LOCKED) & 0xFEFEFEFE != 0 {
+    if wire::number_at(image, LOCKED) & 0xFEFEFEFE != 0 {
         return false;
     }
     true
@@ -73,20 +73,20 @@ pub fn state_in(image: &[u8]) -> State
     };
     State {
         codes: codes,
-        counter: frame::number_at(image, COUNTER),
-        offset: frame::number_at(image, OFFSET),
-        measured: frame::number_at(image, MEASURED),
+        counter: wire::number_at(image, COUNTER),
+        offset: wire::number_at(image, OFFSET),
+        measured: wire::number_at(image, MEASURED),
         faults: faults,
     }
 }
 
-pub fn frame_in(image: &[u8]) -> Frame
+pub fn frame_in(image: &[u8]) -> OpenFrame
     requires { ⌜ 165 ≤ length (now image) ⌝ }
     ensures { λ r. ⌜ r ≡ frameIn (now (image .entry)) ⌝ }
 {
-    Frame {
+    OpenFrame {
         begun: is_one(image[FRAME]),
-        last: frame::number_at(image, LAST),
+        last: wire::number_at(image, LAST),
         len: image[COUNT],
         sum: image[SUM],
         longer: is_one(image[LONGER]),

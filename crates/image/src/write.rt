@@ -8,7 +8,7 @@ ghost use Rattle.meaning.specs.Bytes.{pick, put};
 ghost use Rattle.meaning.specs.State.{Line, none};
 ghost use Rattle.meaning.specs.Characters.{more};
 ghost use Rattle.line.specs.Line.{lineOf};
-ghost use Rattle.commands.specs.State.{stateWith};
+ghost use Rattle.state.specs.State.{stateWith};
 ghost use Rattle.image.specs.Image.{flagByte, low4, isImage, frameIn, keptIn, stateBytes, frameRow, Open, PutsState, PutsFrame, PutsBoard, Takes};
 use crate::layout::COUNT;
 use crate::layout::FRAME;
@@ -17,8 +17,8 @@ use crate::layout::LENGTH;
 use crate::layout::LONGER;
 use crate::layout::PARITY;
 use crate::layout::SUM;
-use commands::State;
-use line::Frame;
+use line::OpenFrame;
+use state::State;
 
 fn flag_byte(on: bool) -> u8
     ensures { λ r. ⌜ r ≡ flagByte on ⌝ }
@@ -64,7 +64,7 @@ fn state_row(state: State, locked: u8) -> [u8; 21]
 }
 
 // The flags come as bytes.
-fn frame_row(frame: Frame, begun: u8, longer: u8, parity: u8) -> [u8; 9]
+fn frame_row(frame: OpenFrame, begun: u8, longer: u8, parity: u8) -> [u8; 9]
     ensures { λ r. ⌜ r ≡ frameRow frame begun longer parity ⌝ }
 {
     let last = frame.last;
@@ -87,10 +87,10 @@ pub fn put_state(state: State, image: &mut [u8])
 {
     let faults = state.faults;
     let row = state_row(state, flag_byte(faults.locked));
-    frame::fill(&row, image);
+    wire::fill(&row, image);
 }
 
-pub fn put_frame(frame: Frame, image: &mut [u8])
+pub fn put_frame(frame: OpenFrame, image: &mut [u8])
     requires { ⌜ 30 ≤ length (now image) ⌝ }
     ensures { λ _. ⌜ PutsFrame frame (now (image .entry)) (now (image .exit)) ⌝ }
 {
@@ -98,10 +98,10 @@ pub fn put_frame(frame: Frame, image: &mut [u8])
     let longer = flag_byte(frame.longer);
     let parity = flag_byte(frame.parity);
     let row = frame_row(frame, begun, longer, parity);
-    frame::fill(&row, &mut image[FRAME..KEPT]);
+    wire::fill(&row, &mut image[FRAME..KEPT]);
 }
 
-pub fn put_board(state: State, frame: Frame, image: &mut [u8])
+pub fn put_board(state: State, frame: OpenFrame, image: &mut [u8])
     requires { ⌜ length (now image) ≡ 165 ⌝ }
     ensures { λ _. ⌜ PutsBoard state frame (now (image .entry)) (now (image .exit)) ⌝ }
 {
@@ -114,7 +114,7 @@ fn begin(tick: u32, value: u8, parity: bool, image: &mut [u8])
     requires { ⌜ length (now image) ≡ 165 ⌝ }
     ensures { λ _. ⌜ Takes (more none tick value parity) (now (image .entry)) (now (image .exit)) ⌝ }
 {
-    let first = Frame::none().with_character(tick, value, parity, &mut image[KEPT..LENGTH]);
+    let first = OpenFrame::none().with_character(tick, value, parity, &mut image[KEPT..LENGTH]);
     put_frame(first, image);
 }
 
@@ -131,7 +131,7 @@ fn put_stamp(parity: u8, tick: u32, sum: u8, image: &mut [u8])
         (tick / 0x1000000 % 256) as u8,
         sum,
     ];
-    frame::fill(&row, &mut image[PARITY..COUNT]);
+    wire::fill(&row, &mut image[PARITY..COUNT]);
 }
 
 // One more character of an open frame: nothing is written that does not change.

@@ -16,9 +16,9 @@ use Rattle.meaning.specs.Characters.{closed}
 use Rattle.meaning.specs.Frames.{commandByte, dataOf, ours, ending, short, elsewhere, answered}
 use Rattle.meaning.specs.Characters as characters
 use Rattle.meaning.specs.Frames as frames
-use Rattle.frame.specs.declared.table.Row.{Row}
-use Rattle.frame.specs.Table.{lengthOf, rowOf}
-use Rattle.line.specs.declared.characters.Frame.{Frame}
+use Rattle.wire.specs.declared.table.Row.{Row}
+use Rattle.wire.specs.Table.{lengthOf, rowOf}
+use Rattle.line.specs.declared.characters.OpenFrame.{OpenFrame}
 use Rattle.line.specs.declared.judge.Judgement.{Judgement}
 use Rattle.line.specs.declared.judge.Judgement.the-variants.{Short, Elsewhere, Fault, Request}
 use Rattle.line.specs.Line.{lineOf, Fits}
@@ -42,7 +42,7 @@ module _ (kept : List ℕ) (n : ℕ) (low : 3 ≤ n) (all : n ≤ length kept) w
       rw k (sym e)
 
 -- the judge's ways out, in the order of 01
-module _ (own : ℕ) (f : Frame) (kept : List ℕ) (fits : Fits f kept) where
+module _ (own : ℕ) (f : OpenFrame) (kept : List ℕ) (fits : Fits f kept) where
   within : f .len ≤ length kept
   within = omega (arith, fits .few, fits .all)
 

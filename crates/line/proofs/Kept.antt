@@ -14,7 +14,7 @@ use lib.Seq.{take-suc-set, set-split, length-take-le, take-all}
 use Rattle.meaning.specs.Bytes.{pick, put, either}
 use Rattle.meaning.specs.State.{none}
 use Rattle.meaning.specs.Characters.{more}
-use Rattle.line.specs.declared.characters.Frame.{Frame}
+use Rattle.line.specs.declared.characters.OpenFrame.{OpenFrame}
 use Rattle.line.specs.Line.{lineOf, noFrame, Fits, Starts, Extends}
 use Rattle.meaning.proofs.Choices.{either-true, either-false}
 
@@ -36,7 +36,7 @@ put-all : (kept : List ℕ) (n : ℕ) → length kept ≤ n → put kept 0 (take
 unfolding put
 put-all kept n h = rw (take-all, zero-add, drop-of-length-le kept {i = length kept} (omega arith)) (append-nil kept)
 
-module _ (f : Frame) (kept : List ℕ) (tick v : ℕ) (bad : Bool) (fits : Fits f kept) where
+module _ (f : OpenFrame) (kept : List ℕ) (tick v : ℕ) (bad : Bool) (fits : Fits f kept) where
   counted : length (take (f .len) kept) ≡ f .len
   counted = length-take-le (f .len) kept (omega (arith, fits .few, fits .all))
 
@@ -70,13 +70,13 @@ module _ (f : Frame) (kept : List ℕ) (tick v : ℕ) (bad : Bool) (fits : Fits 
       }
 
 -- with no frame open the next character starts from an empty one
-pub starts-anew : (f : Frame) {r : Frame} → f .begun ≡ false → r ≡ noFrame → Starts f r
+pub starts-anew : (f : OpenFrame) {r : OpenFrame} → f .begun ≡ false → r ≡ noFrame → Starts f r
 unfolding none
 starts-anew f e q = record { line = λ kept. rw (q, e); few = λ h. rw q (omega arith) }
 
-pub goes-on : (f : Frame) (kept : List ℕ) (tick v : ℕ) (bad : Bool) {g r : Frame} {after : List ℕ} → Starts f g
+pub goes-on : (f : OpenFrame) (kept : List ℕ) (tick v : ℕ) (bad : Bool) {g r : OpenFrame} {after : List ℕ} → Starts f g
     → Extends (more (lineOf g kept) tick v bad) kept r after → Extends (more (pick (f .begun) (lineOf f kept) none) tick v bad) kept r after
 goes-on f kept tick v bad s h = rw (s .line kept) at h
 
-pub still-fits : (f : Frame) (kept : List ℕ) {g : Frame} → Starts f g → Fits f kept → Fits g kept
+pub still-fits : (f : OpenFrame) (kept : List ℕ) {g : OpenFrame} → Starts f g → Fits f kept → Fits g kept
 still-fits f kept s h = record { few = s .few (h .few); all = h .all }

@@ -11,18 +11,18 @@ use Rattle.meaning.specs.State as meaning
 use Rattle.meaning.specs.State.{Line, fresh, ownByte, withLine}
 use Rattle.meaning.specs.Characters.{over}
 use Rattle.line.specs.declared.plate.Plate.{Plate}
-use Rattle.line.specs.declared.characters.Frame.{Frame}
+use Rattle.line.specs.declared.characters.OpenFrame.{OpenFrame}
 use Rattle.line.specs.Line.{plateOf, lineOf, Extends}
 
 parts : {a a′ : Bool} {b c d b′ c′ d′ : ℕ} {x y x′ y′ : Bool} → a ≡ a′ → b ≡ b′ → c ≡ c′ → d ≡ d′ → x ≡ x′ → y ≡ y′
-    → _≡_ {A = Frame} (record { begun = a; last = b; len = c; sum = d; longer = x; parity = y }) (record { begun = a′; last = b′; len = c′; sum = d′; longer = x′; parity = y′ })
+    → _≡_ {A = OpenFrame} (record { begun = a; last = b; len = c; sum = d; longer = x; parity = y }) (record { begun = a′; last = b′; len = c′; sum = d′; longer = x′; parity = y′ })
 parts i j k n o q = rw (i, j, k, n, o, q)
 
 same-len : (a c : ℕ) (k : List ℕ) → a ≤ 135 → c ≤ 135 → 135 ≤ length k → take a k ≡ take c k → a ≡ c
 same-len a c k h i j e = sym (length-take-le a k (omega arith)) ∙ ap length e ∙ length-take-le c k (omega arith)
 
 -- the meaning's line says which frame it is
-pub same-line-same-frame : (f g : Frame) (k : List ℕ) → f .len ≤ 135 → g .len ≤ 135 → 135 ≤ length k → lineOf f k ≡ lineOf g k → f ≡ g
+pub same-line-same-frame : (f g : OpenFrame) (k : List ℕ) → f .len ≤ 135 → g .len ≤ 135 → 135 ≤ length k → lineOf f k ≡ lineOf g k → f ≡ g
 same-line-same-frame f g k h i j e =
     parts (ap (λ (x : Line). x .begun) e) (ap (λ (x : Line). x .last) e) (same-len (f .len) (g .len) k h i j (ap (λ (x : Line). x .kept) e))
     (ap (λ (x : Line). x .sum) e) (ap (λ (x : Line). x .longer) e) (ap (λ (x : Line). x .parity) e)
@@ -31,13 +31,13 @@ pub put-long : (k x : List ℕ) → length k ≤ length (put k 0 x)
 unfolding put
 put-long k x = simp (length-append, length-drop) (omega arith)
 
-pub with-character-tight : (l : Line) (k : List ℕ) (f g : Frame) (a b : List ℕ) → length k ≡ 135 → Extends l k f a → Extends l k g b → (f ≡ g) × (a ≡ b)
+pub with-character-tight : (l : Line) (k : List ℕ) (f g : OpenFrame) (a b : List ℕ) → length k ≡ 135 → Extends l k f a → Extends l k g b → (f ≡ g) × (a ≡ b)
 with-character-tight l k f g a b all p q =
     let same : a ≡ b = p .bytes ∙ sym (q .bytes) in
     let long : 135 ≤ length a = rw (p .bytes) (omega (arith, put-long k (l .kept))) in
     (same-line-same-frame f g a (p .few) (q .few) long (p .line ∙ sym (ap (lineOf g) same ∙ q .line)), same)
 
-pub is-over-tight : (p : Plate) (f : Frame) (t : ℕ) (a b : Bool) → ((s : meaning.State) (k : List ℕ) → s .line ≡ lineOf f k → a ≡ over (plateOf p) s t)
+pub is-over-tight : (p : Plate) (f : OpenFrame) (t : ℕ) (a b : Bool) → ((s : meaning.State) (k : List ℕ) → s .line ≡ lineOf f k → a ≡ over (plateOf p) s t)
     → ((s : meaning.State) (k : List ℕ) → s .line ≡ lineOf f k → b ≡ over (plateOf p) s t) → a ≡ b
 unfolding withLine
 is-over-tight p f t a b h i = let s : meaning.State = withLine (fresh (plateOf p)) (lineOf f []) in h s [] refl ∙ sym (i s [] refl)

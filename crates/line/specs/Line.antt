@@ -7,31 +7,31 @@ use lib.ListN.{length, take}
 use Rattle.meaning.specs.Bytes.{pick, put}
 use Rattle.meaning.specs.State as meaning
 use Rattle.line.specs.declared.plate.Plate.{Plate}
-use Rattle.line.specs.declared.characters.Frame.{Frame}
+use Rattle.line.specs.declared.characters.OpenFrame.{OpenFrame}
 
 abbrev pub plateOf : Plate → meaning.Plate
 plateOf p = record { total = p .total; bits = p .bits; address = p .address; ticks = p .ticks; pause = p .pause }
 
 -- the first `len` of the lent places hold the kept bytes; the others carry no meaning
-abbrev pub lineOf : Frame → List ℕ → meaning.Line
+abbrev pub lineOf : OpenFrame → List ℕ → meaning.Line
 lineOf f kept = record { begun = f .begun; kept = take (f .len) kept; sum = f .sum; longer = f .longer; parity = f .parity; last = f .last }
 
 -- 01, "no frame open"
-abbrev pub noFrame : Frame
+abbrev pub noFrame : OpenFrame
 noFrame = record { begun = false; last = 0; len = 0; sum = 0; longer = false; parity = false }
 
 -- 01, "at most 135 kept bytes": the frame's numbers and the lent places are within their limits
-pub record Fits (f : Frame) (kept : List ℕ) : Type 0 where
+pub record Fits (f : OpenFrame) (kept : List ℕ) : Type 0 where
   pub few : f .len ≤ 135
   pub all : length kept ≡ 135
 
 -- a frame is left with the line l: its numbers say l, and of the lent places those that l keeps are written, the others untouched
-pub record Extends (l : meaning.Line) (kept : List ℕ) (r : Frame) (kept′ : List ℕ) : Type 0 where
+pub record Extends (l : meaning.Line) (kept : List ℕ) (r : OpenFrame) (kept′ : List ℕ) : Type 0 where
   pub line : lineOf r kept′ ≡ l
   pub bytes : kept′ ≡ put kept 0 (l .kept)
   pub few : r .len ≤ 135
 
 -- the frame that the next character goes on with
-pub record Starts (f r : Frame) : Type 0 where
+pub record Starts (f r : OpenFrame) : Type 0 where
   pub line : (kept : List ℕ) → lineOf r kept ≡ pick (f .begun) (lineOf f kept) meaning.none
   pub few : f .len ≤ 135 → r .len ≤ 135

@@ -11,7 +11,7 @@ use crate::stamps::gap;
 
 // Whether a frame is open, the stamp of its last character, how many of its bytes are kept, the XOR of all of them, whether more than
 // 135 came, and whether a character had a parity fault.
-pub struct Frame {
+pub struct OpenFrame {
     pub begun: bool,
     pub last: u32,
     pub len: u8,
@@ -20,11 +20,11 @@ pub struct Frame {
     pub parity: bool,
 }
 
-impl Frame {
-    pub fn none() -> Frame
+impl OpenFrame {
+    pub fn none() -> OpenFrame
         ensures { λ r. ⌜ r ≡ noFrame ⌝ }
     {
-        Frame {
+        OpenFrame {
             begun: false,
             last: 0,
             len: 0,
@@ -49,19 +49,19 @@ impl Frame {
     }
 }
 
-impl Frame {
+impl OpenFrame {
     // With no frame open a character starts from an empty one, whatever the unused numbers say.
-    fn current(self) -> Frame
+    fn current(self) -> OpenFrame
         ensures { λ r. ⌜ Starts self r ⌝ }
     {
         if self.begun {
             return self;
         }
-        Frame::none()
+        OpenFrame::none()
     }
 
     // 01, "Up to 135 bytes are kept; of a longer frame the XOR of all its bytes, the fact that it is longer and any parity fault".
-    fn push(self, tick: u32, value: u8, parity: bool, kept: &mut [u8]) -> Frame
+    fn push(self, tick: u32, value: u8, parity: bool, kept: &mut [u8]) -> OpenFrame
         requires { ⌜ Fits self (now kept) ⌝ }
         ensures { λ r. ⌜ Extends (more (lineOf self (now (kept .entry))) tick value parity) (now (kept .entry)) r (now (kept .exit)) ⌝ }
     {
@@ -82,7 +82,7 @@ impl Frame {
     }
 
     // One more character: where there is room its byte goes to the next of the lent places.
-    pub fn with_character(self, tick: u32, value: u8, parity: bool, kept: &mut [u8]) -> Frame
+    pub fn with_character(self, tick: u32, value: u8, parity: bool, kept: &mut [u8]) -> OpenFrame
         requires { ⌜ Fits self (now kept) ⌝ }
         ensures { λ r. ⌜ Extends (more (pick (self .begun) (lineOf self (now (kept .entry))) none) tick value parity) (now (kept .entry)) r (now (kept .exit)) ⌝ }
     {

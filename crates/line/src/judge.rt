@@ -7,7 +7,7 @@ ghost use Rattle.meaning.specs.Characters.{closed};
 ghost use Rattle.meaning.specs.Frames.{dataOf};
 ghost use Rattle.line.specs.Line.{lineOf, Fits};
 ghost use Rattle.line.specs.Judge.{judgementOf, addressed};
-use crate::characters::Frame;
+use crate::characters::OpenFrame;
 
 // The codes of steps 2 to 6.
 const PARITY_FAULT: u8 = 0x09;
@@ -51,7 +51,7 @@ fn count_of(len: u8, kept: &[u8]) -> u8
     kept[4]
 }
 
-impl Frame {
+impl OpenFrame {
     // `own` is the board's own address byte; FFh is the broadcast.
     pub fn judged(self, own: u8, kept: &[u8]) -> Judgement
         requires { ⌜ Fits self (now kept) ⌝ }
@@ -74,12 +74,12 @@ impl Frame {
             return Judgement::Fault(TOO_LONG);
         }
         let command = kept[1];
-        let row = frame::row_of(command);
+        let row = wire::row_of(command);
         let wanted = row.request;
         if !row.known {
             return Judgement::Fault(UNKNOWN_COMMAND);
         }
-        if !frame::length_fits(wanted, count_of(len, kept), (len - 3) as usize) {
+        if !wire::length_fits(wanted, count_of(len, kept), (len - 3) as usize) {
             return Judgement::Fault(WRONG_LENGTH);
         }
         Judgement::Request(command)

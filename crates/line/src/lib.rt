@@ -4,7 +4,7 @@ mod judge;
 mod plate;
 mod stamps;
 
-pub use characters::Frame;
+pub use characters::OpenFrame;
 pub use judge::Judgement;
 pub use plate::Plate;
 pub use plate::own_byte;

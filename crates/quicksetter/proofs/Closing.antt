@@ -11,21 +11,21 @@ use lib.Seq.{take-at, take-take, drop-drop}
 use Rattle.meaning.specs.Bytes.{pick, both, put, arg}
 use Rattle.meaning.specs.State as meaning
 use Rattle.meaning.specs.State.{Plate, Line, none, withLine, stateOk, ownByte}
-use Rattle.meaning.specs.Fields.{imageLength}
+use Rattle.meaning.specs.Fields.{memoryLength}
 use Rattle.meaning.specs.Characters.{over, more, taken, closed}
 use Rattle.meaning.specs.Frames.{Outcome, dataOf, still, upTo}
 use Rattle.meaning.specs.Run.{Call, character, poll, Held, step, called, lends, refusedBy}
 use Rattle.meaning.proofs.Choices.{both-left, pick-same}
 use Rattle.meaning.proofs.Puts.{length-put}
 use Rattle.line.specs.declared.plate.Plate as line
-use Rattle.line.specs.declared.characters.Frame.{Frame}
+use Rattle.line.specs.declared.characters.OpenFrame.{OpenFrame}
 use Rattle.line.specs.Line.{plateOf, lineOf, noFrame, Fits}
 use Rattle.line.specs.declared.judge.Judgement.the-variants.{Request}
 use Rattle.line.specs.Judge.{judgementOf}
-use Rattle.frame.specs.declared.answer.Answer.the-variants.{Refuse}
-use Rattle.commands.specs.declared.state.State.{State}
-use Rattle.commands.specs.State.{stateWith}
-use Rattle.commands.proofs.Answering.{put-nothing}
+use Rattle.wire.specs.declared.answer.Answer.the-variants.{Refuse}
+use Rattle.state.specs.declared.state.State.{State}
+use Rattle.state.specs.State.{stateWith}
+use Rattle.state.proofs.Answering.{put-nothing}
 use Rattle.board.specs.declared.limits.Outcome.the-variants.{Over}
 use Rattle.board.specs.declared.limits.Stepped.{Stepped}
 use Rattle.board.specs.declared.closing.Closed.{Closed}
@@ -47,7 +47,7 @@ module _ (p : Plate) (img m w : List ℕ) (u : Unrefused p img (length m) (lengt
 
   free : (g : Call) → refusedBy p (heldIn img) m (length w) g ≡ 0
   unfolding refusedBy
-  free g = rw (u .plate, u .state, eq-eqb (length m) (imageLength (p .total)) (u .size), le-ltb (length w) 134 (u .wide)) (pick-same (lends g) 0)
+  free g = rw (u .plate, u .state, eq-eqb (length m) (memoryLength (p .total)) (u .size), le-ltb (length w) 134 (u .wide)) (pick-same (lends g) 0)
 
   abbrev done : Call → Outcome
   done g = step p (heldIn img) m g
@@ -82,7 +82,7 @@ module _ (p : Plate) (img m w : List ℕ) (u : Unrefused p img (length m) (lengt
   fits = record { few = few; all = kept-length img all }
 
   -- the frame is closed and put away
-  closed-over : (tick : ℕ) {c : Closed} {f : Frame} {m′ w′ img′ : List ℕ} → over p (heldIn img) tick ≡ true → f ≡ noFrame
+  closed-over : (tick : ℕ) {c : Closed} {f : OpenFrame} {m′ w′ img′ : List ℕ} → over p (heldIn img) tick ≡ true → f ≡ noFrame
       → Closes p (stateIn img) (frameIn img) (keptIn img) m w c m′ w′ → PutsBoard (c .state) f img img′ → Polls p img m w tick (c .sent) img′ m′ w′
   unfolding refusalOn fitsIn
   closed-over tick {c} {f} {m′} {w′} {img′} o e h q =
@@ -96,7 +96,7 @@ module _ (p : Plate) (img m w : List ℕ) (u : Unrefused p img (length m) (lengt
       }
 
   -- .. from the image that holds the state after it
-  pub put-away : (tick : ℕ) {f : Frame} {r : ℕ} {m′ w′ mid img′ : List ℕ} → over p (heldIn img) tick ≡ true → f ≡ noFrame → ClosedIn p img m w r mid m′ w′ → PutsFrame f mid img′
+  pub put-away : (tick : ℕ) {f : OpenFrame} {r : ℕ} {m′ w′ mid img′ : List ℕ} → over p (heldIn img) tick ≡ true → f ≡ noFrame → ClosedIn p img m w r mid m′ w′ → PutsFrame f mid img′
       → Polls p img m w tick r img′ m′ w′
   put-away tick {f} {r} {m′} {w′} {mid} {img′} o e a q =
       closed-over tick {c = record { state = stateIn mid; sent = r }} o e (a .closes) (puts-board (stateIn mid) f img all (a .state) q)
@@ -167,7 +167,7 @@ module _ (p : Plate) (c : ℕ) (d img m w : List ℕ) {r : ℕ} {w′ : List ℕ
   ordered-in h q = record { serves = rw (q .holds) h; state = rw (q .holds) q }
 
 -- a frame whose close leaves the state
-pub still-in : (p : Plate) (img m w : List ℕ) {f : Frame} {r : ℕ} {m′ w′ : List ℕ} → f ≡ frameIn img → isImage img ≡ true → ((i : ℕ) → arg img i < 256)
+pub still-in : (p : Plate) (img m w : List ℕ) {f : OpenFrame} {r : ℕ} {m′ w′ : List ℕ} → f ≡ frameIn img → isImage img ≡ true → ((i : ℕ) → arg img i < 256)
     → Closes p (stateIn img) f (keptIn img) m w (record { state = stateIn img; sent = r }) m′ w′ → ClosedIn p img m w r img m′ w′
 still-in p img m w a e small h = record { closes = rw a at h; state = state-there img e small }
 
@@ -198,7 +198,7 @@ module _ (p : line.Plate) (img m w : List ℕ) (u : Unrefused (plateOf p) img (l
   pub code-sendable : (code : ℕ) → Sendable p 0x50 (Refuse code) w
   code-sendable code = error-sendable p (stateIn img) (frameIn img) (keptIn img) m w (ready p img m w u) code (u .wide)
 
-  module _ {f : Frame} (e : f ≡ frameIn img) where
+  module _ {f : OpenFrame} (e : f ≡ frameIn img) where
     ready-now : Ready p (stateIn img) f (keptIn img) m w
     ready-now = rw e (ready p img m w u)
 

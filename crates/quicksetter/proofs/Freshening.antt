@@ -10,11 +10,11 @@ use lib.ListN.{length, take, drop, length-replicate}
 use lib.Seq.{take-at, drop-at, length-take-le}
 use Rattle.meaning.specs.Bytes.{part, put, zeros, little}
 use Rattle.meaning.specs.State.{Plate, none, plateOk, fresh}
-use Rattle.commands.specs.declared.state.State.{State}
-use Rattle.commands.specs.State.{stateWith}
-use Rattle.commands.specs.Queue.{queueOf, waiting}
-use Rattle.commands.proofs.Answering.{put-nothing}
-use Rattle.line.specs.declared.characters.Frame.{Frame}
+use Rattle.state.specs.declared.state.State.{State}
+use Rattle.state.specs.State.{stateWith}
+use Rattle.state.specs.Queue.{queueOf, waiting}
+use Rattle.state.proofs.Answering.{put-nothing}
+use Rattle.line.specs.declared.characters.OpenFrame.{OpenFrame}
 use Rattle.line.specs.Line.{noFrame}
 use Rattle.image.specs.Image.{flagByte, stateIn, frameIn, keptIn, heldIn, stateBytes, lineBytes, frameRow, frameBytes, imageOf, PutsBoard}
 use Rattle.image.proofs.Standing.{put-whole}
@@ -45,7 +45,7 @@ module _ (p : Plate) (img : List ℕ) where
   nothing-long : length (zeros 135) ≡ 135
   nothing-long = length-replicate {A = ℕ} 135 0
 
-  pub freshened : {s : State} {f : Frame} {after img′ : List ℕ} → plateOk p ≡ true → length img ≡ 165
+  pub freshened : {s : State} {f : OpenFrame} {after img′ : List ℕ} → plateOk p ≡ true → length img ≡ 165
       → after ≡ put (take 135 (drop 30 img)) 0 (zeros 135) → ((q : Plate) → stateWith s none ≡ fresh q) → f ≡ noFrame
       → PutsBoard s f (take 30 img ++ (after ++ drop 135 (drop 30 img))) img′ → Freshens p img 0 img′
   unfolding freshOk imageOf

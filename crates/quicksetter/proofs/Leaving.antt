@@ -15,10 +15,10 @@ use Rattle.meaning.specs.Characters.{over}
 use Rattle.meaning.specs.Frames.{Outcome, still, upTo}
 use Rattle.meaning.specs.Run.{Call, character, poll, measured, fault, power-on, Held, step, called, closes, refusedBy}
 use Rattle.meaning.proofs.Puts.{length-put}
-use Rattle.line.specs.declared.characters.Frame.{Frame}
+use Rattle.line.specs.declared.characters.OpenFrame.{OpenFrame}
 use Rattle.line.specs.Line.{lineOf}
-use Rattle.commands.specs.declared.state.State.{State}
-use Rattle.commands.specs.State.{stateWith}
+use Rattle.state.specs.declared.state.State.{State}
+use Rattle.state.specs.State.{stateWith}
 use Rattle.board.specs.declared.limits.Board.{Board}
 use Rattle.board.specs.declared.limits.Outcome as code
 use Rattle.board.specs.declared.limits.Outcome.the-variants.{Refused, Still, Over}
@@ -117,7 +117,7 @@ module _ (p : Plate) (img m w : List ℕ) (g : Call) where
       served-call : eqb (h .refusal) 0 ≡ true → r ≡ h .count → PutsBoard (t .board .state) (t .board .frame) back img′ → Called p img m w g r img′ m′ w′
       unfolding numberOf imageAfter imageOf
       served-call q a b =
-          let f : Frame = t .board .frame in
+          let f : OpenFrame = t .board .frame in
           let few : f .len ≤ 135 = st .few (ap (λ (x : Held). x .refusal) on-board ∙ eqb-true (h .refusal) 0 q) in
           let l : take (f .len) kept ≡ h .state .line .kept = ap (λ (x : meaning.State). x .line .kept) after in
           let low : length (h .state .line .kept) ≤ 135 = rw (← l) (rw length-take (omega arith)) in
@@ -171,6 +171,6 @@ pub for-note : {p : Plate} {b : Board} {t : Stepped} {n x : Note} → n ≡ x
 for-note {p} {b} {t} e q = subst (λ (v : Note). (k y z : List ℕ) → length k ≡ 135 → Steps p b k y z (callFor v) t k y z) (sym e) q
 
 -- the frame's test, of the state that the image holds
-pub over-in : (p : Plate) (img : List ℕ) (tick : ℕ) {f : Frame} {r : Bool} → f ≡ frameIn img
+pub over-in : (p : Plate) (img : List ℕ) (tick : ℕ) {f : OpenFrame} {r : Bool} → f ≡ frameIn img
     → ((s : meaning.State) (kept : List ℕ) → s .line ≡ lineOf f kept → r ≡ over p s tick) → r ≡ over p (heldIn img) tick
-over-in p img tick e o = o (heldIn img) (keptIn img) (ap (λ (x : Frame). lineOf x (keptIn img)) (sym e))
+over-in p img tick e o = o (heldIn img) (keptIn img) (ap (λ (x : OpenFrame). lineOf x (keptIn img)) (sym e))

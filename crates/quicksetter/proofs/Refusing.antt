@@ -9,13 +9,13 @@ use lib.Dec.{eqb, leb, ltb}
 use lib.ListN.{length, take, length-take}
 use Rattle.meaning.specs.Bytes.{arg, both, either}
 use Rattle.meaning.specs.State.{Plate, plateOk, stateOk, apart}
-use Rattle.meaning.specs.Fields.{imageLength}
+use Rattle.meaning.specs.Fields.{memoryLength}
 use Rattle.meaning.specs.Run.{Call, character, poll, lends, Held, called, refusedBy}
 use Rattle.meaning.proofs.Choices.{both-left, both-right}
-use Rattle.frame.proofs.Numbers.{low-first, little-at}
+use Rattle.wire.proofs.Numbers.{low-first, little-at}
 use Rattle.line.specs.Line.{lineOf}
-use Rattle.commands.specs.Queue.{waiting, queueOf}
-use Rattle.commands.proofs.States.{within}
+use Rattle.state.specs.Queue.{waiting, queueOf}
+use Rattle.state.proofs.States.{within}
 use Rattle.image.specs.Image.{numberAt, isImage, stateIn, frameIn, keptIn, heldIn}
 use Rattle.image.proofs.Parts.{kept-length}
 use Rattle.image.proofs.Round.{good}
@@ -120,14 +120,14 @@ module _ (p : Plate) (img m w : List ℕ) (g : Call) (h : possible p img ≡ tru
     pub other-size : lends g ≡ true → (length m ≡ 16 * p .total + p .total → ⊥) → Called p img m w g 258 img m w
     unfolding refusedBy
     other-size l n =
-        let z : eqb (length m) (imageLength (p .total)) ≡ false = ne-eqb _ _ n in
+        let z : eqb (length m) (memoryLength (p .total)) ≡ false = ne-eqb _ _ n in
         refused-call p img m w g 2 refl (an-image p img h) (rw (good-plate, good-state, l, z))
 
     module _ (size : length m ≡ 16 * p .total + p .total) where
       pub too-narrow : lends g ≡ true → length w < 134 → Called p img m w g 259 img m w
       unfolding refusedBy
       too-narrow l n =
-          let z : eqb (length m) (imageLength (p .total)) ≡ true = eq-eqb _ _ size in
+          let z : eqb (length m) (memoryLength (p .total)) ≡ true = eq-eqb _ _ size in
           refused-call p img m w g 3 refl (an-image p img h) (rw (good-plate, good-state, l, z, lt-ltb (length w) 134 n))
 
       pub unrefused : 134 ≤ length w → Unrefused p img (length m) (length w)

@@ -8,7 +8,7 @@ use lib.ListN.{length, length-replicate}
 use Rattle.meaning.specs.Bytes.{pick, zeros}
 use Rattle.meaning.specs.State as meaning
 use Rattle.meaning.specs.State.{Plate, fresh}
-use Rattle.meaning.specs.Fields.{imageLength}
+use Rattle.meaning.specs.Fields.{memoryLength}
 use Rattle.meaning.specs.Frames.{Outcome, still}
 use Rattle.meaning.specs.Run.{Call, step, refusedBy, runFrom, run, traffic}
 use Rattle.meaning.specs.Ledger.{Agrees}
@@ -21,7 +21,7 @@ use Rattle.quicksetter.proofs.Theorems.{qs-steps}
 use Rattle.quicksetter.proofs.Staying.{Holds, unrefused, was-fresh, starts, goes-on}
 
 stays : (p : Plate) (gs : List Call) (img m x : List ℕ) → Ran p gs img m x → Holds p img m
-stays p _ img m _ (began old _ f) = starts p old img m f (length-replicate {A = ℕ} (imageLength (p .total)) 0)
+stays p _ img m _ (began old _ f) = starts p old img m f (length-replicate {A = ℕ} (memoryLength (p .total)) 0)
 stays p _ img m _ (called gs img₀ m₀ x w g r _ _ w′ h wide c) = goes-on p img₀ m₀ w g r img m w′ (stays p gs img₀ m₀ x h) wide c
 
 pub qs-runs : QsRuns

@@ -10,7 +10,7 @@ use lib.ListN.{length, length-replicate}
 use Rattle.meaning.specs.Bytes.{pick, put, zeros}
 use Rattle.meaning.specs.State as meaning
 use Rattle.meaning.specs.State.{Plate, plateOk, stateOk, fresh, none}
-use Rattle.meaning.specs.Fields.{imageLength}
+use Rattle.meaning.specs.Fields.{memoryLength}
 use Rattle.meaning.specs.Run.{Call, step, lends, refusedBy}
 use Rattle.meaning.proofs.Calls.{served-otherwise}
 use Rattle.meaning.proofs.Choices.{told-true, true-told, pick-same, both-left}
@@ -42,18 +42,18 @@ pub record Holds (p : Plate) (img m : List ℕ) : Type 0 where
   pub plate : plateOk p ≡ true
   pub image : isImage img ≡ true
   pub state : stateOk p (heldIn img) ≡ true
-  pub size : length m ≡ imageLength (p .total)
+  pub size : length m ≡ memoryLength (p .total)
 
 pub unrefused : (p : Plate) (img m : List ℕ) (n : ℕ) (g : Call) → Holds p img m → 134 ≤ n → refusedBy p (heldIn img) m n g ≡ 0
 unfolding refusedBy
-unrefused p img m n g h wide = rw (h .plate, h .state, eq-eqb (length m) (imageLength (p .total)) (h .size), le-ltb n 134 wide) (pick-same (lends g) 0)
+unrefused p img m n g h wide = rw (h .plate, h .state, eq-eqb (length m) (memoryLength (p .total)) (h .size), le-ltb n 134 wide) (pick-same (lends g) 0)
 
 -- a fresh image
 pub was-fresh : (b : Bool) → _≡_ {A = ℕ} 0 (pick b 0 257) → b ≡ true
 was-fresh true e = refl
 was-fresh false e = absurd (false≢true (ap (λ (n : ℕ). eqb n 257) e))
 
-pub starts : (p : Plate) (old img m : List ℕ) → Freshens p old 0 img → length m ≡ imageLength (p .total) → Holds p img m
+pub starts : (p : Plate) (old img m : List ℕ) → Freshens p old 0 img → length m ≡ memoryLength (p .total) → Holds p img m
 unfolding freshOk fresh none
 starts p old img m f l =
     let k : freshOk p old ≡ true = was-fresh (freshOk p old) (f .answer) in

@@ -5,7 +5,7 @@ use Prim.Native.Nat.{ℕ}
 use Rattle.meaning.specs.State.{Plate}
 use Rattle.meaning.specs.Run.{Call}
 use Rattle.meaning.specs.Bench as meaning
-use Rattle.frame.proofs.Tight.{same-outcome}
+use Rattle.wire.proofs.Tight.{same-outcome}
 use Rattle.quicksetter.specs.declared.replies.Piece.{Piece}
 use Rattle.quicksetter.specs.Calls.{Called, Freshens}
 use Rattle.quicksetter.specs.Verdicts.{Writes, verdictNumber, pieceFrom}

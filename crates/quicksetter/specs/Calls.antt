@@ -7,7 +7,7 @@ use lib.Dec.{eqb, leb, ltb}
 use lib.ListN.{length, take, drop}
 use Rattle.meaning.specs.Bytes.{pick, both, zeros}
 use Rattle.meaning.specs.State as meaning
-use Rattle.meaning.specs.Fields.{imageLength}
+use Rattle.meaning.specs.Fields.{memoryLength}
 use Rattle.meaning.specs.Run.{Call, poll, measured, fault, power-on, Held, called}
 use Rattle.line.specs.declared.plate.Plate.{Plate}
 use Rattle.board.specs.declared.limits.Board.{Board}
@@ -69,7 +69,7 @@ pub record Unrefused (p : meaning.Plate) (img : List ℕ) (memory room : ℕ) : 
   pub image : isImage img ≡ true
   pub plate : meaning.plateOk p ≡ true
   pub state : meaning.stateOk p (heldIn img) ≡ true
-  pub size : memory ≡ imageLength (p .total)
+  pub size : memory ≡ memoryLength (p .total)
   pub wide : 134 ≤ room
 
 -- the data of a kept request that ends before a place of the image

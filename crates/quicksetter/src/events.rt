@@ -8,7 +8,7 @@ ghost use Rattle.meaning.specs.State.{apart};
 ghost use Rattle.meaning.specs.Characters.{over};
 ghost use Rattle.meaning.specs.Run as run;
 ghost use Rattle.line.specs.Line.{plateOf};
-ghost use Rattle.commands.specs.Queue.{queueOf};
+ghost use Rattle.state.specs.Queue.{queueOf};
 ghost use Rattle.image.specs.Image.{stateIn, heldIn};
 ghost use Rattle.quicksetter.specs.Calls.{plateFrom, possible, dataTo, Called, Unrefused, Servable, ServedIn, ClosedIn, Polls};
 use crate::answer::REFUSED;
@@ -18,8 +18,8 @@ use image::KEPT;
 use image::LENGTH;
 use image::OFFSET;
 use image::WAITING;
-use line::Frame;
 use line::Judgement;
+use line::OpenFrame;
 use line::Plate;
 
 // Where the data of the kept request starts.
@@ -32,14 +32,14 @@ fn is_possible(image: &[u8], total: u32, bits: u32, address: u32, ticks: u32, pa
     if !image::is_image(image) {
         return false;
     }
-    if 0xFFFFFF < frame::number_at(image, COUNTER) {
+    if 0xFFFFFF < wire::number_at(image, COUNTER) {
         return false;
     }
     let plate = plate_from(total, bits, address, ticks, pause);
     if !plate.is_ok() {
         return false;
     }
-    if commands::size(bits) <= frame::number_at(image, OFFSET) as u64 {
+    if state::size(bits) <= wire::number_at(image, OFFSET) as u64 {
         return false;
     }
     true
@@ -50,7 +50,7 @@ fn is_sound(image: &[u8]) -> bool
     requires { ⌜ 165 ≤ length (now image) ⌝ }
     ensures { λ r. ⌜ r ≡ apart (queueOf (stateIn (now (image .entry)) .faults)) ⌝ }
 {
-    if frame::number_at(image, WAITING) == 0 {
+    if wire::number_at(image, WAITING) == 0 {
         return true;
     }
     let state = image::state_in(image);
@@ -144,7 +144,7 @@ fn shut(
         → Polls (plateOf (plateFrom total bits address ticks pause)) (now (image .entry)) (now (memory .entry)) (now (room .entry)) tick r (now (image .exit)) (now (memory .exit)) (now (room .exit))) ⌝ }
 {
     let sent = answered(image, total, bits, address, ticks, pause, memory, room);
-    image::put_frame(Frame::none(), image);
+    image::put_frame(OpenFrame::none(), image);
     sent
 }
 

@@ -13,11 +13,11 @@ use crate::given::board_in;
 use crate::given::plate_from;
 use board::Board;
 use board::Stepped;
-use commands::State;
 use image::KEPT;
 use image::LENGTH;
-use line::Frame;
+use line::OpenFrame;
 use line::Plate;
+use state::State;
 
 // Every byte of the image is written, so what stood there before does not matter.
 #[no_mangle]
@@ -39,8 +39,8 @@ pub extern "C" fn qs_fresh(
         return REFUSED + 1;
     }
     let places = [0u8; 135];
-    frame::fill(&places, &mut image[KEPT..LENGTH]);
-    image::put_board(State::fresh(), Frame::none(), image);
+    wire::fill(&places, &mut image[KEPT..LENGTH]);
+    image::put_board(State::fresh(), OpenFrame::none(), image);
     0
 }
 

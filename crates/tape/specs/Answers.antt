@@ -4,7 +4,7 @@ use mathlib.Core.List.{List, [], _∷_, _++_}
 use lib.ListN.{length, drop}
 use Rattle.meaning.specs.Bytes.{pick, zeros}
 use Rattle.meaning.specs.State.{Plate, State, plateOk, fresh}
-use Rattle.meaning.specs.Fields.{imageLength}
+use Rattle.meaning.specs.Fields.{memoryLength}
 use Rattle.meaning.specs.Run.{Call, character, poll, measured, fault, power-on, step}
 use Rattle.tape.specs.Records.{wholeLength, recordAt}
 use Rattle.tape.specs.Kinds.{Said, plate, call, unfit, saidBy}
@@ -34,7 +34,7 @@ bad at = record { stage = ended; printed = badLine at }
 
 -- 01, "a refused plate"; a board starts fresh, with blank memory
 unfoldable pub begun : ℕ → Plate → Turn
-begun at p = pick (plateOk p) (record { stage = running p (fresh p) (zeros (imageLength (p .total))); printed = [] }) (bad at)
+begun at p = pick (plateOk p) (record { stage = running p (fresh p) (zeros (memoryLength (p .total))); printed = [] }) (bad at)
 
 unfoldable pub stepped : Plate → State → List ℕ → Call → Turn
 stepped p s m g =

@@ -60,7 +60,7 @@ fn character_in(s: &[u8], start: usize, n: usize) -> Event
     if n != 6 {
         return Event::Unfit;
     }
-    let tick = frame::number_at(s, start);
+    let tick = wire::number_at(s, start);
     let value = s[start + 4];
     let fault = s[start + 5];
     if 1 < fault {
@@ -81,7 +81,7 @@ fn poll_in(s: &[u8], start: usize, n: usize) -> Event
         return Event::Unfit;
     }
     Event::Poll {
-        tick: frame::number_at(s, start),
+        tick: wire::number_at(s, start),
     }
 }
 
@@ -93,7 +93,7 @@ fn measured_in(s: &[u8], start: usize, n: usize) -> Event
         return Event::Unfit;
     }
     Event::Measured {
-        position: frame::number_at(s, start),
+        position: wire::number_at(s, start),
     }
 }
 

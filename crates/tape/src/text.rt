@@ -96,7 +96,7 @@ fn copy(s: &[u8], room: &mut [u8], at: usize) -> usize
     requires { ⌜ at + length (now s) ≤ length (now room) ⌝ }
     ensures { λ r. ⌜ Printed (now (s .entry)) (now (room .entry)) at r (now (room .exit)) ⌝ }
 {
-    frame::fill(s, &mut room[at..]);
+    wire::fill(s, &mut room[at..]);
     at + s.len()
 }
 

@@ -9,12 +9,12 @@ use lib.ListN.{length, take}
 use Rattle.meaning.specs.Bytes.{put}
 use Rattle.meaning.specs.State as meaning
 use Rattle.meaning.specs.State.{fresh}
-use Rattle.frame.proofs.Tight.{one-outcome}
+use Rattle.wire.proofs.Tight.{one-outcome}
 use Rattle.line.specs.declared.plate.Plate.{Plate}
-use Rattle.line.specs.declared.characters.Frame.{Frame}
+use Rattle.line.specs.declared.characters.OpenFrame.{OpenFrame}
 use Rattle.line.specs.Line.{plateOf, lineOf}
 use Rattle.line.proofs.Tight.{same-line-same-frame, put-long}
-use Rattle.commands.specs.declared.state.State.{State}
+use Rattle.state.specs.declared.state.State.{State}
 use Rattle.board.specs.declared.limits.Board.{Board}
 use Rattle.board.specs.Board.{stateOf}
 use Rattle.board.proofs.Promises.{same-state-same-board}
@@ -55,8 +55,8 @@ stateIn s ended = s
 pub not-both : true ≡ false → ⊥
 not-both e = subst (λ (b : Bool). T b) e tt
 
-module _ (p : Plate) (f : Frame) (kept : List ℕ) (x : Said) (s : State) (all : length kept ≡ 135) where
-  quiet-tight : {g h : Frame} {k l : List ℕ} → Quiet p f kept x g k → Quiet p f kept x h l → (g ≡ h) × (k ≡ l)
+module _ (p : Plate) (f : OpenFrame) (kept : List ℕ) (x : Said) (s : State) (all : length kept ≡ 135) where
+  quiet-tight : {g h : OpenFrame} {k l : List ℕ} → Quiet p f kept x g k → Quiet p f kept x h l → (g ≡ h) × (k ≡ l)
   quiet-tight {g} {h} {k} {l} a b =
       let t = ap (λ (y : Turn). stateIn (fresh (plateOf p)) (y .stage)) (sym (a .turned s [] 0) ∙ b .turned s [] 0) in
       let line : lineOf g k ≡ lineOf h l = ap (λ (y : meaning.State). y .line) t in

@@ -18,10 +18,10 @@ use Rattle.meaning.specs.Run.{Call, character, poll, measured, fault, power-on,
 use Rattle.meaning.proofs.Limits.{keeps-limits, replies-fit}
 use Rattle.meaning.proofs.Puts.{length-put, put-front}
 use Rattle.line.specs.declared.plate.Plate.{Plate}
-use Rattle.line.specs.declared.characters.Frame.{Frame}
+use Rattle.line.specs.declared.characters.OpenFrame.{OpenFrame}
 use Rattle.line.specs.Line.{plateOf, lineOf, Extends, Fits}
-use Rattle.commands.specs.declared.state.State.{State}
-use Rattle.commands.specs.State.{stateWith}
+use Rattle.state.specs.declared.state.State.{State}
+use Rattle.state.specs.State.{stateWith}
 use Rattle.board.specs.declared.limits.Board.{Board}
 use Rattle.board.specs.declared.limits.Outcome.the-variants.{Over, Still}
 use Rattle.board.specs.declared.limits.Stepped.{Stepped}
@@ -55,7 +55,7 @@ silent-still p s m (fault c) e = refl
 silent-still p s m power-on e = refl
 
 -- a character that closes no frame
-module _ (p : Plate) (f g : Frame) (kept kept′ : List ℕ) (t v : ℕ) (bad : Bool)
+module _ (p : Plate) (f g : OpenFrame) (kept kept′ : List ℕ) (t v : ℕ) (bad : Bool)
     (stays : (s : State) → over (plateOf p) (stateWith s (lineOf f kept)) t ≡ false)
     (grown : Extends (more (pick (f .begun) (lineOf f kept) none) t v bad) kept g kept′) (lent : length kept′ ≡ 135) where
   -- the meaning's step
@@ -85,7 +85,7 @@ module _ (p : Plate) (f g : Frame) (kept kept′ : List ℕ) (t v : ℕ) (bad : 
 front-stays : (n : ℕ) (l : List ℕ) → n ≤ length l → l ≡ put l 0 (take n l)
 front-stays n l h = rw (put-front l (take n l), length-take-le n l h) (sym (take-append-drop n l))
 
-module _ (p : Plate) (f : Frame) (kept : List ℕ) (t : ℕ) (fits : Fits f kept) (stays : (s : State) → over (plateOf p) (stateWith s (lineOf f kept)) t ≡ false) where
+module _ (p : Plate) (f : OpenFrame) (kept : List ℕ) (t : ℕ) (fits : Fits f kept) (stays : (s : State) → over (plateOf p) (stateWith s (lineOf f kept)) t ≡ false) where
   pub quiet-poll : Quiet p f kept (call (poll t)) f kept
   unfolding turn stepped printedOf step upTo still closes
   quiet-poll = record {

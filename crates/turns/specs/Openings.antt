@@ -7,7 +7,7 @@ use lib.ListN.{length}
 use Rattle.meaning.specs.Bytes.{pick, zeros}
 use Rattle.meaning.specs.State as meaning
 use Rattle.meaning.specs.State.{plateOk, fresh}
-use Rattle.meaning.specs.Fields.{imageLength}
+use Rattle.meaning.specs.Fields.{memoryLength}
 use Rattle.line.specs.declared.plate.Plate.{Plate}
 use Rattle.line.specs.Line.{plateOf}
 use Rattle.tape.specs.Records.{wholeLength}
@@ -35,7 +35,7 @@ openedBy (tells x next) = begunBy x next
 pub record Begins (window : List ℕ) (p : Plate) (next : ℕ) (x : Said) : Type 0 where
   pub good : plateOk (plateOf p) ≡ true
   pub heard : passes.heard window ≡ passes.said x
-  pub turned : (place : ℕ) → turn opening place x ≡ record { stage = running (plateOf p) (fresh (plateOf p)) (zeros (imageLength (p .total))); printed = [] }
+  pub turned : (place : ℕ) → turn opening place x ≡ record { stage = running (plateOf p) (fresh (plateOf p)) (zeros (memoryLength (p .total))); printed = [] }
   pub whole : next ≡ wholeLength window
   pub inside : next ≤ length window
 

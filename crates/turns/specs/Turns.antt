@@ -9,10 +9,10 @@ use Rattle.meaning.specs.State as meaning
 use Rattle.meaning.specs.Characters.{over}
 use Rattle.meaning.specs.Run.{Call, character, poll, measured, fault, power-on, step}
 use Rattle.line.specs.declared.plate.Plate.{Plate}
-use Rattle.line.specs.declared.characters.Frame.{Frame}
+use Rattle.line.specs.declared.characters.OpenFrame.{OpenFrame}
 use Rattle.line.specs.Line.{plateOf, lineOf}
-use Rattle.commands.specs.declared.state.State.{State}
-use Rattle.commands.specs.State.{stateWith}
+use Rattle.state.specs.declared.state.State.{State}
+use Rattle.state.specs.State.{stateWith}
 use Rattle.board.specs.declared.limits.Board.{Board}
 use Rattle.board.specs.declared.limits.Outcome.{Outcome}
 use Rattle.board.specs.declared.limits.Outcome.the-variants.{Refused, Still, Over}
@@ -36,7 +36,7 @@ pub record Sound (p : Plate) (b : Board) (kept m w : List ℕ) : Type 0 where
   pub room : 134 ≤ length w
 
 -- a stage of a running board
-abbrev pub runs : Plate → State → Frame → List ℕ → List ℕ → Stage
+abbrev pub runs : Plate → State → OpenFrame → List ℕ → List ℕ → Stage
 runs p s f kept m = running (plateOf p) (stateWith s (lineOf f kept)) m
 
 -- the reply that a record brings, and the bytes that a stage keeps of an open frame
@@ -75,7 +75,7 @@ quickly p s unfit = false
 
 -- a record that closes no frame: whatever state, memory and place, the turn prints nothing and leaves the frame f. Places past the kept bytes
 -- are untouched
-pub record Quiet (p : Plate) (f₀ : Frame) (kept : List ℕ) (x : Said) (f : Frame) (kept′ : List ℕ) : Type 0 where
+pub record Quiet (p : Plate) (f₀ : OpenFrame) (kept : List ℕ) (x : Said) (f : OpenFrame) (kept′ : List ℕ) : Type 0 where
   pub quick : (s : State) → quickly (plateOf p) (stateWith s (lineOf f₀ kept)) x ≡ true
   pub turned : (s : State) (m : List ℕ) (place : ℕ) → turn (runs p s f₀ kept m) place x ≡ record { stage = runs p s f kept′ m; printed = [] }
   pub silent : (s : State) (m : List ℕ) → replyTo (runs p s f₀ kept m) x ≡ []
@@ -84,11 +84,11 @@ pub record Quiet (p : Plate) (f₀ : Frame) (kept : List ℕ) (x : Said) (f : Fr
   pub within : (s : State) (m : List ℕ) → Within (plateOf p) (record { state = s; frame = f₀ }) kept m → Within (plateOf p) (record { state = s; frame = f }) kept′ m
 
 -- any other
-pub record Waits (p : Plate) (f : Frame) (kept : List ℕ) (x : Said) (kept′ : List ℕ) : Type 0 where
+pub record Waits (p : Plate) (f : OpenFrame) (kept : List ℕ) (x : Said) (kept′ : List ℕ) : Type 0 where
   pub slow : (s : State) → quickly (plateOf p) (stateWith s (lineOf f kept)) x ≡ false
   pub bytes : kept′ ≡ kept
 
-abbrev pub Quickens : Plate → Frame → List ℕ → Said → Pace → List ℕ → Type 0
+abbrev pub Quickens : Plate → OpenFrame → List ℕ → Said → Pace → List ℕ → Type 0
 Quickens p f kept x (Went g) kept′ = Quiet p f kept x g kept′
 Quickens p f kept x Slow kept′ = Waits p f kept x kept′
 

@@ -12,13 +12,13 @@ ghost use Rattle.turns.specs.Turns.{Sound, Quickens, Calls, Turns, sentO
 use board::Board;
 use board::Outcome;
 use board::Stepped;
-use line::Frame;
+use line::OpenFrame;
 use line::Plate;
 use tape::Event;
 
 // A record that closes no frame went into the frame's numbers; any other is slow.
 pub enum Pace {
-    Went(Frame),
+    Went(OpenFrame),
     Slow,
 }
 
@@ -37,7 +37,7 @@ struct Called {
 }
 
 // Most records are characters inside a frame: they touch the frame's numbers and a kept byte, and no refusal has to be tried.
-pub fn quick(plate: Plate, frame: Frame, event: Event, kept: &mut [u8]) -> Pace
+pub fn quick(plate: Plate, frame: OpenFrame, event: Event, kept: &mut [u8]) -> Pace
     requires { ⌜ Fits frame (now kept) ⌝ }
     ensures { λ r. ⌜ Quickens plate frame (now (kept .entry)) (saidOf event) r (now (kept .exit)) ⌝ }
 {

@@ -10,7 +10,7 @@ use Rattle.answer.proofs.feed.Tie as tie
 use Rattle.answer.proofs.feed.Reads as reads
 use Rattle.answer.proofs.feed.Lts as lts
 use Rattle.answer.proofs.flush.Reads as flush-reads
-use Rattle.answers.proofs.eat.Reads as eat-reads
+use Rattle.passes.proofs.eat.Reads as eat-reads
 
 abbrev Inv-loop : tie.InvT-loop
 Inv-loop window kept₀ memory₀ reply₀ out₀ start session₀ at₀ used₀ turns₀ kept memory reply out session at used turns =

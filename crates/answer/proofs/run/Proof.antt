@@ -6,7 +6,7 @@ use native.Mathlib.Omega.{arith}
 use lib.ListN.{length, length-take}
 use lib.Seq.{length-take-le}
 use Rattle.tape.proofs.Texts.{same-room}
-use Rattle.answers.specs.Sessions.{Ready}
+use Rattle.passes.specs.Sessions.{Ready}
 use Rattle.answer.proofs.Feeding.{not-ended, ready-first}
 use borrow.Author.Needs.{needs}
 use Rattle.answer.proofs.run.Statement.{statement}
@@ -18,7 +18,7 @@ use Rattle.answer.proofs.feed.Reads as feed-reads
 use Rattle.answer.proofs.flush.Reads as flush-reads
 use Rattle.answer.proofs.refill.Reads as refill-reads
 use Rattle.answer.proofs.shift.Reads as shift-reads
-use Rattle.answers.proofs.session.Session.start.Reads as start-reads
+use Rattle.passes.proofs.session.Session.start.Reads as start-reads
 use Rattle.tape.proofs.first_line.Reads as first-line-reads
 
 abbrev Inv-loop : tie.InvT-loop

@@ -18,8 +18,8 @@ use Rattle.bench.proofs.bytes.byte_at.Reads as byte-at-reads
 use Rattle.bench.proofs.bytes.data_part.Reads as data-part-reads
 use Rattle.bench.proofs.bytes.first.Reads as first-reads
 use Rattle.bench.proofs.bytes.same.Reads as same-reads
-use Rattle.frame.proofs.length_fits.Reads as length-fits-reads
-use Rattle.frame.proofs.row_of.Reads as row-of-reads
+use Rattle.wire.proofs.length_fits.Reads as length-fits-reads
+use Rattle.wire.proofs.row_of.Reads as row-of-reads
 
 -- what the tests of the length and of the repeated bytes say
 right : (c : tie.After-length-fits)

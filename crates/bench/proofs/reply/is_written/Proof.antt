@@ -12,7 +12,7 @@ use Rattle.bench.proofs.reply.is_written.Lts as lts
 use Rattle.bench.proofs.bytes.data_part.Reads as data-part-reads
 use Rattle.bench.proofs.reply.is_address.Reads as is-address-reads
 use Rattle.bench.proofs.request.is_allowed.Reads as is-allowed-reads
-use Rattle.frame.proofs.xor_of.Reads as xor-of-reads
+use Rattle.wire.proofs.xor_of.Reads as xor-of-reads
 
 returns : tie.Need-returns
 unfolding written

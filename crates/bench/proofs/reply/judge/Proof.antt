@@ -23,7 +23,7 @@ use Rattle.bench.proofs.reply.error_verdict.Reads as error-verdict-read
 use Rattle.bench.proofs.reply.from_asked.Reads as from-asked-reads
 use Rattle.bench.proofs.reply.is_error.Reads as is-error-reads
 use Rattle.bench.proofs.reply.is_written.Reads as is-written-reads
-use Rattle.frame.proofs.xor_of.Reads as xor-of-reads
+use Rattle.wire.proofs.xor_of.Reads as xor-of-reads
 
 -- what each test that was passed says
 asks : (c : tie.Else1) → written (c .before .before .before .before .args .request .now) ≡ true

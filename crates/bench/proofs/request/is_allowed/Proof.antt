@@ -10,8 +10,8 @@ use Rattle.bench.proofs.request.is_allowed.Tie as tie
 use Rattle.bench.proofs.request.is_allowed.Reads as reads
 use Rattle.bench.proofs.request.is_allowed.Lts as lts
 use Rattle.bench.proofs.bytes.byte_at.Reads as byte-at-reads
-use Rattle.frame.proofs.length_fits.Reads as length-fits-reads
-use Rattle.frame.proofs.row_of.Reads as row-of-reads
+use Rattle.wire.proofs.length_fits.Reads as length-fits-reads
+use Rattle.wire.proofs.row_of.Reads as row-of-reads
 
 -- what the test of the length says
 right : (c : tie.After-length-fits)

@@ -18,7 +18,7 @@ use Rattle.bench.proofs.request.write_request.Lts as lts
 use Rattle.bench.proofs.request.address_byte.Reads as address-byte-reads
 use Rattle.bench.proofs.request.address_ok.Reads as address-ok-reads
 use Rattle.bench.proofs.request.is_allowed.Reads as is-allowed-reads
-use Rattle.frame.proofs.write.Reads as write-reads
+use Rattle.wire.proofs.write.Reads as write-reads
 
 address-well : (c : tie.Else2) → addressOk (c .before .before .before .before .before .args .address) ≡ true
 address-well c = sym (c .before .address-ok .ensures) ∙ not-false _ (c .if2 .left)

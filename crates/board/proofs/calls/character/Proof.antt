@@ -7,7 +7,7 @@ use Rattle.board.proofs.calls.character.Reads as reads
 use Rattle.board.proofs.calls.character.Lts as lts
 use Rattle.board.proofs.calls.poll.Reads as poll-reads
 use Rattle.board.proofs.calls.stepped.Reads as stepped-reads
-use Rattle.line.proofs.characters.Frame.with_character.Reads as with-character-reads
+use Rattle.line.proofs.characters.OpenFrame.with_character.Reads as with-character-reads
 
 poll-requires : tie.Need-poll-requires
 poll-requires c κs = search needs

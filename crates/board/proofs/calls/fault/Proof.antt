@@ -9,7 +9,7 @@ use Rattle.board.proofs.calls.fault.Tie as tie
 use Rattle.board.proofs.calls.fault.Reads as reads
 use Rattle.board.proofs.calls.fault.Lts as lts
 use Rattle.board.proofs.calls.told.Reads as told-reads
-use Rattle.commands.proofs.state.State.note.Reads as note-reads
+use Rattle.state.proofs.state.State.note.Reads as note-reads
 
 note-requires : tie.Need-note-requires
 note-requires c κs = search needs

@@ -9,7 +9,7 @@ use Rattle.board.proofs.calls.measured.Tie as tie
 use Rattle.board.proofs.calls.measured.Reads as reads
 use Rattle.board.proofs.calls.measured.Lts as lts
 use Rattle.board.proofs.calls.told.Reads as told-reads
-use Rattle.commands.proofs.state.State.with_measured.Reads as with-measured-reads
+use Rattle.state.proofs.state.State.with_measured.Reads as with-measured-reads
 
 with-measured-requires : tie.Need-with-measured-requires
 with-measured-requires c κs = search needs

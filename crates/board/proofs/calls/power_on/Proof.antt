@@ -10,8 +10,8 @@ use Rattle.board.proofs.calls.power_on.Tie as tie
 use Rattle.board.proofs.calls.power_on.Reads as reads
 use Rattle.board.proofs.calls.power_on.Lts as lts
 use Rattle.board.proofs.calls.told.Reads as told-reads
-use Rattle.commands.proofs.state.State.power_on.Reads as power-on-reads
-use Rattle.line.proofs.characters.Frame.none.Reads as none-reads
+use Rattle.state.proofs.state.State.power_on.Reads as power-on-reads
+use Rattle.line.proofs.characters.OpenFrame.none.Reads as none-reads
 
 none-requires : tie.Need-none-requires
 none-requires c κs = search needs

@@ -6,12 +6,12 @@ use Rattle.board.proofs.rows.change.Statement.{statement}
 use Rattle.board.proofs.rows.change.Tie as tie
 use Rattle.board.proofs.rows.change.Reads as reads
 use Rattle.board.proofs.rows.change.Lts as lts
-use Rattle.commands.proofs.clear_counter.Reads as clear-counter-reads
-use Rattle.commands.proofs.read_fault.Reads as read-fault-reads
-use Rattle.commands.proofs.reset.Reads as reset-reads
-use Rattle.commands.proofs.set_code.Reads as set-code-reads
-use Rattle.commands.proofs.set_position.Reads as set-position-reads
-use Rattle.commands.proofs.step_counter.Reads as step-counter-reads
+use Rattle.state.proofs.clear_counter.Reads as clear-counter-reads
+use Rattle.state.proofs.read_fault.Reads as read-fault-reads
+use Rattle.state.proofs.reset.Reads as reset-reads
+use Rattle.state.proofs.set_code.Reads as set-code-reads
+use Rattle.state.proofs.set_position.Reads as set-position-reads
+use Rattle.state.proofs.step_counter.Reads as step-counter-reads
 
 set-position-requires : tie.Need-set-position-requires
 set-position-requires c κs = (c .before .before .before .pre .bits, five _ _ (c .before .before .before .pre .fits) (c .if1 .taken))

@@ -7,8 +7,8 @@ use Rattle.board.proofs.rows.tell.Statement.{statement}
 use Rattle.board.proofs.rows.tell.Tie as tie
 use Rattle.board.proofs.rows.tell.Reads as reads
 use Rattle.board.proofs.rows.tell.Lts as lts
-use Rattle.commands.proofs.read_counter.Reads as read-counter-reads
-use Rattle.commands.proofs.read_position.Reads as read-position-reads
+use Rattle.state.proofs.read_counter.Reads as read-counter-reads
+use Rattle.state.proofs.read_position.Reads as read-position-reads
 use Rattle.fields.proofs.read_field.Reads as read-field-reads
 use Rattle.fields.proofs.store_field.Reads as store-field-reads
 use Rattle.fields.proofs.shape_field.Reads as shape-field-reads

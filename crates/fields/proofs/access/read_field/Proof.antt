@@ -4,7 +4,7 @@ use native.Mathlib.Omega.{arith}
 use borrow.Author.Needs.{needs}
 use Rattle.meaning.specs.Commands.{Answer}
 use Rattle.meaning.specs.Bytes.{arg}
-use Rattle.frame.specs.Answers.{Works}
+use Rattle.wire.specs.Answers.{Works}
 use Rattle.fields.specs.declared.find.Found.the-variants.{Field}
 use Rattle.fields.specs.declared.find.Found.{Found}
 use Rattle.fields.specs.Found.{OpenTo}

@@ -8,7 +8,7 @@ use Rattle.image.proofs.read.flags_ok.Statement.{statement}
 use Rattle.image.proofs.read.flags_ok.Tie as tie
 use Rattle.image.proofs.read.flags_ok.Reads as reads
 use Rattle.image.proofs.read.flags_ok.Lts as lts
-use Rattle.frame.proofs.number_at.Reads as number-at-reads
+use Rattle.wire.proofs.number_at.Reads as number-at-reads
 
 -- src/read.rt:47:8
 number-at-requires : tie.Need-number-at-requires

@@ -6,7 +6,7 @@ use Rattle.image.proofs.read.frame_in.Tie as tie
 use Rattle.image.proofs.read.frame_in.Reads as reads
 use Rattle.image.proofs.read.frame_in.Lts as lts
 use Rattle.image.proofs.read.is_one.Reads as is-one-reads
-use Rattle.frame.proofs.number_at.Reads as number-at-reads
+use Rattle.wire.proofs.number_at.Reads as number-at-reads
 
 -- src/read.rt:69:23
 shared-slice-read-is-one : tie.Need-shared-slice-read-is-one

@@ -6,7 +6,7 @@ use Rattle.image.proofs.read.state_in.Tie as tie
 use Rattle.image.proofs.read.state_in.Reads as reads
 use Rattle.image.proofs.read.state_in.Lts as lts
 use Rattle.image.proofs.read.is_one.Reads as is-one-reads
-use Rattle.frame.proofs.number_at.Reads as number-at-reads
+use Rattle.wire.proofs.number_at.Reads as number-at-reads
 
 -- src/read.rt:47:18
 shared-slice-read-t5 : tie.Need-shared-slice-read-t5

@@ -7,8 +7,8 @@ use Rattle.image.proofs.write.begin.Tie as tie
 use Rattle.image.proofs.write.begin.Reads as reads
 use Rattle.image.proofs.write.begin.Lts as lts
 use Rattle.image.proofs.write.put_frame.Reads as put-frame-reads
-use Rattle.line.proofs.characters.Frame.none.Reads as none-reads
-use Rattle.line.proofs.characters.Frame.with_character.Reads as with-character-reads
+use Rattle.line.proofs.characters.OpenFrame.none.Reads as none-reads
+use Rattle.line.proofs.characters.OpenFrame.with_character.Reads as with-character-reads
 
 -- src/write.rt:109:17
 none-requires : tie.Need-none-requires

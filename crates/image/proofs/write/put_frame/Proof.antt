@@ -7,7 +7,7 @@ use Rattle.image.proofs.write.put_frame.Statement.{statement}
 use Rattle.image.proofs.write.put_frame.Tie as tie
 use Rattle.image.proofs.write.put_frame.Reads as reads
 use Rattle.image.proofs.write.put_frame.Lts as lts
-use Rattle.frame.proofs.fill.Reads as fill-reads
+use Rattle.wire.proofs.fill.Reads as fill-reads
 use Rattle.image.proofs.write.flag_byte.Reads as flag-byte-reads
 use Rattle.image.proofs.write.frame_row.Reads as frame-row-reads
 

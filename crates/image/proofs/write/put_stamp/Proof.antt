@@ -7,7 +7,7 @@ use Rattle.image.proofs.write.put_stamp.Statement.{statement}
 use Rattle.image.proofs.write.put_stamp.Tie as tie
 use Rattle.image.proofs.write.put_stamp.Reads as reads
 use Rattle.image.proofs.write.put_stamp.Lts as lts
-use Rattle.frame.proofs.fill.Reads as fill-reads
+use Rattle.wire.proofs.fill.Reads as fill-reads
 
 -- src/write.rt:120:9
 cast-t7 : tie.Need-cast-t7

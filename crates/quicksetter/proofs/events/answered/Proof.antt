@@ -3,7 +3,7 @@ use mathlib.Core.Path.{sym, _∙_}
 use native.Mathlib.Omega.{arith}
 use denote.Ref.{now}
 use Rattle.meaning.specs.State.{none}
-use Rattle.commands.specs.State.{stateWith}
+use Rattle.state.specs.State.{stateWith}
 use Rattle.board.proofs.Endings.{too-short, for-another, faulty}
 use Rattle.image.specs.Image.{stateIn}
 use Rattle.image.proofs.Round.{good}
@@ -17,7 +17,7 @@ use Rattle.quicksetter.proofs.events.answered.Lts as lts
 use Rattle.board.proofs.refuse.Reads as refuse-reads
 use Rattle.image.proofs.frame_in.Reads as frame-in-reads
 use Rattle.image.proofs.state_in.Reads as state-in-reads
-use Rattle.line.proofs.characters.Frame.judged.Reads as judged-reads
+use Rattle.line.proofs.characters.OpenFrame.judged.Reads as judged-reads
 use Rattle.line.proofs.own_byte.Reads as own-byte-reads
 use Rattle.quicksetter.proofs.events.served.Reads as served-reads
 use Rattle.quicksetter.proofs.given.plate_from.Reads as plate-from-reads

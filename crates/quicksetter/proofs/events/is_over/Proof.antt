@@ -6,7 +6,7 @@ use Rattle.quicksetter.proofs.events.is_over.Tie as tie
 use Rattle.quicksetter.proofs.events.is_over.Reads as reads
 use Rattle.quicksetter.proofs.events.is_over.Lts as lts
 use Rattle.image.proofs.frame_in.Reads as frame-in-reads
-use Rattle.line.proofs.characters.Frame.is_over.Reads as is-over-reads
+use Rattle.line.proofs.characters.OpenFrame.is_over.Reads as is-over-reads
 use Rattle.quicksetter.proofs.given.plate_from.Reads as plate-from-reads
 
 plate-from-requires : tie.Need-plate-from-requires

@@ -13,8 +13,8 @@ use Rattle.quicksetter.proofs.events.is_possible.Statement.{statement}
 use Rattle.quicksetter.proofs.events.is_possible.Tie as tie
 use Rattle.quicksetter.proofs.events.is_possible.Reads as reads
 use Rattle.quicksetter.proofs.events.is_possible.Lts as lts
-use Rattle.commands.proofs.size.Reads as size-reads
-use Rattle.frame.proofs.number_at.Reads as number-at-reads
+use Rattle.state.proofs.size.Reads as size-reads
+use Rattle.wire.proofs.number_at.Reads as number-at-reads
 use Rattle.image.proofs.is_image.Reads as is-image-reads
 use Rattle.line.proofs.plate.Plate.is_ok.Reads as is-ok-reads
 use Rattle.quicksetter.proofs.given.plate_from.Reads as plate-from-reads

@@ -6,8 +6,8 @@ use Rattle.quicksetter.proofs.events.is_sound.Statement.{statement}
 use Rattle.quicksetter.proofs.events.is_sound.Tie as tie
 use Rattle.quicksetter.proofs.events.is_sound.Reads as reads
 use Rattle.quicksetter.proofs.events.is_sound.Lts as lts
-use Rattle.commands.proofs.faults.Faults.is_sound.Reads as is-sound-reads
-use Rattle.frame.proofs.number_at.Reads as number-at-reads
+use Rattle.state.proofs.faults.Faults.is_sound.Reads as is-sound-reads
+use Rattle.wire.proofs.number_at.Reads as number-at-reads
 use Rattle.image.proofs.state_in.Reads as state-in-reads
 
 number-at-requires : tie.Need-number-at-requires

@@ -8,7 +8,7 @@ use lib.ListN.{length}
 use Rattle.meaning.specs.State.{apart}
 use Rattle.meaning.specs.Run.{poll}
 use Rattle.line.specs.Line.{plateOf}
-use Rattle.commands.specs.Queue.{queueOf}
+use Rattle.state.specs.Queue.{queueOf}
 use Rattle.image.specs.Image.{stateIn}
 use Rattle.image.proofs.Round.{good}
 use Rattle.quicksetter.specs.Calls.{plateFrom, possible, Unrefused}

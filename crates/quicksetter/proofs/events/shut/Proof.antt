@@ -9,7 +9,7 @@ use Rattle.quicksetter.proofs.events.shut.Tie as tie
 use Rattle.quicksetter.proofs.events.shut.Reads as reads
 use Rattle.quicksetter.proofs.events.shut.Lts as lts
 use Rattle.image.proofs.put_frame.Reads as put-frame-reads
-use Rattle.line.proofs.characters.Frame.none.Reads as none-reads
+use Rattle.line.proofs.characters.OpenFrame.none.Reads as none-reads
 use Rattle.quicksetter.proofs.events.answered.Reads as answered-reads
 
 answered-requires : tie.Need-answered-requires

@@ -8,10 +8,10 @@ use Rattle.quicksetter.proofs.notes.qs_fresh.Statement.{statement}
 use Rattle.quicksetter.proofs.notes.qs_fresh.Tie as tie
 use Rattle.quicksetter.proofs.notes.qs_fresh.Reads as reads
 use Rattle.quicksetter.proofs.notes.qs_fresh.Lts as lts
-use Rattle.commands.proofs.state.State.fresh.Reads as fresh-reads
-use Rattle.frame.proofs.fill.Reads as fill-reads
+use Rattle.state.proofs.state.State.fresh.Reads as fresh-reads
+use Rattle.wire.proofs.fill.Reads as fill-reads
 use Rattle.image.proofs.put_board.Reads as put-board-reads
-use Rattle.line.proofs.characters.Frame.none.Reads as none-reads
+use Rattle.line.proofs.characters.OpenFrame.none.Reads as none-reads
 use Rattle.line.proofs.plate.Plate.is_ok.Reads as is-ok-reads
 use Rattle.quicksetter.proofs.given.plate_from.Reads as plate-from-reads
 

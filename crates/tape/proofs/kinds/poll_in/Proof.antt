@@ -9,7 +9,7 @@ use Rattle.tape.proofs.kinds.poll_in.Statement.{statement}
 use Rattle.tape.proofs.kinds.poll_in.Tie as tie
 use Rattle.tape.proofs.kinds.poll_in.Reads as reads
 use Rattle.tape.proofs.kinds.poll_in.Lts as lts
-use Rattle.frame.proofs.number_at.Reads as number-at-reads
+use Rattle.wire.proofs.number_at.Reads as number-at-reads
 
 returns : tie.Need-returns
 returns c = sym (unfitted _ _ _ (c .before .before .pre) 4 _ (c .if1 .taken))

@@ -4,13 +4,13 @@ use mathlib.Core.Path.{_∙_, ap}
 use native.Mathlib.Omega.{arith}
 use lib.ListN.{length}
 use borrow.Rule.Slice.PartMut.{putMid}
-use Rattle.frame.proofs.Laws.{tail-filled}
+use Rattle.wire.proofs.Laws.{tail-filled}
 use borrow.Author.Needs.{needs}
 use Rattle.tape.proofs.text.copy.Statement.{statement}
 use Rattle.tape.proofs.text.copy.Tie as tie
 use Rattle.tape.proofs.text.copy.Reads as reads
 use Rattle.tape.proofs.text.copy.Lts as lts
-use Rattle.frame.proofs.fill.Reads as fill-reads
+use Rattle.wire.proofs.fill.Reads as fill-reads
 
 sub-fill : tie.Need-sub-fill
 sub-fill c = search needs

@@ -7,8 +7,8 @@ use Rattle.turns.proofs.answering.quick.Statement.{statement}
 use Rattle.turns.proofs.answering.quick.Tie as tie
 use Rattle.turns.proofs.answering.quick.Reads as reads
 use Rattle.turns.proofs.answering.quick.Lts as lts
-use Rattle.line.proofs.characters.Frame.is_over.Reads as is-over-reads
-use Rattle.line.proofs.characters.Frame.with_character.Reads as with-character-reads
+use Rattle.line.proofs.characters.OpenFrame.is_over.Reads as is-over-reads
+use Rattle.line.proofs.characters.OpenFrame.with_character.Reads as with-character-reads
 
 enum-known-event : tie.Need-enum-known-event
 enum-known-event c = search needs

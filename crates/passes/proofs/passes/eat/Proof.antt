@@ -1,0 +1,81 @@
+-- `answers::passes::eat` meets its contract. Assumes nothing.
+use native.Mathlib.Omega.{arith}
+use Rattle.passes.proofs.Eating.{eats-idle, eats-none, works-lend, eats-works}
+use borrow.Author.Needs.{needs}
+use Rattle.passes.proofs.passes.eat.Statement.{statement}
+use Rattle.passes.proofs.passes.eat.Tie as tie
+use Rattle.passes.proofs.passes.eat.Reads as reads
+use Rattle.passes.proofs.passes.eat.Lts as lts
+use Rattle.passes.proofs.beginning.begin.Reads as begin-reads
+use Rattle.passes.proofs.passes.go_on.Reads as go-on-reads
+use Rattle.passes.proofs.passes.refuse.Reads as refuse-reads
+use Rattle.passes.proofs.passes.stopped.Reads as stopped-reads
+
+sub-begin : tie.Need-sub-begin
+sub-begin c = c .before .before .before .before .before .pre .space
+
+begin-requires : tie.Need-begin-requires
+begin-requires c κs = search needs
+
+enum-known-way : tie.Need-enum-known-way
+enum-known-way c = search needs
+
+stopped-requires : tie.Need-stopped-requires
+stopped-requires c κs = search needs
+
+enum-told : tie.Need-enum-told
+enum-told c = search needs
+
+refuse-requires : tie.Need-refuse-requires
+refuse-requires c κs = let o = rw (c .before .enum-told .given .1) at (c .before .before .before .begin .ensures) in omega (arith, o .1, c .before .before .before .before .before .before .before .before .before .pre .space)
+
+enum-known-way-2 : tie.Need-enum-known-way-2
+enum-known-way-2 c = search needs
+
+go-on-requires : tie.Need-go-on-requires
+go-on-requires c κs = works-lend _ _ _ _ _ _ _ (c .before .before .before .before .before .before .before .before .before .before .before .before .before .pre) _ _ _ (rw (c .before .before .before .before .before .way2 .given .1) at (c .before .before .before .before .before .before .before .begin .ensures))
+
+returns : tie.Need-returns
+returns c = eats-idle _ _ _ _ _ _ _ (c .before .before .before .before .before .before .before .before .before .before .pre) _ _ (rw (c .before .before .way .given .1) at (c .before .before .before .before .begin .ensures)) (c .stopped .ensures)
+
+same-length : tie.Need-same-length
+same-length c = c .before .before .refuse .kept .1 .0
+
+returns-2 : tie.Need-returns-2
+returns-2 c = eats-none _ _ _ _ _ _ _ (c .before .before .before .before .before .before .before .before .before .before .before .before .pre) _ _ (rw (c .before .before .before .before .enum-told .given .1) at (c .before .before .before .before .before .before .begin .ensures)) (c .before .before .refuse .ensures)
+
+same-length-2 : tie.Need-same-length-2
+same-length-2 c = c .before .before .before .before .before .before .before .before .go-on .kept .1 .1 .1 .1 .1 .0
+
+same-length-3 : tie.Need-same-length-3
+same-length-3 c = c .before .before .before .before .before .before .before .before .go-on .kept .1 .1 .1 .1 .1 .1 .0
+
+same-length-4 : tie.Need-same-length-4
+same-length-4 c = c .before .before .before .before .before .before .before .before .go-on .kept .1 .1 .1 .1 .1 .1 .1 .0
+
+same-length-5 : tie.Need-same-length-5
+same-length-5 c = c .before .before .before .before .before .before .before .before .go-on .kept .1 .1 .1 .1 .1 .1 .1 .1 .0
+
+returns-3 : tie.Need-returns-3
+returns-3 c = eats-works _ _ _ _ _ _ _ (c .before .before .before .before .before .before .before .before .before .before .before .before .before .before .before .before .before .before .before .before .before .before .pre) _ _ _ _ _ _ _ _ (rw (c .before .before .before .before .before .before .before .before .before .before .before .before .before .before .way2 .given .1) at (c .before .before .before .before .before .before .before .before .before .before .before .before .before .before .before .before .begin .ensures)) (c .before .before .before .before .before .before .before .before .go-on .ensures)
+
+pub eat-spec : {M : Type 1} → statement M
+eat-spec =
+    tie.close
+    (tie.spec
+    sub-begin
+    begin-requires
+    enum-known-way
+    stopped-requires
+    enum-told
+    refuse-requires
+    enum-known-way-2
+    go-on-requires
+    returns
+    same-length
+    returns-2
+    same-length-2
+    same-length-3
+    same-length-4
+    same-length-5
+    returns-3)

@@ -1,0 +1,247 @@
+-- The queue place by place: what one place more in front says. Assumes nothing.
+use Prim.Native.Nat.{ℕ, _+_, _<_}
+use native.Mathlib.Omega.{arith}
+use mathlib.Core.Path.{_≡_, refl, sym, ap, _∙_}
+use mathlib.Core.Bool.{Bool, true, false, not, false≢true}
+use mathlib.Core.List.{List, [], _∷_, _++_}
+use borrow.Author.Tests.{eqb-true, eqb-false, ne-eqb}
+use lib.Dec.{eqb, leb}
+use lib.ListN.{length, drop}
+use Rattle.meaning.specs.Bytes.{pick, both, either, among, arg}
+use Rattle.meaning.specs.State.{State, queueable, apart, locks, withQueue, withLock, noted, queued}
+use Rattle.meaning.specs.Frames.{warned}
+use Rattle.meaning.specs.Demands.{waits}
+use Rattle.state.specs.declared.faults.Faults.{Faults}
+use Rattle.state.specs.declared.faults.Oldest.{Oldest}
+use Rattle.state.specs.Queue.{waiting, queueOf, mayPrecede, noFaults, holding, Queues, Reads}
+use Rattle.meaning.proofs.Choices.{both-true, either-false}
+
+no-more-one : (c : ℕ) (q : List ℕ) → not (waits (waiting c q)) ≡ both (eqb c 0) (not (waits q))
+unfolding waits waiting
+no-more-one c [] = go (eqb c 0)
+  where
+    go : (t : Bool) → not (waits (pick t [] (c ∷ []))) ≡ both t true
+    go true = refl
+    go false = refl
+no-more-one c (x ∷ q) = go (eqb c 0)
+  where
+    go : (t : Bool) → false ≡ both t false
+    go true = refl
+    go false = refl
+
+-- 00h in all places is an empty queue
+pub no-more : (x y z : ℕ) {t : Bool} → both (eqb x 0) (both (eqb y 0) (both (eqb z 0) true)) ≡ t → t ≡ not (waits (waiting x (waiting y (waiting z []))))
+unfolding waits
+no-more x y z e = rw (no-more-one x (waiting y (waiting z [])), no-more-one y (waiting z []), no-more-one z []) (sym e)
+
+pub none-waits : (f : Faults) {t : Bool} → both (eqb (f .first) 0) (not (waits (waiting (f .second) (waiting (f .third) (waiting (f .fourth) []))))) ≡ t
+    → t ≡ not (waits (queueOf f))
+unfolding queueOf
+none-waits f e = rw (no-more-one (f .first) (waiting (f .second) (waiting (f .third) (waiting (f .fourth) [])))) (sym e)
+
+positive : (c : ℕ) → eqb c 0 ≡ false → 0 < c
+positive c e = omega (arith, eqb-false c 0 e)
+
+among-one : (c x : ℕ) → 0 < c → among c (waiting x []) ≡ eqb c x
+unfolding among waiting
+among-one c x h = go (eqb x 0) refl
+  where
+    go : (t : Bool) → eqb x 0 ≡ t → among c (pick t [] (x ∷ [])) ≡ eqb c x
+    go true e = sym (ne-eqb c x (λ k. omega (arith, eqb-true x 0 e)))
+    go false e = either-false (eqb c x)
+
+among-none : (c x : ℕ) → either (eqb c x) (among c []) ≡ eqb c x
+unfolding among
+among-none c x = either-false (eqb c x)
+
+among-in : (c x y : ℕ) (q : List ℕ) → among c (waiting x (y ∷ q)) ≡ either (eqb c x) (among c (y ∷ q))
+unfolding among waiting
+among-in c x y q = refl
+
+among-more : (c x : ℕ) (q : List ℕ) → 0 < c → among c (waiting x q) ≡ either (eqb c x) (among c q)
+among-more c x [] h = among-one c x h ∙ sym (among-none c x)
+among-more c x (y ∷ q) h = among-in c x y q
+
+at-end : waiting 0 [] ≡ []
+unfolding waiting
+at-end = refl
+
+pub front : (c : ℕ) (q : List ℕ) → arg (waiting c q) 0 ≡ c
+unfolding waiting
+front c [] = go (eqb c 0) refl
+  where
+    go : (t : Bool) → eqb c 0 ≡ t → arg (pick t [] (c ∷ [])) 0 ≡ c
+    go true e = sym (eqb-true c 0 e)
+    go false e = refl
+front c (x ∷ q) = refl
+
+pub behind : (c : ℕ) (q : List ℕ) → drop 1 (waiting c q) ≡ q
+unfolding waiting
+behind c [] = go (eqb c 0)
+  where
+    go : (t : Bool) → drop 1 (pick t [] (c ∷ [])) ≡ []
+    go true = refl
+    go false = refl
+behind c (x ∷ q) = refl
+
+-- a code that is not 00h, among three and among four places
+among-three : (c x y z : ℕ) → 0 < c
+    → among c (waiting x (waiting y (waiting z []))) ≡ either (eqb c x) (either (eqb c y) (eqb c z))
+among-three c x y z h = rw (among-more c x (waiting y (waiting z [])) h, among-more c y (waiting z []) h, among-one c z h)
+
+pub among-four : (f : Faults) (c : ℕ) {t : Bool} → 0 < c
+    → either (eqb c (f .first)) (either (eqb c (f .second)) (either (eqb c (f .third)) (eqb c (f .fourth)))) ≡ t
+    → t ≡ among c (queueOf f)
+unfolding queueOf
+among-four f c h e =
+    sym e
+    ∙ sym (among-more c (f .first) (waiting (f .second) (waiting (f .third) (waiting (f .fourth) []))) h
+    ∙ ap (either (eqb c (f .first))) (among-three c (f .second) (f .third) (f .fourth) h))
+
+pub precedes-none : (c : ℕ) (q : List ℕ) {t : Bool} → eqb c 0 ≡ true → t ≡ not (waits q) → t ≡ mayPrecede c q
+unfolding mayPrecede
+precedes-none c q e h = rw e h
+
+pub may-precede : (c x y z : ℕ) {t : Bool} → eqb c 0 ≡ false
+    → both (not (either (eqb c 0x22) (eqb c 0x24))) (not (either (eqb c x) (either (eqb c y) (eqb c z)))) ≡ t
+    → t ≡ mayPrecede c (waiting x (waiting y (waiting z [])))
+unfolding mayPrecede queueable locks
+may-precede c x y z h e = rw (h, among-three c x y z (positive c h)) (sym e)
+
+-- 01, "State limits", one place more in front
+pub apart-more : (c : ℕ) (q : List ℕ) → apart (waiting c q) ≡ both (mayPrecede c q) (apart q)
+unfolding apart waiting mayPrecede among waits queueable
+apart-more c [] = go (eqb c 0)
+  where
+    go : (t : Bool) → apart (pick t [] (c ∷ [])) ≡ both (pick t true (both (both (not (eqb c 0)) (not (locks c))) true)) true
+    go true = refl
+    go false = rw (both-true (both (both (not (eqb c 0)) (not (locks c))) true))
+apart-more c (x ∷ q) = go (eqb c 0) (locks c) (among c (x ∷ q)) (apart (x ∷ q))
+  where
+    go : (t u v w : Bool) → both (both (not t) (not u)) (both (not v) w) ≡ both (pick t false (both (both (not t) (not u)) (not v))) w
+    go true u v w = refl
+    go false true v w = refl
+    go false false true w = refl
+    go false false false w = refl
+
+apart-last : (d : ℕ) → apart (waiting d []) ≡ mayPrecede d []
+unfolding apart
+apart-last d = apart-more d [] ∙ both-true (mayPrecede d [])
+
+empty-first : (c : ℕ) (q : List ℕ) → eqb c 0 ≡ true → apart (waiting c q) ≡ not (waits q)
+unfolding apart waiting waits queueable
+empty-first c [] e = rw e
+empty-first c (x ∷ q) e = rw e
+
+pub sound-empty : (f : Faults) {t : Bool} → eqb (f .first) 0 ≡ true → t ≡ not (waits (waiting (f .second) (waiting (f .third) (waiting (f .fourth) []))))
+    → t ≡ apart (queueOf f)
+unfolding queueOf
+sound-empty f e h = h ∙ sym (empty-first (f .first) (waiting (f .second) (waiting (f .third) (waiting (f .fourth) []))) e)
+
+-- one code waits: the other places are empty
+pub sound-one : (f : Faults) {t : Bool} → mayPrecede (f .first) (waiting (f .second) (waiting (f .third) (waiting (f .fourth) []))) ≡ true → eqb (f .second) 0 ≡ true
+    → t ≡ not (waits (waiting (f .third) (waiting (f .fourth) (waiting 0 [])))) → t ≡ apart (queueOf f)
+unfolding queueOf waiting
+sound-one f p e h =
+    h ∙ sym (apart-more (f .first) (waiting (f .second) (waiting (f .third) (waiting (f .fourth) [])))
+    ∙ ap (λ (b : Bool). both b (apart (waiting (f .second) (waiting (f .third) (waiting (f .fourth) []))))) p
+    ∙ empty-first (f .second) (waiting (f .third) (waiting (f .fourth) [])) e)
+
+pub sound-four : (f : Faults) {t : Bool}
+    → both (mayPrecede (f .first) (waiting (f .second) (waiting (f .third) (waiting (f .fourth) []))))
+    (both (mayPrecede (f .second) (waiting (f .third) (waiting (f .fourth) (waiting 0 []))))
+    (both (mayPrecede (f .third) (waiting (f .fourth) (waiting 0 (waiting 0 []))))
+    (mayPrecede (f .fourth) (waiting 0 (waiting 0 (waiting 0 [])))))) ≡ t
+    → t ≡ apart (queueOf f)
+unfolding queueOf waiting
+sound-four f e =
+    let a = f .first in
+    let b = f .second in
+    let c = f .third in
+    let d = f .fourth in
+    sym e
+    ∙ sym (apart-more a (waiting b (waiting c (waiting d [])))
+    ∙ ap (both (mayPrecede a (waiting b (waiting c (waiting d []))))) (apart-more b (waiting c (waiting d []))
+    ∙ ap (both (mayPrecede b (waiting c (waiting d [])))) (apart-more c (waiting d [])
+    ∙ ap (both (mayPrecede c (waiting d []))) (apart-last d))))
+
+joined : (f : Faults) (c : ℕ) {r : Faults} → among c (queueOf f) ≡ false
+    → queueOf r ≡ pick (leb 4 (length (queueOf f))) (queueOf f) (queueOf f ++ (c ∷ [])) → r .locked ≡ f .locked → Queues f (queued (queueOf f) c) r
+unfolding queued
+joined f c m e l = record { queue = rw m e; lock = l }
+
+-- a code that does not wait yet goes behind the last that waits
+module _ (f : Faults) (c : ℕ) (p : 0 < c) (m : among c (queueOf f) ≡ false) where
+  filled : eqb c 0 ≡ false
+  filled = ne-eqb c 0 (λ k. omega arith)
+
+  pub stays-full : eqb (f .fourth) 0 ≡ false → Queues f (queued (queueOf f) c) f
+  unfolding queueOf waiting
+  stays-full d = joined f c m (rw d) refl
+
+  module _ (d : eqb (f .fourth) 0 ≡ true) where
+    pub to-fourth : eqb (f .third) 0 ≡ false
+        → Queues f (queued (queueOf f) c) (record { first = f .first; second = f .second; third = f .third; fourth = c; locked = f .locked })
+    unfolding queueOf waiting
+    to-fourth e = joined f c m (rw (d, e, filled)) refl
+
+    module _ (e : eqb (f .third) 0 ≡ true) where
+      pub to-third : eqb (f .second) 0 ≡ false
+          → Queues f (queued (queueOf f) c) (record { first = f .first; second = f .second; third = c; fourth = f .fourth; locked = f .locked })
+      unfolding queueOf waiting
+      to-third h = joined f c m (rw (d, e, h, filled)) refl
+
+      pub to-second : eqb (f .second) 0 ≡ true → eqb (f .first) 0 ≡ false
+          → Queues f (queued (queueOf f) c) (record { first = f .first; second = c; third = f .third; fourth = f .fourth; locked = f .locked })
+      unfolding queueOf waiting
+      to-second h k = joined f c m (rw (d, e, h, k, filled)) refl
+
+      pub to-first : eqb (f .second) 0 ≡ true → eqb (f .first) 0 ≡ true
+          → Queues f (queued (queueOf f) c) (record { first = c; second = f .second; third = f .third; fourth = f .fourth; locked = f .locked })
+      unfolding queueOf waiting
+      to-first h k = joined f c m (rw (d, e, h, k, filled)) refl
+
+pub waits-already : (f : Faults) (c : ℕ) → among c (queueOf f) ≡ true → Queues f (queued (queueOf f) c) f
+unfolding queued
+waits-already f c m = record { queue = rw m; lock = refl }
+
+moved : (f : Faults) → waiting (f .second) (waiting (f .third) (waiting (f .fourth) (waiting 0 []))) ≡ drop 1 (queueOf f)
+unfolding queueOf
+moved f = rw (behind (f .first) (waiting (f .second) (waiting (f .third) (waiting (f .fourth) []))), at-end)
+
+-- 01, row 50h
+pub oldest-first : (f : Faults) (r : Oldest) → r .code ≡ f .first
+    → r .faults ≡ (record { first = f .second; second = f .third; third = f .fourth; fourth = 0; locked = f .locked }) → Reads f r
+unfolding queueOf
+oldest-first f r e k = record { oldest = e ∙ sym (front (f .first) _); rest = record { queue = rw k (moved f); lock = rw k } }
+
+pub emptied : (f : Faults) {r : Faults} → r ≡ noFaults → Queues f [] (record { first = r .first; second = r .second; third = r .third; fourth = r .fourth; locked = f .locked })
+unfolding queueOf waiting
+emptied f e = record { queue = rw e; lock = refl }
+
+-- 01, "Bit 7 of every reply's command byte"
+pub unmarked : (c : ℕ) (q : List ℕ) → not (waits q) ≡ true → c ≡ warned c q
+unfolding waits warned
+unmarked c [] e = refl
+unmarked c (x ∷ q) e = absurd (false≢true e)
+
+pub marked : (c : ℕ) (q : List ℕ) → not (waits q) ≡ false → c + 128 ≡ warned c q
+unfolding waits warned
+marked c [] e = absurd (false≢true (sym e))
+marked c (x ∷ q) e = refl
+
+-- 01, "The host notes codes": ignored, locking, queued
+module _ (s : State) (f : Faults) (c : ℕ) where
+  pub ignored : eqb c 0 ≡ true → holding s f ≡ noted (holding s f) c
+  unfolding noted
+  ignored e = rw e
+
+  module _ (n : eqb c 0 ≡ false) where
+    pub locking : either (eqb c 0x22) (eqb c 0x24) ≡ true
+        → holding s (record { first = f .first; second = f .second; third = f .third; fourth = f .fourth; locked = true }) ≡ noted (holding s f) c
+    unfolding noted locks holding withLock withQueue queueOf
+    locking e = rw (n, e)
+
+    pub queueing : {r : Faults} → either (eqb c 0x22) (eqb c 0x24) ≡ false → Queues f (queued (queueOf f) c) r → holding s r ≡ noted (holding s f) c
+    unfolding noted locks holding withLock withQueue
+    queueing e h = rw (n, e, h .queue, h .lock)

@@ -1,0 +1,217 @@
+// The fault queue: four places, oldest first, 00h for an empty one, since 00h never waits (01, "Faults").
+ghost use mathlib.Core.Path.{_≡_};
+ghost use mathlib.Core.Bool.{not};
+ghost use mathlib.Core.List.{[]};
+ghost use Prim.Native.Nat.{_<_};
+ghost use Rattle.meaning.specs.Bytes.{among};
+ghost use Rattle.meaning.specs.State.{State, queued, noted, apart};
+ghost use Rattle.meaning.specs.Frames.{warned};
+ghost use Rattle.meaning.specs.Demands.{waits};
+ghost use Rattle.state.specs.Queue.{queueOf, waiting, mayPrecede, noFaults, holding, Queues, Reads};
+
+pub struct Faults {
+    pub first: u8,
+    pub second: u8,
+    pub third: u8,
+    pub fourth: u8,
+    pub locked: bool,
+}
+
+// The oldest code, or 00h, and the queue without it.
+pub struct Oldest {
+    pub code: u8,
+    pub faults: Faults,
+}
+
+impl Faults {
+    pub fn none() -> Faults
+        ensures { λ r. ⌜ r ≡ noFaults ⌝ }
+    {
+        Faults {
+            first: 0,
+            second: 0,
+            third: 0,
+            fourth: 0,
+            locked: false,
+        }
+    }
+
+    fn holds(self, code: u8) -> bool
+        requires { ⌜ 0 < code ⌝ }
+        ensures { λ r. ⌜ r ≡ among code (queueOf self) ⌝ }
+    {
+        if code == self.first {
+            return true;
+        }
+        if code == self.second {
+            return true;
+        }
+        if code == self.third {
+            return true;
+        }
+        if code == self.fourth {
+            return true;
+        }
+        false
+    }
+
+    // 01, "a queue of four, oldest first; one already waiting, or a fifth, is dropped".
+    pub fn queued(self, code: u8) -> Faults
+        requires { ⌜ 0 < code ⌝ }
+        ensures { λ r. ⌜ Queues self (queued (queueOf self) code) r ⌝ }
+    {
+        let mut next = self;
+        if self.holds(code) {
+            return self;
+        }
+        if self.fourth != 0 {
+            return self;
+        }
+        if self.third != 0 {
+            next.fourth = code;
+            return next;
+        }
+        if self.second != 0 {
+            next.third = code;
+            return next;
+        }
+        if self.first != 0 {
+            next.second = code;
+            return next;
+        }
+        next.first = code;
+        next
+    }
+
+    // 01, "00h is ignored. 22h and 24h lock the position until power-on and are not queued".
+    pub fn note(self, code: u8) -> Faults
+        ensures { λ r. ⌜ ((s : State) → holding s r ≡ noted (holding s self) code) ⌝ }
+    {
+        if code == 0 {
+            return self;
+        }
+        let mut locked = self;
+        locked.locked = true;
+        if code == 0x22 {
+            return locked;
+        }
+        if code == 0x24 {
+            return locked;
+        }
+        self.queued(code)
+    }
+
+    // 01, row 50h: the oldest is handed back, and the others move up.
+    pub fn read(self) -> Oldest
+        ensures { λ r. ⌜ Reads self r ⌝ }
+    {
+        let rest = Faults {
+            first: self.second,
+            second: self.third,
+            third: self.fourth,
+            fourth: 0,
+            locked: self.locked,
+        };
+        Oldest {
+            code: self.first,
+            faults: rest,
+        }
+    }
+
+    // 01, row 53h. The lock lasts until power-on.
+    pub fn emptied(self) -> Faults
+        ensures { λ r. ⌜ Queues self [] r ⌝ }
+    {
+        let mut next = Faults::none();
+        next.locked = self.locked;
+        next
+    }
+
+    pub fn power_on(self) -> Faults
+        ensures { λ r. ⌜ r ≡ noFaults ⌝ }
+    {
+        Faults::none()
+    }
+
+    // 01, "Bit 7 of every reply's command byte is set exactly if the fault queue is not empty".
+    pub fn marked(self, command: u8) -> u8
+        requires { ⌜ command < 128 ⌝ }
+        ensures { λ r. ⌜ r ≡ warned command (queueOf self) ⌝ }
+    {
+        if self.is_empty() {
+            return command;
+        }
+        command + 128
+    }
+
+    fn is_empty(self) -> bool
+        ensures { λ r. ⌜ r ≡ not (waits (queueOf self)) ⌝ }
+    {
+        if self.first != 0 {
+            return false;
+        }
+        no_more(self.second, self.third, self.fourth)
+    }
+
+    // 01, "State limits": the waiting codes all different, none of them 00h, 22h or 24h. An empty queue, the usual one, is told at once.
+    pub fn is_sound(self) -> bool
+        ensures { λ r. ⌜ r ≡ apart (queueOf self) ⌝ }
+    {
+        if self.first == 0 {
+            return no_more(self.second, self.third, self.fourth);
+        }
+        if !may_precede(self.first, self.second, self.third, self.fourth) {
+            return false;
+        }
+        if self.second == 0 {
+            return no_more(self.third, self.fourth, 0);
+        }
+        if !may_precede(self.second, self.third, self.fourth, 0) {
+            return false;
+        }
+        if !may_precede(self.third, self.fourth, 0, 0) {
+            return false;
+        }
+        may_precede(self.fourth, 0, 0, 0)
+    }
+}
+
+fn no_more(second: u8, third: u8, fourth: u8) -> bool
+    ensures { λ r. ⌜ r ≡ not (waits (waiting second (waiting third (waiting fourth [])))) ⌝ }
+{
+    if second != 0 {
+        return false;
+    }
+    if third != 0 {
+        return false;
+    }
+    if fourth != 0 {
+        return false;
+    }
+    true
+}
+
+// Whether a code may stand in the place before these three.
+fn may_precede(code: u8, second: u8, third: u8, fourth: u8) -> bool
+    ensures { λ r. ⌜ r ≡ mayPrecede code (waiting second (waiting third (waiting fourth []))) ⌝ }
+{
+    if code == 0 {
+        return no_more(second, third, fourth);
+    }
+    if code == 0x22 {
+        return false;
+    }
+    if code == 0x24 {
+        return false;
+    }
+    if code == second {
+        return false;
+    }
+    if code == third {
+        return false;
+    }
+    if code == fourth {
+        return false;
+    }
+    true
+}

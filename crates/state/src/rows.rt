@@ -1,0 +1,203 @@
+// The commands that work on the state alone, their checks in the row's order (01, "The commands"). Reply data goes to place 2 of the room on.
+ghost use mathlib.Core.Path.{_≡_};
+ghost use mathlib.Core.List.{List, _∷_, []};
+ghost use Prim.Native.Nat.{ℕ, _≤_, _<_, _/_, _%_};
+ghost use lib.ListN.{length, getD};
+ghost use Rattle.meaning.specs.Bytes.{differ, put, number, bytes3, bytes4};
+ghost use Rattle.meaning.specs.State.{Plate, Line, position, offsetFor};
+ghost use Rattle.meaning.specs.Commands.{readPosition, setPosition, readCounter, stepCounter, clearCounter, setCode, readFault, reset};
+ghost use Rattle.state.specs.State.{stateWith};
+ghost use Rattle.state.specs.Rows.{accessOf, Answers};
+use crate::state::State;
+use crate::state::size;
+use wire::Answer;
+
+// The state after a command, and what the command comes to.
+pub struct Worked {
+    pub state: State,
+    pub answer: Answer,
+}
+
+enum Access {
+    Granted,
+    Denied,
+}
+
+fn refused(state: State, code: u8) -> Worked
+    ensures { λ r. ⌜ r ≡ record { state = state; answer = Answer.Refuse code } ⌝ }
+{
+    Worked {
+        state,
+        answer: Answer::Refuse(code),
+    }
+}
+
+fn accepted(state: State, count: usize) -> Worked
+    ensures { λ r. ⌜ r ≡ record { state = state; answer = Answer.Accept count } ⌝ }
+{
+    Worked {
+        state,
+        answer: Answer::Accept(count),
+    }
+}
+
+fn check_code(state: State, number: usize, given: u8) -> Access
+    requires { ⌜ number < 4 ⌝ }
+    ensures { λ r. ⌜ r ≡ accessOf (differ given (getD (state .codes) number 0)) ⌝ }
+{
+    if given == state.codes[number] {
+        return Access::Granted;
+    }
+    Access::Denied
+}
+
+// 01, "Position is (measured + offset) mod 2^P".
+fn position(bits: u32, state: State) -> u64
+    requires { ⌜ bits ≤ 32 ⌝ }
+    ensures { λ r. ⌜ ((p : Plate) (l : Line) → p .bits ≡ bits → r ≡ position p (stateWith state l)) ⌝ }
+{
+    let size = size(bits);
+    (state.measured as u64 % size + state.offset as u64) % size
+}
+
+// 01, "43h sets offset to (wanted − measured) mod 2^P".
+fn offset_for(bits: u32, state: State, wanted: u64) -> u32
+    requires { ⌜ (bits ≤ 32) × (wanted < 4294967296) ⌝ }
+    ensures { λ r. ⌜ ((p : Plate) (l : Line) → p .bits ≡ bits → r ≡ offsetFor p (stateWith state l) wanted) ⌝ }
+{
+    let size = size(bits);
+    ((wanted + size - state.measured as u64 % size) % size) as u32
+}
+
+// Four bytes, high first.
+fn number_of(a: u8, b: u8, c: u8, d: u8) -> u64
+    ensures { λ r. ⌜ (r ≡ number (a ∷ b ∷ c ∷ d ∷ []) 0) × (r < 4294967296) ⌝ }
+{
+    ((a as u64 * 256 + b as u64) * 256 + c as u64) * 256 + d as u64
+}
+
+fn low_byte(x: u64) -> u8
+    ensures { λ r. ⌜ r ≡ x % 256 ⌝ }
+{
+    (x % 256) as u8
+}
+
+fn put_bytes4(x: u64, room: &mut [u8])
+    requires { ⌜ 134 ≤ length (now room) ⌝ }
+    ensures { λ _. ⌜ now (room .exit) ≡ put (now (room .entry)) 2 (bytes4 x) ⌝ }
+{
+    room[2] = low_byte(x / 0x1000000);
+    room[3] = low_byte(x / 0x10000);
+    room[4] = low_byte(x / 0x100);
+    room[5] = low_byte(x);
+}
+
+fn put_bytes3(x: u64, room: &mut [u8])
+    requires { ⌜ 134 ≤ length (now room) ⌝ }
+    ensures { λ _. ⌜ now (room .exit) ≡ put (now (room .entry)) 2 (bytes3 x) ⌝ }
+{
+    room[2] = low_byte(x / 0x10000);
+    room[3] = low_byte(x / 0x100);
+    room[4] = low_byte(x);
+}
+
+// 42h: 02h if locked.
+pub fn read_position(bits: u32, state: State, room: &mut [u8]) -> Worked
+    requires { ⌜ (bits ≤ 32) × (134 ≤ length (now room)) ⌝ }
+    ensures { λ r. ⌜ ((p : Plate) (l : Line) (m d : List ℕ) → p .bits ≡ bits → Answers (readPosition p (stateWith state l) m d) state l (now (room .entry)) r (now (room .exit))) ⌝ }
+{
+    if state.faults.locked {
+        return refused(state, 0x02);
+    }
+    put_bytes4(position(bits, state), room);
+    accepted(state, 4)
+}
+
+// 43h: 02h if locked; 0Fh unless Code0; 0Dh if position ≥ 2^P.
+pub fn set_position(bits: u32, state: State, request: &[u8]) -> Worked
+    requires { ⌜ (bits ≤ 32) × (length (now request) ≡ 5) ⌝ }
+    ensures { λ r. ⌜ ((p : Plate) (l : Line) (m w : List ℕ) → p .bits ≡ bits → Answers (setPosition p (stateWith state l) m (now (request .entry))) state l w r w) ⌝ }
+{
+    if state.faults.locked {
+        return refused(state, 0x02);
+    }
+    let Access::Granted = check_code(state, 0, request[4]) else {
+        return refused(state, 0x0F);
+    };
+    let wanted = number_of(request[0], request[1], request[2], request[3]);
+    if size(bits) <= wanted {
+        return refused(state, 0x0D);
+    }
+    let offset = offset_for(bits, state, wanted);
+    accepted(state.with_offset(offset), 0)
+}
+
+// 46h
+pub fn read_counter(state: State, room: &mut [u8]) -> Worked
+    requires { ⌜ 134 ≤ length (now room) ⌝ }
+    ensures { λ r. ⌜ ((p : Plate) (l : Line) (m d : List ℕ) → Answers (readCounter p (stateWith state l) m d) state l (now (room .entry)) r (now (room .exit))) ⌝ }
+{
+    put_bytes3(state.counter as u64, room);
+    accepted(state, 3)
+}
+
+// 47h: from FFFFFFh the counter goes to 0 and 08h is queued.
+pub fn step_counter(state: State) -> Worked
+    requires { ⌜ state .counter ≤ 0xFFFFFF ⌝ }
+    ensures { λ r. ⌜ ((p : Plate) (l : Line) (m d w : List ℕ) → Answers (stepCounter p (stateWith state l) m d) state l w r w) ⌝ }
+{
+    if state.counter == 0xFFFFFF {
+        let faults = state.faults.queued(0x08);
+        return accepted(state.with_counter(0).with_faults(faults), 0);
+    }
+    accepted(state.with_counter(state.counter + 1), 0)
+}
+
+// 49h: 0Fh unless Code0.
+pub fn clear_counter(state: State, request: &[u8]) -> Worked
+    requires { ⌜ length (now request) ≡ 1 ⌝ }
+    ensures { λ r. ⌜ ((p : Plate) (l : Line) (m w : List ℕ) → Answers (clearCounter p (stateWith state l) m (now (request .entry))) state l w r w) ⌝ }
+{
+    let Access::Granted = check_code(state, 0, request[0]) else {
+        return refused(state, 0x0F);
+    };
+    accepted(state.with_counter(0), 0)
+}
+
+// 4Fh: 0Dh if the number is over 3; 0Fh if the old code differs.
+pub fn set_code(state: State, request: &[u8], room: &mut [u8]) -> Worked
+    requires { ⌜ (length (now request) ≡ 3) × (134 ≤ length (now room)) ⌝ }
+    ensures { λ r. ⌜ ((p : Plate) (l : Line) (m : List ℕ) → Answers (setCode p (stateWith state l) m (now (request .entry))) state l (now (room .entry)) r (now (room .exit))) ⌝ }
+{
+    let number = request[0];
+    if 3 < number {
+        return refused(state, 0x0D);
+    }
+    let Access::Granted = check_code(state, number as usize, request[1]) else {
+        return refused(state, 0x0F);
+    };
+    room[2] = number;
+    accepted(state.with_code(number as usize, request[2]), 1)
+}
+
+// 50h: the oldest code, or 00h, which is then removed.
+pub fn read_fault(state: State, room: &mut [u8]) -> Worked
+    requires { ⌜ 134 ≤ length (now room) ⌝ }
+    ensures { λ r. ⌜ ((p : Plate) (l : Line) (m d : List ℕ) → Answers (readFault p (stateWith state l) m d) state l (now (room .entry)) r (now (room .exit))) ⌝ }
+{
+    let oldest = state.faults.read();
+    let rest = oldest.faults;
+    room[2] = oldest.code;
+    accepted(state.with_faults(rest), 1)
+}
+
+// 53h: the queue is emptied, and no reply follows (000, "Encoder Reset").
+pub fn reset(state: State) -> Worked
+    ensures { λ r. ⌜ ((p : Plate) (l : Line) (m d w : List ℕ) → Answers (reset p (stateWith state l) m d) state l w r w) ⌝ }
+{
+    let faults = state.faults.emptied();
+    Worked {
+        state: state.with_faults(faults),
+        answer: Answer::Quiet,
+    }
+}

@@ -1,0 +1,107 @@
+// The board's state but for the open frame (01, "Fresh state"). State values are made in this file only.
+ghost use mathlib.Core.Path.{_≡_};
+ghost use Prim.Native.Nat.{_≤_, _<_, _^_};
+ghost use lib.ListN.{length, set};
+ghost use Rattle.meaning.specs.State.{Plate, Line, fresh, stateOk, withCodes, withCounter, withOffset, withMeasured, none, noted, poweredOn};
+ghost use Rattle.state.specs.State.{stateWith};
+ghost use Rattle.state.specs.Queue.{holding};
+use crate::faults::Faults;
+
+pub struct State {
+    pub codes: [u8; 4],
+    pub counter: u32,
+    pub offset: u32,
+    pub measured: u32,
+    pub faults: Faults,
+}
+
+impl State {
+    pub fn fresh() -> State
+        ensures { λ r. ⌜ ((p : Plate) → stateWith r none ≡ fresh p) ⌝ }
+    {
+        State {
+            codes: [0x55, 0x55, 0x55, 0x55],
+            counter: 0,
+            offset: 0,
+            measured: 0,
+            faults: Faults::none(),
+        }
+    }
+
+    pub fn with_code(self, number: usize, code: u8) -> State
+        requires { ⌜ number < 4 ⌝ }
+        ensures { λ r. ⌜ ((l : Line) → stateWith r l ≡ withCodes (stateWith self l) (set (self .codes) number code)) ⌝ }
+    {
+        let mut next = self;
+        next.codes[number] = code;
+        next
+    }
+
+    pub fn with_counter(self, counter: u32) -> State
+        ensures { λ r. ⌜ ((l : Line) → stateWith r l ≡ withCounter (stateWith self l) counter) ⌝ }
+    {
+        let mut next = self;
+        next.counter = counter;
+        next
+    }
+
+    pub fn with_offset(self, offset: u32) -> State
+        ensures { λ r. ⌜ ((l : Line) → stateWith r l ≡ withOffset (stateWith self l) offset) ⌝ }
+    {
+        let mut next = self;
+        next.offset = offset;
+        next
+    }
+
+    pub fn with_measured(self, measured: u32) -> State
+        ensures { λ r. ⌜ ((l : Line) → stateWith r l ≡ withMeasured (stateWith self l) measured) ⌝ }
+    {
+        let mut next = self;
+        next.measured = measured;
+        next
+    }
+
+    pub fn with_faults(self, faults: Faults) -> State
+        ensures { λ r. ⌜ ((l : Line) → stateWith r l ≡ holding (stateWith self l) faults) ⌝ }
+    {
+        let mut next = self;
+        next.faults = faults;
+        next
+    }
+
+    // 01, "The host notes codes".
+    pub fn note(self, code: u8) -> State
+        ensures { λ r. ⌜ ((l : Line) → stateWith r l ≡ noted (stateWith self l) code) ⌝ }
+    {
+        self.with_faults(self.faults.note(code))
+    }
+
+    // 01, "Power-on empties the queue .. and unlocks; all else stays"; the open frame is dropped by who holds it.
+    pub fn power_on(self) -> State
+        ensures { λ r. ⌜ ((l : Line) → stateWith r none ≡ poweredOn (stateWith self l)) ⌝ }
+    {
+        self.with_faults(self.faults.power_on())
+    }
+
+    // 01, "State limits", but for the kept bytes.
+    pub fn is_ok(self, bits: u32) -> bool
+        requires { ⌜ bits ≤ 32 ⌝ }
+        ensures { λ r. ⌜ ((p : Plate) (l : Line) → p .bits ≡ bits → length (l .kept) ≤ 135 → r ≡ stateOk p (stateWith self l)) ⌝ }
+    {
+        if 0xFFFFFF < self.counter {
+            return false;
+        }
+        if size(bits) <= self.offset as u64 {
+            return false;
+        }
+        self.faults.is_sound()
+    }
+}
+
+// 2 to the number of position bits.
+pub fn size(bits: u32) -> u64
+    requires { ⌜ bits ≤ 32 ⌝ }
+    ensures { λ r. ⌜ r ≡ 2 ^ bits ⌝ }
+{
+    1u64 << bits
+}

@@ -1,0 +1,43 @@
+-- `frame::table::length_fits` meets its contract. Assumes nothing.
+use Rattle.meaning.specs.Commands.{lengthFits}
+use borrow.Author.Needs.{needs}
+use Rattle.wire.proofs.table.length_fits.Statement.{statement}
+use Rattle.wire.proofs.table.length_fits.Tie as tie
+use Rattle.wire.proofs.table.length_fits.Reads as reads
+use Rattle.wire.proofs.table.length_fits.Lts as lts
+use Rattle.wire.proofs.table.counted_fits.Reads as counted-fits-reads
+
+enum-known-wanted : tie.Need-enum-known-wanted
+enum-known-wanted c = search needs
+
+enum-known-wanted-2 : tie.Need-enum-known-wanted-2
+enum-known-wanted-2 c = search needs
+
+counted-fits-requires : tie.Need-counted-fits-requires
+counted-fits-requires c κs = search needs
+
+enum-told : tie.Need-enum-told
+enum-told c = search needs
+
+returns : tie.Need-returns
+unfolding lengthFits
+returns c d x e f = rw (c .before .wanted .given .1, f)
+
+returns-2 : tie.Need-returns-2
+returns-2 c d x e f = rw (c .before .before .wanted2 .given .1) (c .counted-fits .ensures d x e f)
+
+returns-3 : tie.Need-returns-3
+unfolding lengthFits
+returns-3 c d x e f = rw (c .enum-told .given .1)
+
+pub length-fits-spec : {M : Type 1} → statement M
+length-fits-spec =
+    tie.close
+    (tie.spec
+    enum-known-wanted
+    enum-known-wanted-2
+    counted-fits-requires
+    enum-told
+    returns
+    returns-2
+    returns-3)
