@@ -10,20 +10,20 @@ use Rattle.passes.proofs.passes.go_on.Tie as tie
 use Rattle.passes.proofs.passes.go_on.Reads as reads
 use Rattle.passes.proofs.passes.go_on.Lts as lts
 use Rattle.passes.proofs.passes.after_pass.Reads as after-pass-reads
-use Rattle.passes.proofs.passes.memory_length.Reads as image-length-reads
+use Rattle.passes.proofs.passes.memory_length.Reads as memory-length-reads
 use Rattle.passes.proofs.passes.play.Reads as play-reads
 
-image-length-requires : tie.Need-image-length-requires
-image-length-requires c κs = total-fits _ (c .before .before .before .before .before .pre .playable .sound .within .plate)
+memory-length-requires : tie.Need-memory-length-requires
+memory-length-requires c κs = total-fits _ (c .before .before .before .before .before .pre .playable .sound .within .plate)
 
 slice-relend-prefix-play : tie.Need-slice-relend-prefix-play
-slice-relend-prefix-play c = in-front _ _ _ _ _ _ _ _ _ _ _ (c .before .image-length .ensures) (c .before .before .before .before .before .before .before .pre)
+slice-relend-prefix-play c = in-front _ _ _ _ _ _ _ _ _ _ _ (c .before .memory-length .ensures) (c .before .before .before .before .before .before .before .pre)
 
 slice-aggregate-play : tie.Need-slice-aggregate-play
-slice-aggregate-play c = sym (length-take-le _ _ (in-front _ _ _ _ _ _ _ _ _ _ _ (c .before .before .image-length .ensures) (c .before .before .before .before .before .before .before .before .pre)))
+slice-aggregate-play c = sym (length-take-le _ _ (in-front _ _ _ _ _ _ _ _ _ _ _ (c .before .before .memory-length .ensures) (c .before .before .before .before .before .before .before .before .pre)))
 
 play-requires : tie.Need-play-requires
-play-requires c κs = rw (c .before .before .before .before .image-length .ensures) (c .before .before .before .before .before .before .before .before .before .before .pre .playable)
+play-requires c κs = rw (c .before .before .before .before .memory-length .ensures) (c .before .before .before .before .before .before .before .before .before .before .pre .playable)
 
 after-pass-requires : tie.Need-after-pass-requires
 after-pass-requires c κs = omega (arith, c .before .before .before .before .before .before .before .before .play .ensures .inside, c .before .before .before .before .before .before .before .before .before .before .before .before .before .before .before .before .before .before .before .pre .playable .places)
@@ -41,13 +41,13 @@ same-length-4 : tie.Need-same-length-4
 same-length-4 c = search needs
 
 returns : tie.Need-returns
-returns c = goes-from _ _ _ _ _ _ _ _ _ _ _ (c .before .before .before .before .before .before .before .before .before .before .before .before .before .before .image-length .ensures) (c .before .before .before .before .before .before .before .before .before .before .before .before .before .before .before .before .before .before .before .before .pre) _ _ _ _ _ (c .before .before .before .before .before .before .before .before .before .play .ensures) _ (c .after-pass .ensures)
+returns c = goes-from _ _ _ _ _ _ _ _ _ _ _ (c .before .before .before .before .before .before .before .before .before .before .before .before .before .before .memory-length .ensures) (c .before .before .before .before .before .before .before .before .before .before .before .before .before .before .before .before .before .before .before .before .pre) _ _ _ _ _ (c .before .before .before .before .before .before .before .before .before .play .ensures) _ (c .after-pass .ensures)
 
 pub go-on-spec : {M : Type 1} → statement M
 go-on-spec =
     tie.close
     (tie.spec
-    image-length-requires
+    memory-length-requires
     slice-relend-prefix-play
     slice-aggregate-play
     play-requires
