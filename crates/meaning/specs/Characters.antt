@@ -5,7 +5,7 @@ use mathlib.Core.List.{List, [], _∷_, _++_}
 use lib.ListN.{length, take}
 use lib.Dec.{leb, ltb}
 use lib.Bits.{bitXor}
-use Rattle.meaning.specs.Bytes.{pick, both, either, xorAll}
+use Rattle.meaning.specs.Bytes.{pick, both, either, longestRequest, xorAll}
 use Rattle.meaning.specs.State.{Plate, State, Line, none, withLine}
 
 -- 01, "a gap is taken modulo 2^32": the ticks from one stamp to another
@@ -20,9 +20,9 @@ over p s now = both (s .line .begun) (leb (p .pause * p .ticks) (gap (s .line .l
 unfoldable pub more : Line → ℕ → ℕ → Bool → Line
 more l now v bad = record {
   begun = true;
-  kept = pick (ltb (length (l .kept)) 135) (l .kept ++ (v ∷ [])) (l .kept);
+  kept = pick (ltb (length (l .kept)) longestRequest) (l .kept ++ (v ∷ [])) (l .kept);
   sum = bitXor (l .sum) v;
-  longer = either (l .longer) (leb 135 (length (l .kept)));
+  longer = either (l .longer) (leb longestRequest (length (l .kept)));
   parity = either (l .parity) bad;
   last = now;
 }
@@ -43,4 +43,4 @@ closed l = record { bytes = l .kept; sum = l .sum; longer = l .longer; parity = 
 
 -- 01, "Characters become frames": the frame of characters that came without a parity fault
 unfoldable pub whole : List ℕ → Frame
-whole b = record { bytes = take 135 b; sum = xorAll b; longer = ltb 135 (length b); parity = false }
+whole b = record { bytes = take longestRequest b; sum = xorAll b; longer = ltb longestRequest (length b); parity = false }
