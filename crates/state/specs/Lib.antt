@@ -1,4 +1,4 @@
--- The definitions of `commands`, file by file.
+-- The definitions of `state`, file by file.
 pub mod Queue
 pub mod State
 pub mod Rows

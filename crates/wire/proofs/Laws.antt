@@ -1,4 +1,4 @@
--- Laws of the checksum's loop, of bytes put into a room, and of a frame that is sealed round its data. Assumes nothing.
+-- Laws of the checksum's loop, of bytes put into a buffer, and of a frame that is sealed round its data. Assumes nothing.
 use mathlib.Core.Path.{_≡_, refl, sym, _∙_}
 use mathlib.Core.Bool.{Bool, true, false}
 use mathlib.Core.List.{List, [], _∷_, _++_, append-nil}
@@ -36,17 +36,17 @@ fill-more s d i h k =
     rw (add-one, drop-cons d i 0, take-suc s i 0)
     (set-at (take i s) (getD d i 0) (drop (suc i) d) (getD s i 0) i (length-take-le i s (omega arith)) ∙ sym (append-snoc (take i s) (getD s i 0) (drop (suc i) d)))
 
--- the tail of a room from place a on, lent, filled at its front and come back
-pub tail-filled : (room d : List ℕ) (a : ℕ) → a + length d ≤ length room
-    → putMid a (length room - a) room (put (midOf a (length room - a) room) 0 d) ≡ put room a d
+-- the tail of a buffer from place a on, lent, filled at its front and come back
+pub tail-filled : (buffer d : List ℕ) (a : ℕ) → a + length d ≤ length buffer
+    → putMid a (length buffer - a) buffer (put (midOf a (length buffer - a) buffer) 0 d) ≡ put buffer a d
 unfolding put
-tail-filled room d a h =
-    let k : length room - a ≡ length (drop a room) = sym (length-drop a room) in
-    rw (k, take-length (drop a room), drop-length (drop a room), zero-add, append-nil, drop-drop (length d) a room)
+tail-filled buffer d a h =
+    let k : length buffer - a ≡ length (drop a buffer) = sym (length-drop a buffer) in
+    rw (k, take-length (drop a buffer), drop-length (drop a buffer), zero-add, append-nil, drop-drop (length d) a buffer)
 
 -- the data of a sealed frame, where it stood already
-pub sealed-round : (a c n : ℕ) (room : List ℕ) → n + 3 ≤ length room
-    → set (set (set room 0 a) 1 c) (n + 2) (xorFrom (bitXor a c) (take (n + 2 - 2) (drop 2 room))) ≡ put room 0 (sealed (a ∷ c ∷ part room 2 n))
+pub sealed-round : (a c n : ℕ) (buffer : List ℕ) → n + 3 ≤ length buffer
+    → set (set (set buffer 0 a) 1 c) (n + 2) (xorFrom (bitXor a c) (take (n + 2 - 2) (drop 2 buffer))) ≡ put buffer 0 (sealed (a ∷ c ∷ part buffer 2 n))
 unfolding sealed part xorAll xorFrom
 sealed-round a c n [] h = absurd (omega arith)
 sealed-round a c n (x ∷ []) h = absurd (omega arith)
@@ -59,12 +59,12 @@ sealed-round a c n (x ∷ y ∷ r) h =
     rw (t, s, put-front (x ∷ y ∷ r) q, k, set-split r n z (omega arith)) (sym (append-snoc (a ∷ c ∷ take n r) z (drop (suc n) r)))
 
 -- data put from place 2 on and then sealed is the whole frame put at the front
-pub seal-data : (a c n : ℕ) (d room : List ℕ) → length d ≡ n → n + 3 ≤ length room
-    → put (put room 2 d) 0 (sealed (a ∷ c ∷ part (put room 2 d) 2 n)) ≡ put room 0 (sealed (a ∷ c ∷ d))
-seal-data a c n d room e h =
+pub seal-data : (a c n : ℕ) (d buffer : List ℕ) → length d ≡ n → n + 3 ≤ length buffer
+    → put (put buffer 2 d) 0 (sealed (a ∷ c ∷ part (put buffer 2 d) 2 n)) ≡ put buffer 0 (sealed (a ∷ c ∷ d))
+seal-data a c n d buffer e h =
     let q : List ℕ = sealed (a ∷ c ∷ d) in
     let k : 2 + length d ≤ length q = omega (arith, length-sealed (a ∷ c ∷ d)) in
-    rw (part-put room 2 d n (omega arith) e, put-front (put room 2 d) q, put-front room q, drop-put-low room 2 d (omega arith) (length q) k)
+    rw (part-put buffer 2 d n (omega arith) e, put-front (put buffer 2 d) q, put-front buffer q, drop-put-low buffer 2 d (omega arith) (length q) k)
 
 -- a count past its base: too few, too many, and compared by what is past
 pub too-few : (b : ℕ) (d x : List ℕ) → length x ≤ b → lengthFits (counted b) d x ≡ false

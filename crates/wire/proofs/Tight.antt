@@ -40,9 +40,6 @@ row-back r = λ i. record { known = r .known; request = length-back (r .request)
 pub row-of-tight : (c : ℕ) (a b : Row) → rowOf a ≡ row (commandOf c) → rowOf b ≡ row (commandOf c) → a ≡ b
 row-of-tight c a b p q = one-outcome rowOf rowBack row-back (row (commandOf c)) a b p q
 
-pub length-fits-tight : (l : meaning.Length) (count n : ℕ) (a b : Bool)
-    → ((d x : List ℕ) → arg d 2 ≡ count → length x ≡ n → a ≡ lengthFits l d x)
-    → ((d x : List ℕ) → arg d 2 ≡ count → length x ≡ n → b ≡ lengthFits l d x) → a ≡ b
-length-fits-tight l count n a b p q =
-    let d : List ℕ = 0 ∷ 0 ∷ count ∷ [] in
-    p d (zeros n) refl (length-replicate n 0) ∙ sym (q d (zeros n) refl (length-replicate n 0))
+pub length-fits-tight : (l : meaning.Length) (d : List ℕ) (n : ℕ) (a b : Bool) → ((x : List ℕ) → length x ≡ n → a ≡ lengthFits l d x)
+    → ((x : List ℕ) → length x ≡ n → b ≡ lengthFits l d x) → a ≡ b
+length-fits-tight l d n a b p q = p (zeros n) (length-replicate n 0) ∙ sym (q (zeros n) (length-replicate n 0))

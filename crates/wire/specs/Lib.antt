@@ -1,3 +1,4 @@
--- The definitions of `frame`, file by file.
+-- The definitions of `wire`, file by file.
 pub mod Table
 pub mod Answers
+pub mod Numbers

@@ -1,15 +1,21 @@
-// What board and bench share: the frame of 000, 2.3.3, the table of the commands, what a command comes to, and a number from its bytes.
+// What board and bench share of the wire: the frame of 000, 2.3.3, its bytes and numbers, the error codes, the table of the commands, and what a command comes to.
 mod answer;
+mod bytes;
+pub mod codes;
+mod framing;
 mod number;
-mod room;
 mod sum;
 mod table;
 
 pub use answer::Answer;
+pub use bytes::byte_at;
+pub use bytes::data_part;
+pub use bytes::front;
+pub use framing::fill;
+pub use framing::seal;
+pub use framing::write;
+pub use number::bytes_of;
 pub use number::number_at;
-pub use room::fill;
-pub use room::seal;
-pub use room::write;
 pub use sum::xor_from;
 pub use sum::xor_of;
 pub use table::Length;

@@ -6,6 +6,8 @@ ghost use lib.ListN.{length};
 ghost use Rattle.meaning.specs.Bytes.{arg};
 ghost use Rattle.meaning.specs.Commands.{counted, lengthFits, entry, row, commandOf};
 ghost use Rattle.wire.specs.Table.{lengthOf, rowOf};
+use crate::bytes::byte_at;
+use crate::codes::MOST_COUNT;
 
 // So many bytes; so many and the request's count, 1 to 128, more; no length fits.
 pub enum Length {
@@ -72,19 +74,19 @@ fn counted_fits(base: usize, count: u8, n: usize) -> bool
         return false;
     }
     let more = n - base;
-    if 128 < more {
+    if MOST_COUNT < more {
         return false;
     }
     more == wide(count)
 }
 
-// `count` is the count byte of the request, `n` the length that is looked at.
-pub fn length_fits(wanted: Length, count: u8, n: usize) -> bool
-    ensures { λ r. ⌜ ((d x : List ℕ) → arg d 2 ≡ count → length x ≡ n → r ≡ lengthFits (lengthOf wanted) d x) ⌝ }
+// `request` is the request's data, whose third byte is the count; `n` the length that is looked at.
+pub fn length_fits(wanted: Length, request: &[u8], n: usize) -> bool
+    ensures { λ r. ⌜ ((x : List ℕ) → length x ≡ n → r ≡ lengthFits (lengthOf wanted) (now (request .entry)) x) ⌝ }
 {
     match wanted {
         Length::Exactly(k) => n == k,
-        Length::Counted(k) => counted_fits(k, count, n),
+        Length::Counted(k) => counted_fits(k, byte_at(request, 2), n),
         Length::Never => false,
     }
 }

@@ -1,4 +1,4 @@
--- `answers::beginning::begin` meets its contract. Assumes nothing.
+-- `passes::beginning::begin` meets its contract. Assumes nothing.
 use mathlib.Core.Path.{_≡_, refl}
 use mathlib.Core.List.{[], _∷_}
 use types.Run.{OneOf, miss}

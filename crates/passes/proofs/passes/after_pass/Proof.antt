@@ -1,4 +1,4 @@
--- `answers::passes::after_pass` meets its contract. Assumes nothing.
+-- `passes::passes::after_pass` meets its contract. Assumes nothing.
 use borrow.Author.Needs.{needs}
 use Rattle.passes.proofs.passes.after_pass.Statement.{statement}
 use Rattle.passes.proofs.passes.after_pass.Tie as tie

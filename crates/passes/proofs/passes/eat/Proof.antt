@@ -1,4 +1,4 @@
--- `answers::passes::eat` meets its contract. Assumes nothing.
+-- `passes::passes::eat` meets its contract. Assumes nothing.
 use native.Mathlib.Omega.{arith}
 use Rattle.passes.proofs.Eating.{eats-idle, eats-none, works-lend, eats-works}
 use borrow.Author.Needs.{needs}

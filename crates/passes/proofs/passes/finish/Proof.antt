@@ -1,4 +1,4 @@
--- `answers::passes::finish` meets its contract. Assumes nothing.
+-- `passes::passes::finish` meets its contract. Assumes nothing.
 use mathlib.Core.Path.{sym}
 use native.Mathlib.Omega.{arith}
 use Rattle.tape.proofs.Texts.{printed-as}

@@ -1,4 +1,4 @@
--- `answers::passes::go_on` meets its contract: the front of the lent memory goes out and comes back. Assumes nothing.
+-- `passes::passes::go_on` meets its contract: the front of the lent memory goes out and comes back. Assumes nothing.
 use mathlib.Core.Path.{sym}
 use native.Mathlib.Omega.{arith}
 use lib.Seq.{length-take-le}

@@ -1,4 +1,4 @@
--- `answers::passes::play` meets its contract: what was read and printed, and what is left, come to the whole pass. Assumes nothing.
+-- `passes::passes::play` meets its contract: what was read and printed, and what is left, come to the whole pass. Assumes nothing.
 use Prim.Native.Nat.{_-_}
 use mathlib.Core.Path.{_≡_, refl, sym, _∙_}
 use native.Mathlib.Omega.{arith}

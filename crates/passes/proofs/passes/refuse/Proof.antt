@@ -1,4 +1,4 @@
--- `answers::passes::refuse` meets its contract. Assumes nothing.
+-- `passes::passes::refuse` meets its contract. Assumes nothing.
 use mathlib.Core.Path.{refl}
 -- `answers::passes::refuse` meets its contract. Assumes nothing.
 use borrow.Author.Needs.{needs}

@@ -1,4 +1,4 @@
--- `commands::faults::may_precede` meets its contract. Assumes nothing.
+-- `state::faults::may_precede` meets its contract. Assumes nothing.
 use borrow.Author.Tests.{eq-eqb, ne-eqb}
 use Rattle.state.proofs.Places.{may-precede, precedes-none}
 use borrow.Author.Needs.{needs}

@@ -1,4 +1,4 @@
--- `commands::faults::no_more` meets its contract. Assumes nothing.
+-- `state::faults::no_more` meets its contract. Assumes nothing.
 use borrow.Author.Tests.{eq-eqb, ne-eqb}
 use Rattle.state.proofs.Places.{no-more}
 use Rattle.state.proofs.faults.no_more.Statement.{statement}

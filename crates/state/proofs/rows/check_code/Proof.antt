@@ -1,4 +1,4 @@
--- `commands::rows::check_code` meets its contract. Assumes nothing.
+-- `state::rows::check_code` meets its contract. Assumes nothing.
 use borrow.Author.Tests.{eq-eqb, ne-eqb}
 use borrow.Author.Needs.{needs}
 use Rattle.state.proofs.rows.check_code.Statement.{statement}

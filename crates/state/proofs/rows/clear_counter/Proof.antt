@@ -1,4 +1,4 @@
--- `commands::rows::clear_counter` meets its contract. Assumes nothing.
+-- `state::rows::clear_counter` meets its contract. Assumes nothing.
 use mathlib.Core.Path.{sym, _∙_}
 use Rattle.state.proofs.Ways.{barred-49, cleared-49}
 use borrow.Author.Needs.{needs}

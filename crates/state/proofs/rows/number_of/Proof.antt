@@ -1,4 +1,4 @@
--- `commands::rows::number_of` meets its contract. Assumes nothing.
+-- `state::rows::number_of` meets its contract. Assumes nothing.
 use native.Mathlib.Omega.{arith}
 use Rattle.meaning.specs.Bytes.{number}
 use borrow.Author.Needs.{needs}

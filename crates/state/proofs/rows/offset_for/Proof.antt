@@ -1,4 +1,4 @@
--- `commands::rows::offset_for` meets its contract. Assumes nothing.
+-- `state::rows::offset_for` meets its contract. Assumes nothing.
 use native.Mathlib.Omega.{arith}
 use Prim.Native.Nat.{_+_, _-_, _%_}
 use Rattle.state.proofs.Turns.{some, low, rest}

@@ -1,4 +1,4 @@
--- `commands::rows::position` meets its contract. Assumes nothing.
+-- `state::rows::position` meets its contract. Assumes nothing.
 use native.Mathlib.Omega.{arith}
 use Rattle.state.proofs.Turns.{some, low, rest}
 use Rattle.meaning.specs.State.{position}

@@ -1,4 +1,4 @@
--- `commands::rows::put_bytes3` meets its contract. Assumes nothing.
+-- `state::rows::put_bytes3` meets its contract. Assumes nothing.
 use native.Mathlib.Omega.{arith}
 use lib.ListN.{length-set}
 use Rattle.state.proofs.Answering.{put-three}

@@ -1,4 +1,4 @@
--- `commands::rows::read_fault` meets its contract. Assumes nothing.
+-- `state::rows::read_fault` meets its contract. Assumes nothing.
 use Rattle.state.proofs.Ways.{told-50}
 use borrow.Author.Needs.{needs}
 use Rattle.state.proofs.rows.read_fault.Statement.{statement}

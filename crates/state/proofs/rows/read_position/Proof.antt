@@ -1,4 +1,4 @@
--- `commands::rows::read_position` meets its contract. Assumes nothing.
+-- `state::rows::read_position` meets its contract. Assumes nothing.
 use Rattle.state.proofs.Ways.{locked-42, told-42}
 use borrow.Author.Needs.{needs}
 use Rattle.state.proofs.rows.read_position.Statement.{statement}

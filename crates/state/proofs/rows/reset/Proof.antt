@@ -1,4 +1,4 @@
--- `commands::rows::reset` meets its contract. Assumes nothing.
+-- `state::rows::reset` meets its contract. Assumes nothing.
 use Rattle.state.proofs.Ways.{quiet-53}
 use borrow.Author.Needs.{needs}
 use Rattle.state.proofs.rows.reset.Statement.{statement}

@@ -1,4 +1,4 @@
--- `commands::rows::set_code` meets its contract. Assumes nothing.
+-- `state::rows::set_code` meets its contract. Assumes nothing.
 use mathlib.Core.Path.{sym, _∙_}
 use borrow.Author.Tests.{lt-ltb, le-ltb}
 use Rattle.state.proofs.Ways.{high-4F, barred-4F, set-4F}

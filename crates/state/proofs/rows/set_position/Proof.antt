@@ -1,4 +1,4 @@
--- `commands::rows::set_position` meets its contract. Assumes nothing.
+-- `state::rows::set_position` meets its contract. Assumes nothing.
 use mathlib.Core.Path.{sym, _∙_}
 use borrow.Author.Tests.{le-leb, lt-leb}
 use Rattle.state.proofs.Ways.{locked-43, barred-43, high-43, set-43, wanted-of, reaches, turned}

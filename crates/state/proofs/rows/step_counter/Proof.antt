@@ -1,4 +1,4 @@
--- `commands::rows::step_counter` meets its contract. Assumes nothing.
+-- `state::rows::step_counter` meets its contract. Assumes nothing.
 use borrow.Author.Tests.{eq-eqb, ne-eqb}
 use Rattle.state.proofs.Ways.{wraps-47, steps-47}
 use borrow.Author.Needs.{needs}

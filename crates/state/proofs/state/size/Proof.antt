@@ -1,4 +1,4 @@
--- `commands::state::size` meets its contract. Assumes nothing.
+-- `state::state::size` meets its contract. Assumes nothing.
 use native.Mathlib.Omega.{arith}
 use native.Mathlib.Nat.{one-mul, mod-eq-of-lt}
 use lib.Pow.{pow-lt}

@@ -1,4 +1,4 @@
--- `frame::number::low_first` meets its contract. Assumes nothing.
+-- `wire::number::low_first` meets its contract. Assumes nothing.
 use Rattle.meaning.specs.Bytes.{little}
 use borrow.Author.Needs.{needs}
 use Rattle.wire.proofs.number.low_first.Statement.{statement}

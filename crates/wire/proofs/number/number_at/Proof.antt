@@ -1,4 +1,4 @@
--- `frame::number::number_at` meets its contract. Assumes nothing.
+-- `wire::number::number_at` meets its contract. Assumes nothing.
 use mathlib.Core.Path.{sym, _∙_}
 use Rattle.wire.proofs.Numbers.{little-at}
 use borrow.Author.Needs.{needs}

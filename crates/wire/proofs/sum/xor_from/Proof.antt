@@ -1,4 +1,4 @@
--- `frame::sum::xor_from` meets its contract: what is left to pass, from the sum so far, comes to the whole checksum. Assumes nothing.
+-- `wire::sum::xor_from` meets its contract: what is left to pass, from the sum so far, comes to the whole checksum. Assumes nothing.
 use borrow.Author.Needs.{needs}
 use mathlib.Core.Path.{_≡_, _∙_}
 use Prim.Native.Nat.{_≤_, _-_}

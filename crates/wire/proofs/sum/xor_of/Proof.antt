@@ -1,4 +1,4 @@
--- `frame::sum::xor_of` meets its contract. Assumes nothing.
+-- `wire::sum::xor_of` meets its contract. Assumes nothing.
 use Rattle.meaning.specs.Bytes.{xorAll}
 use borrow.Author.Needs.{needs}
 use Rattle.wire.proofs.sum.xor_of.Statement.{statement}

@@ -1,4 +1,4 @@
--- `frame::table::counted_fits` meets its contract. Assumes nothing.
+-- `wire::table::counted_fits` meets its contract. Assumes nothing.
 use mathlib.Core.Path.{_∙_, sym, ap}
 use Prim.Native.Nat.{ℕ, _-_}
 use lib.Dec.{eqb}

@@ -1,4 +1,4 @@
--- `frame::table::row_of` meets its contract. Assumes nothing.
+-- `wire::table::row_of` meets its contract. Assumes nothing.
 use borrow.Author.Tests.{ne-eqb}
 use Rattle.meaning.specs.Commands.{commandOf, row}
 use borrow.Author.Needs.{needs}

@@ -1,4 +1,4 @@
--- `commands::faults::Faults::emptied` meets its contract. Assumes nothing.
+-- `state::faults::Faults::emptied` meets its contract. Assumes nothing.
 use Rattle.state.proofs.Places.{emptied}
 use borrow.Author.Needs.{needs}
 use Rattle.state.proofs.faults.Faults.emptied.Statement.{statement}

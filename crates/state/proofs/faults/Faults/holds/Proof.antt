@@ -1,4 +1,4 @@
--- `commands::faults::Faults::holds` meets its contract. Assumes nothing.
+-- `state::faults::Faults::holds` meets its contract. Assumes nothing.
 use borrow.Author.Tests.{eq-eqb, ne-eqb}
 use Rattle.state.proofs.Places.{among-four}
 use Rattle.state.proofs.faults.Faults.holds.Statement.{statement}

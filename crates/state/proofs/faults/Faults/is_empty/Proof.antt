@@ -1,4 +1,4 @@
--- `commands::faults::Faults::is_empty` meets its contract. Assumes nothing.
+-- `state::faults::Faults::is_empty` meets its contract. Assumes nothing.
 use borrow.Author.Tests.{eq-eqb, ne-eqb}
 use mathlib.Core.Path.{sym}
 use Rattle.state.proofs.Places.{none-waits}

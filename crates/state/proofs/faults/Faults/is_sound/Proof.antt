@@ -1,4 +1,4 @@
--- `commands::faults::Faults::is_sound` meets its contract. Assumes nothing.
+-- `state::faults::Faults::is_sound` meets its contract. Assumes nothing.
 use borrow.Author.Tests.{eq-eqb, not-false, not-true}
 use mathlib.Core.Path.{sym, _∙_}
 use Rattle.state.proofs.Places.{sound-four, sound-empty, sound-one}

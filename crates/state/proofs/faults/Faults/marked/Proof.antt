@@ -1,4 +1,4 @@
--- `commands::faults::Faults::marked` meets its contract. Assumes nothing.
+-- `state::faults::Faults::marked` meets its contract. Assumes nothing.
 use mathlib.Core.Path.{sym, _∙_}
 use Rattle.state.proofs.Places.{unmarked, marked}
 use borrow.Author.Needs.{needs}

@@ -1,4 +1,4 @@
--- `commands::faults::Faults::note` meets its contract. Assumes nothing.
+-- `state::faults::Faults::note` meets its contract. Assumes nothing.
 use borrow.Author.Tests.{eq-eqb, ne-eqb}
 use Rattle.state.proofs.Places.{ignored, locking, queueing}
 use borrow.Author.Needs.{needs}

@@ -1,4 +1,4 @@
--- `commands::faults::Faults::queued` meets its contract. Assumes nothing.
+-- `state::faults::Faults::queued` meets its contract. Assumes nothing.
 use borrow.Author.Tests.{eq-eqb, ne-eqb}
 use mathlib.Core.Path.{sym, _∙_}
 use Rattle.state.proofs.Places.{waits-already, stays-full, to-fourth, to-third, to-second, to-first}

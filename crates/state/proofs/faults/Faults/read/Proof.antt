@@ -1,4 +1,4 @@
--- `commands::faults::Faults::read` meets its contract. Assumes nothing.
+-- `state::faults::Faults::read` meets its contract. Assumes nothing.
 use mathlib.Core.Path.{refl}
 use Rattle.state.proofs.Places.{oldest-first}
 use Rattle.state.proofs.faults.Faults.read.Statement.{statement}

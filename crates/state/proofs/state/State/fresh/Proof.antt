@@ -1,4 +1,4 @@
--- `commands::state::State::fresh` meets its contract. Assumes nothing.
+-- `state::state::State::fresh` meets its contract. Assumes nothing.
 use Rattle.meaning.specs.State.{fresh}
 use Rattle.state.specs.Queue.{queueOf, waiting}
 use borrow.Author.Needs.{needs}

@@ -1,4 +1,4 @@
--- `commands::state::State::is_ok` meets its contract. Assumes nothing.
+-- `state::state::State::is_ok` meets its contract. Assumes nothing.
 use mathlib.Core.Path.{_≡_, sym}
 use lib.ListN.{length}
 use borrow.Author.Tests.{le-leb, lt-leb, le-ltb, lt-ltb}

@@ -1,4 +1,4 @@
--- `commands::state::State::note` meets its contract. Assumes nothing.
+-- `state::state::State::note` meets its contract. Assumes nothing.
 use Rattle.state.proofs.States.{notes}
 use borrow.Author.Needs.{needs}
 use Rattle.state.proofs.state.State.note.Statement.{statement}

@@ -1,4 +1,4 @@
--- `commands::state::State::power_on` meets its contract. Assumes nothing.
+-- `state::state::State::power_on` meets its contract. Assumes nothing.
 use Rattle.meaning.specs.State.{none}
 use Rattle.state.proofs.States.{powers-on}
 use borrow.Author.Needs.{needs}

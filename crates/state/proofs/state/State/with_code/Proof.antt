@@ -1,4 +1,4 @@
--- `commands::state::State::with_code` meets its contract. Assumes nothing.
+-- `state::state::State::with_code` meets its contract. Assumes nothing.
 use mathlib.Core.Path.{refl}
 use Rattle.meaning.specs.State.{withCodes}
 use borrow.Author.Needs.{needs}

@@ -1,4 +1,4 @@
--- `commands::state::State::with_counter` meets its contract. Assumes nothing.
+-- `state::state::State::with_counter` meets its contract. Assumes nothing.
 use mathlib.Core.Path.{refl}
 use Rattle.meaning.specs.State.{withCounter}
 use Rattle.state.proofs.state.State.with_counter.Statement.{statement}

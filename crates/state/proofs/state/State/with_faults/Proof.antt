@@ -1,4 +1,4 @@
--- `commands::state::State::with_faults` meets its contract. Assumes nothing.
+-- `state::state::State::with_faults` meets its contract. Assumes nothing.
 use mathlib.Core.Path.{refl}
 use Rattle.meaning.specs.State.{withLock, withQueue}
 use Rattle.state.specs.Queue.{holding}

@@ -1,4 +1,4 @@
--- `frame::room::fill` meets its contract: the front is copied, the rest is as it was. Assumes nothing.
+-- `wire::framing::fill` meets its contract: the front is copied, the rest is as it was. Assumes nothing.
 use borrow.Author.Needs.{needs}
 use native.Mathlib.Omega.{arith}
 use mathlib.Core.Path.{_≡_, _∙_, sym}
@@ -7,10 +7,10 @@ use Prim.Native.Nat.{_≤_, _-_}
 use lib.ListN.{length, drop, take, length-set}
 use lib.Seq.{take-length}
 use Rattle.wire.proofs.Laws.{fill-more}
-use Rattle.wire.proofs.room.fill.Statement.{statement}
-use Rattle.wire.proofs.room.fill.Tie as tie
-use Rattle.wire.proofs.room.fill.Reads as reads
-use Rattle.wire.proofs.room.fill.Lts as lts
+use Rattle.wire.proofs.framing.fill.Statement.{statement}
+use Rattle.wire.proofs.framing.fill.Tie as tie
+use Rattle.wire.proofs.framing.fill.Reads as reads
+use Rattle.wire.proofs.framing.fill.Lts as lts
 use Rattle.meaning.proofs.Puts.{put-front}
 
 abbrev Inv-loop : tie.InvT-loop

@@ -1,11 +1,11 @@
--- `bench::bytes::byte_at` meets its contract. Assumes nothing.
+-- `wire::bytes::byte_at` meets its contract. Assumes nothing.
 use lib.ListN.{List·getD-eq-default}
 use mathlib.Core.Path.{sym}
 use borrow.Author.Needs.{needs}
-use Rattle.bench.proofs.bytes.byte_at.Statement.{statement}
-use Rattle.bench.proofs.bytes.byte_at.Tie as tie
-use Rattle.bench.proofs.bytes.byte_at.Reads as reads
-use Rattle.bench.proofs.bytes.byte_at.Lts as lts
+use Rattle.wire.proofs.bytes.byte_at.Statement.{statement}
+use Rattle.wire.proofs.bytes.byte_at.Tie as tie
+use Rattle.wire.proofs.bytes.byte_at.Reads as reads
+use Rattle.wire.proofs.bytes.byte_at.Lts as lts
 
 shared-slice-read-result : tie.Need-shared-slice-read-result
 shared-slice-read-result c = search needs

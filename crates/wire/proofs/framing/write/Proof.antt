@@ -1,4 +1,4 @@
--- `frame::room::write` meets its contract. Assumes nothing.
+-- `wire::framing::write` meets its contract. Assumes nothing.
 use native.Mathlib.Omega.{arith}
 use mathlib.Core.Path.{refl, _∙_, ap}
 use mathlib.Core.List.{List, _∷_}
@@ -9,12 +9,12 @@ use Rattle.meaning.specs.Bytes.{put, part}
 use Rattle.meaning.specs.Frames.{sealed}
 use Rattle.wire.proofs.Laws.{tail-filled, seal-data}
 use borrow.Author.Needs.{needs}
-use Rattle.wire.proofs.room.write.Statement.{statement}
-use Rattle.wire.proofs.room.write.Tie as tie
-use Rattle.wire.proofs.room.write.Reads as reads
-use Rattle.wire.proofs.room.write.Lts as lts
-use Rattle.wire.proofs.room.fill.Reads as fill-reads
-use Rattle.wire.proofs.room.seal.Reads as seal-reads
+use Rattle.wire.proofs.framing.write.Statement.{statement}
+use Rattle.wire.proofs.framing.write.Tie as tie
+use Rattle.wire.proofs.framing.write.Reads as reads
+use Rattle.wire.proofs.framing.write.Lts as lts
+use Rattle.wire.proofs.framing.fill.Reads as fill-reads
+use Rattle.wire.proofs.framing.seal.Reads as seal-reads
 
 sub-fill : tie.Need-sub-fill
 sub-fill c = search needs
@@ -40,10 +40,10 @@ returns c =
     let v = u .before .before .before .before in
     let a = v .before .before .before .before .args in
     let d = a .body .now in
-    let room = a .room .now in
-    let back = ap (putMid 2 (length room - 2) room) (v .fill .ensures) ∙ tail-filled room d 2 (omega arith) in
+    let buffer = a .buffer .now in
+    let back = ap (putMid 2 (length buffer - 2) buffer) (v .fill .ensures) ∙ tail-filled buffer d 2 (omega arith) in
     u .seal .ensures ∙ ap (λ (w : List ℕ). put w 0 (sealed (a .address ∷ a .command ∷ part w 2 (length d)))) back
-    ∙ seal-data (a .address) (a .command) (length d) d room refl (search needs)
+    ∙ seal-data (a .address) (a .command) (length d) d buffer refl (search needs)
 
 pub write-spec : {M : Type 1} → statement M
 write-spec =

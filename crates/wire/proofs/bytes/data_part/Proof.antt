@@ -1,14 +1,14 @@
--- `bench::bytes::data_part` meets its contract. Assumes nothing.
+-- `wire::bytes::data_part` meets its contract. Assumes nothing.
 use Rattle.meaning.specs.Frames.{dataOf}
 use lib.ListN.{length, take, drop}
 use Prim.Native.Nat.{ℕ, _-_}
 use native.Mathlib.Omega.{arith}
 use mathlib.Core.Path.{_≡_, refl, ap}
 use borrow.Author.Needs.{needs}
-use Rattle.bench.proofs.bytes.data_part.Statement.{statement}
-use Rattle.bench.proofs.bytes.data_part.Tie as tie
-use Rattle.bench.proofs.bytes.data_part.Reads as reads
-use Rattle.bench.proofs.bytes.data_part.Lts as lts
+use Rattle.wire.proofs.bytes.data_part.Statement.{statement}
+use Rattle.wire.proofs.bytes.data_part.Tie as tie
+use Rattle.wire.proofs.bytes.data_part.Reads as reads
+use Rattle.wire.proofs.bytes.data_part.Lts as lts
 
 sub-end : tie.Need-sub-end
 sub-end c = search needs

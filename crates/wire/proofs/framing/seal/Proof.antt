@@ -1,12 +1,12 @@
--- `frame::room::seal` meets its contract. Assumes nothing.
+-- `wire::framing::seal` meets its contract. Assumes nothing.
 use native.Mathlib.Omega.{arith}
 use lib.ListN.{length-set}
 use Rattle.wire.proofs.Laws.{sealed-round}
 use borrow.Author.Needs.{needs}
-use Rattle.wire.proofs.room.seal.Statement.{statement}
-use Rattle.wire.proofs.room.seal.Tie as tie
-use Rattle.wire.proofs.room.seal.Reads as reads
-use Rattle.wire.proofs.room.seal.Lts as lts
+use Rattle.wire.proofs.framing.seal.Statement.{statement}
+use Rattle.wire.proofs.framing.seal.Tie as tie
+use Rattle.wire.proofs.framing.seal.Reads as reads
+use Rattle.wire.proofs.framing.seal.Lts as lts
 use Rattle.wire.proofs.sum.xor_from.Reads as xor-from-reads
 
 add-end : tie.Need-add-end
@@ -24,14 +24,14 @@ part-xor-from-end c = search needs
 xor-from-requires : tie.Need-xor-from-requires
 xor-from-requires c κs = search needs
 
-slice-write-room : tie.Need-slice-write-room
-slice-write-room c = search needs
+slice-write-buffer : tie.Need-slice-write-buffer
+slice-write-buffer c = search needs
 
-slice-write-room-2 : tie.Need-slice-write-room-2
-slice-write-room-2 c = simp length-set (omega arith)
+slice-write-buffer-2 : tie.Need-slice-write-buffer-2
+slice-write-buffer-2 c = simp length-set (omega arith)
 
-slice-write-room-3 : tie.Need-slice-write-room-3
-slice-write-room-3 c = simp length-set (omega arith)
+slice-write-buffer-3 : tie.Need-slice-write-buffer-3
+slice-write-buffer-3 c = simp length-set (omega arith)
 
 same-length : tie.Need-same-length
 same-length c = search needs
@@ -39,7 +39,7 @@ same-length c = search needs
 returns : tie.Need-returns
 returns c =
     let a = c .before .before .before .before .args in
-    rw (c .xor-from .ensures) (sealed-round (a .address) (a .command) (a .n) (a .room .now) (search needs))
+    rw (c .xor-from .ensures) (sealed-round (a .address) (a .command) (a .n) (a .buffer .now) (search needs))
 
 pub seal-spec : {M : Type 1} → statement M
 seal-spec =
@@ -50,8 +50,8 @@ seal-spec =
     part-xor-from-start
     part-xor-from-end
     xor-from-requires
-    slice-write-room
-    slice-write-room-2
-    slice-write-room-3
+    slice-write-buffer
+    slice-write-buffer-2
+    slice-write-buffer-3
     same-length
     returns)
