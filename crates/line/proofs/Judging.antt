@@ -1,112 +1,77 @@
 -- The judge's ways out, one by one, and how the meaning's ending follows from the judgement. Assumes nothing.
-use Prim.Native.Nat.{ℕ, _-_, _<_, _≤_}
-use native.Mathlib.Omega.{arith}
+use Prim.Native.Nat.{ℕ, _<_, _≤_}
 use mathlib.Core.Path.{_≡_, refl, sym, ap, _∙_}
 use mathlib.Core.Bool.{Bool, true, false, not, false≢true}
 use mathlib.Core.List.{List}
 use borrow.Author.Tests.{lt-ltb, le-ltb}
 use lib.Dec.{eqb, ltb}
-use lib.ListN.{length, take, drop, getD, length-take, length-drop, List·getD-eq-default}
-use lib.Seq.{length-take-le, getD-take, getD-drop}
+use lib.ListN.{length}
 use Rattle.meaning.specs.Bytes.{pick, either, arg, differ}
 use Rattle.meaning.specs.State.{Plate, State, ownByte}
 use Rattle.meaning.specs.Commands as meaning
 use Rattle.meaning.specs.Commands.{commandOf, row, asked, lengthFits, error, worked}
-use Rattle.meaning.specs.Characters.{closed}
 use Rattle.meaning.specs.Frames.{commandByte, dataOf, ours, ending, short, elsewhere, answered}
 use Rattle.meaning.specs.Characters as characters
 use Rattle.meaning.specs.Frames as frames
 use Rattle.wire.specs.declared.table.Row.{Row}
 use Rattle.wire.specs.Table.{lengthOf, rowOf}
-use Rattle.line.specs.declared.characters.OpenFrame.{OpenFrame}
 use Rattle.line.specs.declared.judge.Judgement.{Judgement}
 use Rattle.line.specs.declared.judge.Judgement.the-variants.{Short, Elsewhere, Fault, Request}
-use Rattle.line.specs.Line.{lineOf, Fits}
 use Rattle.line.specs.Judge.{addressed, judgementOf, endingBy}
 
--- the data of the kept bytes: its length, and its count byte, 00h where the data ends before it
-module _ (kept : List ℕ) (n : ℕ) (low : 3 ≤ n) (all : n ≤ length kept) where
-  data-length : length (dataOf (take n kept)) ≡ n - 3
-  unfolding dataOf
-  data-length = simp (length-take, length-drop) (omega arith)
-
-  pub no-count : n < 6 → 0 ≡ arg (dataOf (take n kept)) 2
-  no-count h = sym (List·getD-eq-default (dataOf (take n kept)) 0 {n = 2} (omega (arith, data-length)))
-
-  pub count : 6 ≤ n → getD kept 4 0 ≡ arg (dataOf (take n kept)) 2
-  unfolding dataOf
-  count h =
-      let k : length (take n kept) - 3 ≡ n - 3 = rw (length-take-le n kept all) in
-      let e : getD (take (n - 3) (drop 2 (take n kept))) 2 0 ≡ getD kept 4 0 =
-      getD-take (n - 3) (drop 2 (take n kept)) 2 0 (omega arith) ∙ getD-drop 2 (take n kept) 2 0 ∙ getD-take n kept 4 0 (omega arith) in
-      rw k (sym e)
-
 -- the judge's ways out, in the order of 01
-module _ (own : ℕ) (f : OpenFrame) (kept : List ℕ) (fits : Fits f kept) where
-  within : f .len ≤ length kept
-  within = omega (arith, fits .few, fits .all)
+module _ (own : ℕ) (b : characters.Frame) where
+  pub too-short : length (b .bytes) < 3 → Short ≡ judgementOf own b
+  unfolding judgementOf
+  too-short h = rw (lt-ltb (length (b .bytes)) 3 h)
 
-  counted : length (take (f .len) kept) ≡ f .len
-  counted = length-take-le (f .len) kept within
+  module _ (low : 3 ≤ length (b .bytes)) where
+    long : ltb (length (b .bytes)) 3 ≡ false
+    long = le-ltb (length (b .bytes)) 3 low
 
-  pub too-short : f .len < 3 → Short ≡ judgementOf own (closed (lineOf f kept))
-  unfolding judgementOf closed
-  too-short h = let t : ltb (length (take (f .len) kept)) 3 ≡ true = rw counted (lt-ltb (f .len) 3 h) in rw t
+    pub for-another : addressed (arg (b .bytes) 0) own ≡ false → Elsewhere ≡ judgementOf own b
+    unfolding judgementOf
+    for-another a = rw (long, a)
 
-  module _ (low : 3 ≤ f .len) where
-    long : ltb (length (take (f .len) kept)) 3 ≡ false
-    long = rw counted (le-ltb (f .len) 3 low)
+    module _ (a : addressed (arg (b .bytes) 0) own ≡ true) where
+      pub parity-fault : b .parity ≡ true → Fault 0x09 ≡ judgementOf own b
+      unfolding judgementOf
+      parity-fault p = rw (long, a, p)
 
-    to : arg (take (f .len) kept) 0 ≡ getD kept 0 0
-    to = getD-take (f .len) kept 0 0 (omega arith)
+      module _ (p : b .parity ≡ false) where
+        pub wrong-sum : eqb (b .sum) 0 ≡ false → Fault 0x0A ≡ judgementOf own b
+        unfolding judgementOf
+        wrong-sum c = rw (long, a, p, c)
 
-    command : commandByte (take (f .len) kept) ≡ getD kept 1 0
-    unfolding commandByte
-    command = getD-take (f .len) kept 1 0 (omega arith)
+        module _ (c : eqb (b .sum) 0 ≡ true) where
+          pub too-long : b .longer ≡ true → Fault 0x0C ≡ judgementOf own b
+          unfolding judgementOf
+          too-long d = rw (long, a, p, c, d)
 
-    pub for-another : addressed (getD kept 0 0) own ≡ false → Elsewhere ≡ judgementOf own (closed (lineOf f kept))
-    unfolding judgementOf closed
-    for-another a = rw (long, to, a)
-
-    module _ (a : addressed (getD kept 0 0) own ≡ true) where
-      pub parity-fault : f .parity ≡ true → Fault 0x09 ≡ judgementOf own (closed (lineOf f kept))
-      unfolding judgementOf closed
-      parity-fault b = rw (long, to, a, b)
-
-      module _ (b : f .parity ≡ false) where
-        pub wrong-sum : eqb (f .sum) 0 ≡ false → Fault 0x0A ≡ judgementOf own (closed (lineOf f kept))
-        unfolding judgementOf closed
-        wrong-sum c = rw (long, to, a, b, c)
-
-        module _ (c : eqb (f .sum) 0 ≡ true) where
-          pub too-long : f .longer ≡ true → Fault 0x0C ≡ judgementOf own (closed (lineOf f kept))
-          unfolding judgementOf closed
-          too-long d = rw (long, to, a, b, c, d)
-
-          module _ (d : f .longer ≡ false) (r : Row) (same : rowOf r ≡ row (commandOf (getD kept 1 0))) where
-            known : (row (commandOf (getD kept 1 0))) .known ≡ r .known
+          module _ (d : b .longer ≡ false) (r : Row) (same : rowOf r ≡ row (commandOf (arg (b .bytes) 1))) where
+            known : (row (commandOf (commandByte (b .bytes)))) .known ≡ r .known
+            unfolding commandByte
             known = ap (λ (x : meaning.Row). x .known) (sym same)
 
-            pub unknown : r .known ≡ false → Fault 0x0B ≡ judgementOf own (closed (lineOf f kept))
-            unfolding judgementOf closed
-            unknown e = rw (long, to, a, b, c, d, command, known, e)
+            pub unknown : r .known ≡ false → Fault 0x0B ≡ judgementOf own b
+            unfolding judgementOf
+            unknown e = rw (long, a, p, c, d, known, e)
 
-            module _ (e : r .known ≡ true) {k : ℕ} {t : Bool} (counts : k ≡ arg (dataOf (take (f .len) kept)) 2)
-                (fitting : (x y : List ℕ) → arg x 2 ≡ k → length y ≡ f .len - 3
-                → t ≡ lengthFits (lengthOf (r .request)) x y) where
-              right : asked (commandOf (getD kept 1 0)) (dataOf (take (f .len) kept)) ≡ t
-              unfolding asked
+            module _ (e : r .known ≡ true) {t : Bool} {d′ : List ℕ} (part : d′ ≡ dataOf (b .bytes))
+                (fitting : (x : List ℕ) → length x ≡ length d′ → t ≡ lengthFits (lengthOf (r .request)) d′ x) where
+              right : asked (commandOf (commandByte (b .bytes))) (dataOf (b .bytes)) ≡ t
+              unfolding asked commandByte
               right =
-                  ap (λ (x : meaning.Row). lengthFits (x .request) (dataOf (take (f .len) kept)) (dataOf (take (f .len) kept))) (sym same)
-                  ∙ sym (fitting (dataOf (take (f .len) kept)) (dataOf (take (f .len) kept)) (sym counts) (data-length kept (f .len) low within))
+                  ap (λ (x : meaning.Row). lengthFits (x .request) (dataOf (b .bytes)) (dataOf (b .bytes))) (sym same)
+                  ∙ ap (λ (x : List ℕ). lengthFits (lengthOf (r .request)) x x) (sym part) ∙ sym (fitting d′ refl)
 
-              pub wrong-length : t ≡ false → Fault 0x0C ≡ judgementOf own (closed (lineOf f kept))
-              unfolding judgementOf closed
-              wrong-length g = rw (long, to, a, b, c, d, command, known, e, right, g)
+              pub wrong-length : t ≡ false → Fault 0x0C ≡ judgementOf own b
+              unfolding judgementOf
+              wrong-length g = rw (long, a, p, c, d, known, e, right, g)
 
-              pub requested : t ≡ true → Request (getD kept 1 0) ≡ judgementOf own (closed (lineOf f kept))
-              unfolding judgementOf closed
-              requested g = rw (long, to, a, b, c, d, command, known, e, right, g)
+              pub requested : t ≡ true → Request (arg (b .bytes) 1) ≡ judgementOf own b
+              unfolding judgementOf commandByte
+              requested g = rw (long, a, p, c, d, known, e, right, g)
 
 -- 01, "judged in this order": the meaning's ending is the one that the judgement names
 pub ends-as-judged : (p : Plate) (s : State) (m : List ℕ) (b : characters.Frame) → ending p s m b ≡ endingBy p s m b (judgementOf (ownByte p s) b)

@@ -28,6 +28,13 @@ judgementOf own b =
     (pick (not (asked (commandOf (commandByte (b .bytes))) (dataOf (b .bytes)))) (Fault 0x0C)
     (Request (commandByte (b .bytes)))))))))
 
+-- the error code to answer, 00h where there is none
+abbrev pub codeToAnswer : Judgement → ℕ
+codeToAnswer Short = 0
+codeToAnswer Elsewhere = 0
+codeToAnswer (Fault e) = e
+codeToAnswer (Request c) = 0
+
 -- how the frame ends, by each judgement: a request goes on with the command's own checks, step 7
 abbrev pub endingBy : Plate → State → List ℕ → Frame → Judgement → Ending
 endingBy p s m b Short = short

@@ -8,6 +8,7 @@ ghost use Rattle.meaning.specs.Characters.{over, more};
 ghost use Rattle.line.specs.Line.{plateOf, lineOf, noFrame, Fits, Starts, Extends};
 use crate::plate::Plate;
 use crate::stamps::gap;
+use wire::codes::LONGEST_REQUEST;
 
 // Whether a frame is open, the stamp of its last character, how many of its bytes are kept, the XOR of all of them, whether more than
 // 135 came, and whether a character had a parity fault.
@@ -71,8 +72,8 @@ impl OpenFrame {
         next.last = tick;
         next.sum = self.sum ^ value;
         next.parity = self.parity | parity;
-        if len < 135 {
-            let at = len as usize;
+        let at = len as usize;
+        if at < LONGEST_REQUEST {
             kept[at] = value;
             next.len = len + 1;
             return next;

@@ -4,6 +4,7 @@ ghost use mathlib.Core.List.{_∷_, []};
 ghost use Prim.Native.Nat.{_≤_};
 ghost use Rattle.meaning.specs.Bytes.{among};
 ghost use Rattle.meaning.specs.State.{State, plateOk, ownByte};
+ghost use Rattle.meaning.specs.Fields.{memoryLength};
 ghost use Rattle.line.specs.Line.{plateOf};
 
 // Total blocks, position bits, address, ticks per bit, pause in bit times: wide enough that a host loses no bits on the way.
@@ -39,6 +40,14 @@ impl Plate {
             return false;
         }
         pause_ok(self.pause)
+    }
+
+    // 01, "Memory": 16T data bytes, then T status bytes.
+    pub fn memory_length(self) -> u64
+        ensures { λ r. ⌜ r ≡ memoryLength (self .total) ⌝ }
+    {
+        let total = self.total as u64;
+        16 * total + total
     }
 }
 
