@@ -7,16 +7,17 @@ use mathlib.Core.Bool.{Bool, true, false, not}
 use mathlib.Core.List.{List, [], _∷_}
 use lib.Dec.{eqb}
 use lib.ListN.{length, getD, take, set, take-append-drop}
-use Rattle.meaning.specs.Bytes.{differ, put, bytes3, bytes4}
+use Rattle.meaning.specs.Bytes.{longestReply, arg, put, bytes3, bytes4}
 use Rattle.meaning.specs.State.{Line}
 use Rattle.meaning.specs.Commands as commands
+use Rattle.wire.specs.Numbers.{low4}
 use Rattle.wire.specs.declared.answer.Answer.the-variants.{Refuse, Accept, Quiet}
 use Rattle.state.specs.declared.state.State.{State}
 use Rattle.state.specs.declared.rows.Worked.{Worked}
-use Rattle.state.specs.declared.rows.Access.{Access}
-use Rattle.state.specs.declared.rows.Access.the-variants.{Granted, Denied}
+use Rattle.state.specs.declared.rows.Check.{Check}
+use Rattle.state.specs.declared.rows.Check.the-variants.{Passed, Failed}
 use Rattle.state.specs.State.{stateWith}
-use Rattle.state.specs.Rows.{accessOf, Answers}
+use Rattle.state.specs.Rows.{checkOf, Answers}
 use Rattle.meaning.proofs.Puts.{stored-is-put}
 
 pub put-nothing : (w : List ℕ) (i : ℕ) → w ≡ put w i []
@@ -39,32 +40,32 @@ module _ (a : commands.Answer) (s : State) (l : Line) (w : List ℕ) where
   pub quiets : {t : State} (m : List ℕ) → a ≡ commands.quiet (stateWith t l) m → Answers a s l w (record { state = t; answer = Quiet }) w
   quiets m q = rw q (record { answer = refl; state = refl; room = refl })
 
-right : Access → Bool
-right Granted = true
-right Denied = false
+stands : Check → Bool
+stands Passed = false
+stands Failed = true
 
-by-access : (t : Bool) → t ≡ right (accessOf (not t))
-unfolding right
-by-access true = refl
-by-access false = refl
+by-check : (t : Bool) → t ≡ stands (checkOf t)
+unfolding stands
+by-check true = refl
+by-check false = refl
 
-pub denied : (x y : ℕ) → accessOf (differ x y) ≡ Denied → eqb x y ≡ false
-unfolding right
-denied x y e = by-access (eqb x y) ∙ ap right e
+pub failed : (t : Bool) → checkOf t ≡ Failed → t ≡ true
+unfolding stands
+failed t e = by-check t ∙ ap stands e
 
-pub granted : (x y : ℕ) → accessOf (differ x y) ≡ Granted → eqb x y ≡ true
-unfolding right
-granted x y e = by-access (eqb x y) ∙ ap right e
+pub passed : (t : Bool) → checkOf t ≡ Passed → t ≡ false
+unfolding stands
+passed t e = by-check t ∙ ap stands e
 
-pub put-three : (w : List ℕ) (x : ℕ) {a b c : ℕ} → 134 ≤ length w → a ≡ x / 65536 % 256 → b ≡ x / 256 % 256 → c ≡ x % 256
-    → set (set (set w 2 a) 3 b) 4 c ≡ put w 2 (bytes3 x)
+pub put-three : (w : List ℕ) (x : ℕ) {b : List ℕ} → longestReply ≤ length w → b ≡ low4 x []
+    → set (set (set w 2 (arg b 2)) 3 (arg b 1)) 4 (arg b 0) ≡ put w 2 (bytes3 x)
 unfolding bytes3
-put-three w x {a} {b} {c} h i j k = rw (← i, ← j, ← k) (stored-is-put w 2 (a ∷ b ∷ c ∷ []) (omega arith))
+put-three w x h e = rw e (stored-is-put w 2 (bytes3 x) (omega arith))
 
-pub put-four : (w : List ℕ) (x : ℕ) {a b c d : ℕ} → 134 ≤ length w → a ≡ x / 16777216 % 256 → b ≡ x / 65536 % 256 → c ≡ x / 256 % 256 → d ≡ x % 256
-    → set (set (set (set w 2 a) 3 b) 4 c) 5 d ≡ put w 2 (bytes4 x)
+pub put-four : (w : List ℕ) (x : ℕ) {b : List ℕ} → longestReply ≤ length w → b ≡ low4 x []
+    → set (set (set (set w 2 (arg b 3)) 3 (arg b 2)) 4 (arg b 1)) 5 (arg b 0) ≡ put w 2 (bytes4 x)
 unfolding bytes4
-put-four w x {a} {b} {c} {d} h i j k n = rw (← i, ← j, ← k, ← n) (stored-is-put w 2 (a ∷ b ∷ c ∷ d ∷ []) (omega arith))
+put-four w x h e = rw e (stored-is-put w 2 (bytes4 x) (omega arith))
 
 -- the first four bytes of a request, one by one
 pub first-four : (d : List ℕ) → length d ≡ 5 → take 4 d ≡ getD d 0 0 ∷ getD d 1 0 ∷ getD d 2 0 ∷ getD d 3 0 ∷ []

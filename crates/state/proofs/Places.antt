@@ -1,5 +1,5 @@
 -- The queue place by place: what one place more in front says. Assumes nothing.
-use Prim.Native.Nat.{ℕ, _+_, _<_}
+use Prim.Native.Nat.{ℕ, _+_, _<_, _%_}
 use native.Mathlib.Omega.{arith}
 use mathlib.Core.Path.{_≡_, refl, sym, ap, _∙_}
 use mathlib.Core.Bool.{Bool, true, false, not, false≢true}
@@ -220,12 +220,12 @@ unfolding queueOf waiting
 emptied f e = record { queue = rw e; lock = refl }
 
 -- 01, "Bit 7 of every reply's command byte"
-pub unmarked : (c : ℕ) (q : List ℕ) → not (waits q) ≡ true → c ≡ warned c q
+pub unmarked : (c : ℕ) (q : List ℕ) → not (waits q) ≡ true → c % 128 ≡ warned c q
 unfolding waits warned
 unmarked c [] e = refl
 unmarked c (x ∷ q) e = absurd (false≢true e)
 
-pub marked : (c : ℕ) (q : List ℕ) → not (waits q) ≡ false → c + 128 ≡ warned c q
+pub marked : (c : ℕ) (q : List ℕ) → not (waits q) ≡ false → c % 128 + 128 ≡ warned c q
 unfolding waits warned
 marked c [] e = absurd (false≢true (sym e))
 marked c (x ∷ q) e = refl

@@ -8,14 +8,14 @@ use Rattle.meaning.specs.Commands as meaning
 use Rattle.wire.specs.Answers.{told, dataIn, stateAfter}
 use Rattle.state.specs.declared.state.State.{State}
 use Rattle.state.specs.declared.rows.Worked.{Worked}
-use Rattle.state.specs.declared.rows.Access.{Access}
-use Rattle.state.specs.declared.rows.Access.the-variants.{Granted, Denied}
+use Rattle.state.specs.declared.rows.Check.{Check}
+use Rattle.state.specs.declared.rows.Check.the-variants.{Passed, Failed}
 use Rattle.state.specs.State.{stateWith}
 
--- 0Fh where the code given is not the one wanted
-abbrev pub accessOf : Bool → Access
-accessOf true = Denied
-accessOf false = Granted
+-- 01, "left to right in the table": a check fails where its test holds
+abbrev pub checkOf : Bool → Check
+checkOf true = Failed
+checkOf false = Passed
 
 -- the answer a of the meaning, to a state s with the line l, and a room w
 pub record Answers (a : meaning.Answer) (s : State) (l : Line) (w : List ℕ) (r : Worked) (w′ : List ℕ) : Type 0 where

@@ -1,4 +1,8 @@
 -- The code's state as that of the meaning (01, "Fresh state"). Assumes nothing.
+use Prim.Native.Nat.{ℕ}
+use mathlib.Core.Path.{_≡_}
+use lib.ListN.{drop}
+use Rattle.meaning.specs.Bytes.{arg}
 use Rattle.meaning.specs.State as meaning
 use Rattle.state.specs.declared.state.State.{State}
 use Rattle.state.specs.Queue.{queueOf}
@@ -14,3 +18,8 @@ stateWith s l = record {
   locked = s .faults .locked;
   line = l;
 }
+
+-- 01, row 50h: what is told of the waiting codes, and the state without it
+pub record ReadsOut (s : meaning.State) (c : ℕ) (t : meaning.State) : Type 0 where
+  pub oldest : c ≡ arg (s .queue) 0
+  pub rest : t ≡ meaning.withQueue s (drop 1 (s .queue))

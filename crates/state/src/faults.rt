@@ -24,7 +24,7 @@ pub struct Oldest {
 }
 
 impl Faults {
-    pub fn none() -> Faults
+    pub(crate) fn none() -> Faults
         ensures { λ r. ⌜ r ≡ noFaults ⌝ }
     {
         Faults {
@@ -56,7 +56,7 @@ impl Faults {
     }
 
     // 01, "a queue of four, oldest first; one already waiting, or a fifth, is dropped".
-    pub fn queued(self, code: u8) -> Faults
+    pub(crate) fn queued(self, code: u8) -> Faults
         requires { ⌜ 0 < code ⌝ }
         ensures { λ r. ⌜ Queues self (queued (queueOf self) code) r ⌝ }
     {
@@ -84,7 +84,7 @@ impl Faults {
     }
 
     // 01, "00h is ignored. 22h and 24h lock the position until power-on and are not queued".
-    pub fn note(self, code: u8) -> Faults
+    pub(crate) fn note(self, code: u8) -> Faults
         ensures { λ r. ⌜ ((s : State) → holding s r ≡ noted (holding s self) code) ⌝ }
     {
         if code == 0 {
@@ -102,7 +102,7 @@ impl Faults {
     }
 
     // 01, row 50h: the oldest is handed back, and the others move up.
-    pub fn read(self) -> Oldest
+    pub(crate) fn read(self) -> Oldest
         ensures { λ r. ⌜ Reads self r ⌝ }
     {
         let rest = Faults {
@@ -119,7 +119,7 @@ impl Faults {
     }
 
     // 01, row 53h. The lock lasts until power-on.
-    pub fn emptied(self) -> Faults
+    pub(crate) fn emptied(self) -> Faults
         ensures { λ r. ⌜ Queues self [] r ⌝ }
     {
         let mut next = Faults::none();
@@ -127,7 +127,7 @@ impl Faults {
         next
     }
 
-    pub fn power_on(self) -> Faults
+    pub(crate) fn power_on(self) -> Faults
         ensures { λ r. ⌜ r ≡ noFaults ⌝ }
     {
         Faults::none()
@@ -135,13 +135,13 @@ impl Faults {
 
     // 01, "Bit 7 of every reply's command byte is set exactly if the fault queue is not empty".
     pub fn marked(self, command: u8) -> u8
-        requires { ⌜ command < 128 ⌝ }
         ensures { λ r. ⌜ r ≡ warned command (queueOf self) ⌝ }
     {
+        let low = command % 128;
         if self.is_empty() {
-            return command;
+            return low;
         }
-        command + 128
+        low + 128
     }
 
     fn is_empty(self) -> bool

@@ -13,5 +13,7 @@ pub use rows::reset;
 pub use rows::set_code;
 pub use rows::set_position;
 pub use rows::step_counter;
+pub use state::LAST_COUNT;
+pub use state::OldestFault;
 pub use state::State;
-pub use state::size;
+pub use state::offset_fits;

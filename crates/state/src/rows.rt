@@ -1,16 +1,22 @@
 // The commands that work on the state alone, their checks in the row's order (01, "The commands"). Reply data goes to place 2 of the room on.
 ghost use mathlib.Core.Path.{_≡_};
 ghost use mathlib.Core.List.{List, _∷_, []};
-ghost use Prim.Native.Nat.{ℕ, _≤_, _<_, _/_, _%_};
+ghost use Prim.Native.Nat.{ℕ, _≤_, _<_, _^_};
+ghost use lib.Dec.{leb, ltb};
 ghost use lib.ListN.{length, getD};
-ghost use Rattle.meaning.specs.Bytes.{differ, put, number, bytes3, bytes4};
-ghost use Rattle.meaning.specs.State.{Plate, Line, position, offsetFor};
+ghost use Rattle.meaning.specs.Bytes.{differ, longestReply, put, number, bytes3, bytes4};
+ghost use Rattle.meaning.specs.State.{Plate, Line, lastCount, position, offsetFor};
 ghost use Rattle.meaning.specs.Commands.{readPosition, setPosition, readCounter, stepCounter, clearCounter, setCode, readFault, reset};
 ghost use Rattle.state.specs.State.{stateWith};
-ghost use Rattle.state.specs.Rows.{accessOf, Answers};
+ghost use Rattle.state.specs.Rows.{checkOf, Answers};
+use crate::state::LAST_COUNT;
 use crate::state::State;
 use crate::state::size;
 use wire::Answer;
+use wire::codes::COUNTER_OVERFLOW;
+use wire::codes::POSITION_LOCKED;
+use wire::codes::WRONG_ARGUMENT;
+use wire::codes::WRONG_CODE;
 
 // The state after a command, and what the command comes to.
 pub struct Worked {
@@ -18,9 +24,10 @@ pub struct Worked {
     pub answer: Answer,
 }
 
-enum Access {
-    Granted,
-    Denied,
+// What one of the row's checks comes to.
+enum Check {
+    Passed,
+    Failed,
 }
 
 fn refused(state: State, code: u8) -> Worked
@@ -41,23 +48,55 @@ fn accepted(state: State, count: usize) -> Worked
     }
 }
 
-fn check_code(state: State, number: usize, given: u8) -> Access
+// 01, "02h if locked".
+fn check_unlocked(state: State) -> Check
+    ensures { λ r. ⌜ r ≡ checkOf (state .faults .locked) ⌝ }
+{
+    if state.faults.locked {
+        return Check::Failed;
+    }
+    Check::Passed
+}
+
+// 01, "0Fh unless".
+fn check_code(state: State, number: usize, given: u8) -> Check
     requires { ⌜ number < 4 ⌝ }
-    ensures { λ r. ⌜ r ≡ accessOf (differ given (getD (state .codes) number 0)) ⌝ }
+    ensures { λ r. ⌜ r ≡ checkOf (differ given (getD (state .codes) number 0)) ⌝ }
 {
     if given == state.codes[number] {
-        return Access::Granted;
+        return Check::Passed;
     }
-    Access::Denied
+    Check::Failed
+}
+
+// 01, row 43h, "0Dh if position ≥ 2^P".
+fn check_position(bits: u32, wanted: u64) -> Check
+    requires { ⌜ bits ≤ 32 ⌝ }
+    ensures { λ r. ⌜ r ≡ checkOf (leb (2 ^ bits) wanted) ⌝ }
+{
+    if size(bits) <= wanted {
+        return Check::Failed;
+    }
+    Check::Passed
+}
+
+// 01, row 4Fh, "0Dh if number over 3".
+fn check_number(number: u8) -> Check
+    ensures { λ r. ⌜ r ≡ checkOf (ltb 3 number) ⌝ }
+{
+    if 3 < number {
+        return Check::Failed;
+    }
+    Check::Passed
 }
 
 // 01, "Position is (measured + offset) mod 2^P".
-fn position(bits: u32, state: State) -> u64
+fn position(bits: u32, state: State) -> u32
     requires { ⌜ bits ≤ 32 ⌝ }
     ensures { λ r. ⌜ ((p : Plate) (l : Line) → p .bits ≡ bits → r ≡ position p (stateWith state l)) ⌝ }
 {
     let size = size(bits);
-    (state.measured as u64 % size + state.offset as u64) % size
+    ((state.measured as u64 % size + state.offset as u64) % size) as u32
 }
 
 // 01, "43h sets offset to (wanted − measured) mod 2^P".
@@ -76,39 +115,35 @@ fn number_of(a: u8, b: u8, c: u8, d: u8) -> u64
     ((a as u64 * 256 + b as u64) * 256 + c as u64) * 256 + d as u64
 }
 
-fn low_byte(x: u64) -> u8
-    ensures { λ r. ⌜ r ≡ x % 256 ⌝ }
-{
-    (x % 256) as u8
-}
-
-fn put_bytes4(x: u64, room: &mut [u8])
-    requires { ⌜ 134 ≤ length (now room) ⌝ }
+fn put_bytes4(x: u32, room: &mut [u8])
+    requires { ⌜ longestReply ≤ length (now room) ⌝ }
     ensures { λ _. ⌜ now (room .exit) ≡ put (now (room .entry)) 2 (bytes4 x) ⌝ }
 {
-    room[2] = low_byte(x / 0x1000000);
-    room[3] = low_byte(x / 0x10000);
-    room[4] = low_byte(x / 0x100);
-    room[5] = low_byte(x);
+    let bytes = wire::bytes_of(x);
+    room[2] = bytes[3];
+    room[3] = bytes[2];
+    room[4] = bytes[1];
+    room[5] = bytes[0];
 }
 
-fn put_bytes3(x: u64, room: &mut [u8])
-    requires { ⌜ 134 ≤ length (now room) ⌝ }
+fn put_bytes3(x: u32, room: &mut [u8])
+    requires { ⌜ longestReply ≤ length (now room) ⌝ }
     ensures { λ _. ⌜ now (room .exit) ≡ put (now (room .entry)) 2 (bytes3 x) ⌝ }
 {
-    room[2] = low_byte(x / 0x10000);
-    room[3] = low_byte(x / 0x100);
-    room[4] = low_byte(x);
+    let bytes = wire::bytes_of(x);
+    room[2] = bytes[2];
+    room[3] = bytes[1];
+    room[4] = bytes[0];
 }
 
 // 42h: 02h if locked.
 pub fn read_position(bits: u32, state: State, room: &mut [u8]) -> Worked
-    requires { ⌜ (bits ≤ 32) × (134 ≤ length (now room)) ⌝ }
+    requires { ⌜ (bits ≤ 32) × (longestReply ≤ length (now room)) ⌝ }
     ensures { λ r. ⌜ ((p : Plate) (l : Line) (m d : List ℕ) → p .bits ≡ bits → Answers (readPosition p (stateWith state l) m d) state l (now (room .entry)) r (now (room .exit))) ⌝ }
 {
-    if state.faults.locked {
-        return refused(state, 0x02);
-    }
+    let Check::Passed = check_unlocked(state) else {
+        return refused(state, POSITION_LOCKED);
+    };
     put_bytes4(position(bits, state), room);
     accepted(state, 4)
 }
@@ -118,36 +153,36 @@ pub fn set_position(bits: u32, state: State, request: &[u8]) -> Worked
     requires { ⌜ (bits ≤ 32) × (length (now request) ≡ 5) ⌝ }
     ensures { λ r. ⌜ ((p : Plate) (l : Line) (m w : List ℕ) → p .bits ≡ bits → Answers (setPosition p (stateWith state l) m (now (request .entry))) state l w r w) ⌝ }
 {
-    if state.faults.locked {
-        return refused(state, 0x02);
-    }
-    let Access::Granted = check_code(state, 0, request[4]) else {
-        return refused(state, 0x0F);
+    let Check::Passed = check_unlocked(state) else {
+        return refused(state, POSITION_LOCKED);
+    };
+    let Check::Passed = check_code(state, 0, request[4]) else {
+        return refused(state, WRONG_CODE);
     };
     let wanted = number_of(request[0], request[1], request[2], request[3]);
-    if size(bits) <= wanted {
-        return refused(state, 0x0D);
-    }
+    let Check::Passed = check_position(bits, wanted) else {
+        return refused(state, WRONG_ARGUMENT);
+    };
     let offset = offset_for(bits, state, wanted);
     accepted(state.with_offset(offset), 0)
 }
 
 // 46h
 pub fn read_counter(state: State, room: &mut [u8]) -> Worked
-    requires { ⌜ 134 ≤ length (now room) ⌝ }
+    requires { ⌜ longestReply ≤ length (now room) ⌝ }
     ensures { λ r. ⌜ ((p : Plate) (l : Line) (m d : List ℕ) → Answers (readCounter p (stateWith state l) m d) state l (now (room .entry)) r (now (room .exit))) ⌝ }
 {
-    put_bytes3(state.counter as u64, room);
+    put_bytes3(state.counter, room);
     accepted(state, 3)
 }
 
 // 47h: from FFFFFFh the counter goes to 0 and 08h is queued.
 pub fn step_counter(state: State) -> Worked
-    requires { ⌜ state .counter ≤ 0xFFFFFF ⌝ }
+    requires { ⌜ state .counter ≤ lastCount ⌝ }
     ensures { λ r. ⌜ ((p : Plate) (l : Line) (m d w : List ℕ) → Answers (stepCounter p (stateWith state l) m d) state l w r w) ⌝ }
 {
-    if state.counter == 0xFFFFFF {
-        let faults = state.faults.queued(0x08);
+    if state.counter == LAST_COUNT {
+        let faults = state.faults.queued(COUNTER_OVERFLOW);
         return accepted(state.with_counter(0).with_faults(faults), 0);
     }
     accepted(state.with_counter(state.counter + 1), 0)
@@ -155,26 +190,25 @@ pub fn step_counter(state: State) -> Worked
 
 // 49h: 0Fh unless Code0.
 pub fn clear_counter(state: State, request: &[u8]) -> Worked
-    requires { ⌜ length (now request) ≡ 1 ⌝ }
     ensures { λ r. ⌜ ((p : Plate) (l : Line) (m w : List ℕ) → Answers (clearCounter p (stateWith state l) m (now (request .entry))) state l w r w) ⌝ }
 {
-    let Access::Granted = check_code(state, 0, request[0]) else {
-        return refused(state, 0x0F);
+    let Check::Passed = check_code(state, 0, wire::byte_at(request, 0)) else {
+        return refused(state, WRONG_CODE);
     };
     accepted(state.with_counter(0), 0)
 }
 
 // 4Fh: 0Dh if the number is over 3; 0Fh if the old code differs.
 pub fn set_code(state: State, request: &[u8], room: &mut [u8]) -> Worked
-    requires { ⌜ (length (now request) ≡ 3) × (134 ≤ length (now room)) ⌝ }
+    requires { ⌜ (length (now request) ≡ 3) × (longestReply ≤ length (now room)) ⌝ }
     ensures { λ r. ⌜ ((p : Plate) (l : Line) (m : List ℕ) → Answers (setCode p (stateWith state l) m (now (request .entry))) state l (now (room .entry)) r (now (room .exit))) ⌝ }
 {
     let number = request[0];
-    if 3 < number {
-        return refused(state, 0x0D);
-    }
-    let Access::Granted = check_code(state, number as usize, request[1]) else {
-        return refused(state, 0x0F);
+    let Check::Passed = check_number(number) else {
+        return refused(state, WRONG_ARGUMENT);
+    };
+    let Check::Passed = check_code(state, number as usize, request[1]) else {
+        return refused(state, WRONG_CODE);
     };
     room[2] = number;
     accepted(state.with_code(number as usize, request[2]), 1)
@@ -182,13 +216,13 @@ pub fn set_code(state: State, request: &[u8], room: &mut [u8]) -> Worked
 
 // 50h: the oldest code, or 00h, which is then removed.
 pub fn read_fault(state: State, room: &mut [u8]) -> Worked
-    requires { ⌜ 134 ≤ length (now room) ⌝ }
+    requires { ⌜ longestReply ≤ length (now room) ⌝ }
     ensures { λ r. ⌜ ((p : Plate) (l : Line) (m d : List ℕ) → Answers (readFault p (stateWith state l) m d) state l (now (room .entry)) r (now (room .exit))) ⌝ }
 {
-    let oldest = state.faults.read();
-    let rest = oldest.faults;
+    let oldest = state.read();
+    let next = oldest.state;
     room[2] = oldest.code;
-    accepted(state.with_faults(rest), 1)
+    accepted(next, 1)
 }
 
 // 53h: the queue is emptied, and no reply follows (000, "Encoder Reset").

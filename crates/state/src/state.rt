@@ -2,10 +2,15 @@
 ghost use mathlib.Core.Path.{_≡_};
 ghost use Prim.Native.Nat.{_≤_, _<_, _^_};
 ghost use lib.ListN.{length, set};
+ghost use lib.Dec.{ltb};
+ghost use Rattle.meaning.specs.Bytes.{longestRequest};
 ghost use Rattle.meaning.specs.State.{Plate, Line, fresh, stateOk, withCodes, withCounter, withOffset, withMeasured, none, noted, poweredOn};
-ghost use Rattle.state.specs.State.{stateWith};
+ghost use Rattle.state.specs.State.{stateWith, ReadsOut};
 ghost use Rattle.state.specs.Queue.{holding};
 use crate::faults::Faults;
+
+// 01, "counter at most FFFFFFh".
+pub const LAST_COUNT: u32 = 0xFFFFFF;
 
 pub struct State {
     pub codes: [u8; 4],
@@ -13,6 +18,12 @@ pub struct State {
     pub offset: u32,
     pub measured: u32,
     pub faults: Faults,
+}
+
+// The oldest waiting code, or 00h, and the state without it.
+pub struct OldestFault {
+    pub code: u8,
+    pub state: State,
 }
 
 impl State {
@@ -28,7 +39,7 @@ impl State {
         }
     }
 
-    pub fn with_code(self, number: usize, code: u8) -> State
+    pub(crate) fn with_code(self, number: usize, code: u8) -> State
         requires { ⌜ number < 4 ⌝ }
         ensures { λ r. ⌜ ((l : Line) → stateWith r l ≡ withCodes (stateWith self l) (set (self .codes) number code)) ⌝ }
     {
@@ -37,7 +48,7 @@ impl State {
         next
     }
 
-    pub fn with_counter(self, counter: u32) -> State
+    pub(crate) fn with_counter(self, counter: u32) -> State
         ensures { λ r. ⌜ ((l : Line) → stateWith r l ≡ withCounter (stateWith self l) counter) ⌝ }
     {
         let mut next = self;
@@ -45,7 +56,7 @@ impl State {
         next
     }
 
-    pub fn with_offset(self, offset: u32) -> State
+    pub(crate) fn with_offset(self, offset: u32) -> State
         ensures { λ r. ⌜ ((l : Line) → stateWith r l ≡ withOffset (stateWith self l) offset) ⌝ }
     {
         let mut next = self;
@@ -61,7 +72,7 @@ impl State {
         next
     }
 
-    pub fn with_faults(self, faults: Faults) -> State
+    pub(crate) fn with_faults(self, faults: Faults) -> State
         ensures { λ r. ⌜ ((l : Line) → stateWith r l ≡ holding (stateWith self l) faults) ⌝ }
     {
         let mut next = self;
@@ -76,6 +87,19 @@ impl State {
         self.with_faults(self.faults.note(code))
     }
 
+    // 01, row 50h: "oldest queued code, or 00h"; "removes it".
+    pub fn read(self) -> OldestFault
+        ensures { λ r. ⌜ ((l : Line) → ReadsOut (stateWith self l) (r .code) (stateWith (r .state) l)) ⌝ }
+    {
+        let oldest = self.faults.read();
+        let rest = oldest.faults;
+        let state = self.with_faults(rest);
+        OldestFault {
+            code: oldest.code,
+            state,
+        }
+    }
+
     // 01, "Power-on empties the queue .. and unlocks; all else stays"; the open frame is dropped by who holds it.
     pub fn power_on(self) -> State
         ensures { λ r. ⌜ ((l : Line) → stateWith r none ≡ poweredOn (stateWith self l)) ⌝ }
@@ -85,21 +109,30 @@ impl State {
 
     // 01, "State limits", but for the kept bytes.
     pub fn is_ok(self, bits: u32) -> bool
-        requires { ⌜ bits ≤ 32 ⌝ }
-        ensures { λ r. ⌜ ((p : Plate) (l : Line) → p .bits ≡ bits → length (l .kept) ≤ 135 → r ≡ stateOk p (stateWith self l)) ⌝ }
+        ensures { λ r. ⌜ ((p : Plate) (l : Line) → p .bits ≡ bits → length (l .kept) ≤ longestRequest → r ≡ stateOk p (stateWith self l)) ⌝ }
     {
-        if 0xFFFFFF < self.counter {
+        if LAST_COUNT < self.counter {
             return false;
         }
-        if size(bits) <= self.offset as u64 {
+        if !offset_fits(self.offset, bits) {
             return false;
         }
         self.faults.is_sound()
     }
 }
 
+// 01, "offset below 2^P", for any number of bits.
+pub fn offset_fits(offset: u32, bits: u32) -> bool
+    ensures { λ r. ⌜ r ≡ ltb offset (2 ^ bits) ⌝ }
+{
+    if 32 < bits {
+        return true;
+    }
+    (offset as u64) < size(bits)
+}
+
 // 2 to the number of position bits.
-pub fn size(bits: u32) -> u64
+pub(crate) fn size(bits: u32) -> u64
     requires { ⌜ bits ≤ 32 ⌝ }
     ensures { λ r. ⌜ r ≡ 2 ^ bits ⌝ }
 {

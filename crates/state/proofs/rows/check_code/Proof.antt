@@ -3,6 +3,8 @@ use borrow.Author.Tests.{eq-eqb, ne-eqb}
 use borrow.Author.Needs.{needs}
 use Rattle.state.proofs.rows.check_code.Statement.{statement}
 use Rattle.state.proofs.rows.check_code.Tie as tie
+use Rattle.state.proofs.rows.check_code.Reads as reads
+use Rattle.state.proofs.rows.check_code.Lts as lts
 
 element-copy-out-if1 : tie.Need-element-copy-out-if1
 element-copy-out-if1 c = search needs

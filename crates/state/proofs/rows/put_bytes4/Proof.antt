@@ -5,27 +5,33 @@ use Rattle.state.proofs.Answering.{put-four}
 use borrow.Author.Needs.{needs}
 use Rattle.state.proofs.rows.put_bytes4.Statement.{statement}
 use Rattle.state.proofs.rows.put_bytes4.Tie as tie
+use Rattle.state.proofs.rows.put_bytes4.Reads as reads
+use Rattle.state.proofs.rows.put_bytes4.Lts as lts
+use Rattle.wire.proofs.bytes_of.Reads as bytes-of-reads
 
-low-byte-requires : tie.Need-low-byte-requires
-low-byte-requires c κs = search needs
+bytes-of-requires : tie.Need-bytes-of-requires
+bytes-of-requires c κs = search needs
+
+array-read-room : tie.Need-array-read-room
+array-read-room c = search needs
 
 slice-write-room : tie.Need-slice-write-room
 slice-write-room c = search needs
 
-low-byte-requires-2 : tie.Need-low-byte-requires-2
-low-byte-requires-2 c κs = search needs
+array-read-room-2 : tie.Need-array-read-room-2
+array-read-room-2 c = search needs
 
 slice-write-room-2 : tie.Need-slice-write-room-2
 slice-write-room-2 c = simp length-set (omega arith)
 
-low-byte-requires-3 : tie.Need-low-byte-requires-3
-low-byte-requires-3 c κs = search needs
+array-read-room-3 : tie.Need-array-read-room-3
+array-read-room-3 c = search needs
 
 slice-write-room-3 : tie.Need-slice-write-room-3
 slice-write-room-3 c = simp length-set (omega arith)
 
-low-byte-requires-4 : tie.Need-low-byte-requires-4
-low-byte-requires-4 c κs = search needs
+array-read-room-4 : tie.Need-array-read-room-4
+array-read-room-4 c = search needs
 
 slice-write-room-4 : tie.Need-slice-write-room-4
 slice-write-room-4 c = simp length-set (omega arith)
@@ -34,19 +40,22 @@ same-length : tie.Need-same-length
 same-length c = search needs
 
 returns : tie.Need-returns
-returns c = put-four _ _ (c .before .before .before .before .before .pre) (c .before .before .before .low-byte .ensures) (c .before .before .low-byte2 .ensures) (c .before .low-byte3 .ensures) (c .low-byte4 .ensures)
+returns c =
+    let start = c .before .before in
+    put-four _ _ (start .pre) (c .bytes-of .ensures)
 
 pub put-bytes4-spec : {M : Type 1} → statement M
 put-bytes4-spec =
     tie.close
     (tie.spec
-    low-byte-requires
+    bytes-of-requires
+    array-read-room
     slice-write-room
-    low-byte-requires-2
+    array-read-room-2
     slice-write-room-2
-    low-byte-requires-3
+    array-read-room-3
     slice-write-room-3
-    low-byte-requires-4
+    array-read-room-4
     slice-write-room-4
     same-length
     returns)

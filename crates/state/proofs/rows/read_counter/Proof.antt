@@ -4,9 +4,6 @@ use borrow.Author.Needs.{needs}
 use Rattle.state.proofs.rows.read_counter.Statement.{statement}
 use Rattle.state.proofs.rows.read_counter.Tie as tie
 
-cast-put-bytes3 : tie.Need-cast-put-bytes3
-cast-put-bytes3 c = search needs
-
 put-bytes3-requires : tie.Need-put-bytes3-requires
 put-bytes3-requires c κs = search needs
 
@@ -21,4 +18,4 @@ returns c = λ p l m d. told-46 p _ l m d _ (c .accepted .ensures) (c .before .b
 
 pub read-counter-spec : {M : Type 1} → statement M
 read-counter-spec =
-    tie.close (tie.spec cast-put-bytes3 put-bytes3-requires accepted-requires same-length returns)
+    tie.close (tie.spec put-bytes3-requires accepted-requires same-length returns)

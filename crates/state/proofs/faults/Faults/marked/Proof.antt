@@ -4,6 +4,9 @@ use Rattle.state.proofs.Places.{unmarked, marked}
 use borrow.Author.Needs.{needs}
 use Rattle.state.proofs.faults.Faults.marked.Statement.{statement}
 use Rattle.state.proofs.faults.Faults.marked.Tie as tie
+use Rattle.state.proofs.faults.Faults.marked.Reads as reads
+use Rattle.state.proofs.faults.Faults.marked.Lts as lts
+use Rattle.state.proofs.faults.Faults.is_empty.Reads as is-empty-reads
 
 is-empty-requires : tie.Need-is-empty-requires
 is-empty-requires c κs = search needs
