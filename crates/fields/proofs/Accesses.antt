@@ -18,7 +18,7 @@ use Rattle.meaning.specs.Commands.{refuse, accept, error, onField, barred, outs
 use Rattle.wire.specs.declared.answer.Answer.{Answer}
 use Rattle.wire.specs.declared.answer.Answer.the-variants.{Accept}
 use Rattle.wire.specs.Answers.{told, Works}
-use Rattle.fields.specs.Memory.{Fit}
+use Rattle.fields.specs.Memory.{Sized}
 use Rattle.wire.proofs.Laws.{tail-filled}
 use Rattle.meaning.proofs.Puts.{length-put, put-put}
 use Rattle.fields.specs.Replies.{named, readOwn, storeOwn, Replied}
@@ -137,7 +137,7 @@ module _ (p : Plate) (s : State) (codes : List ℕ) (t : ℕ) (m d : List ℕ) (
     store-reached h = store-open (Field from to st) w ∙ ap (λ (b : Bool). error 0x0E (not b) stores) (writable-is ∙ h)
 
     -- its own part of memory
-    module _ (fit : Fit t m) where
+    module _ (fit : Sized t m) where
       abbrev own : List ℕ
       own = take (to - from) (drop from m)
 

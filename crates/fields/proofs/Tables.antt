@@ -1,15 +1,16 @@
 -- Laws of any status table, sound or not: how a walk that halts and goes on adds up, and where the fields of a sound one lie. Assumes nothing.
-use Prim.Native.Nat.{ℕ, zero, suc, _+_, _-_, _*_, _≤_, min}
+use Prim.Native.Nat.{ℕ, zero, suc, _+_, _-_, _*_, _≤_}
 use mathlib.Core.Bool.{Bool, true, false, _&&_}
 use mathlib.Core.Path.{_≡_, refl, sym, ap, subst, _∙_}
 use mathlib.Core.List.{List, [], _∷_}
 use native.Mathlib.Omega.{arith}
-use native.Mathlib.Decide.{decLe}
 use lib.ListN.{length, take, drop, length-drop}
 use lib.Seq.{take-all}
 use lib.Dec.{leb}
 use borrow.Author.Tests.{leb-true}
-use Rattle.fields.specs.Memory.{Sits}
+use Rattle.fields.specs.declared.seen.Trust.{Trust}
+use Rattle.fields.specs.declared.seen.Trust.the-variants.{Sound, Unsound}
+use Rattle.fields.specs.Memory.{Sits, trustOf}
 use Rattle.meaning.specs.Bytes.{both, blank}
 use Rattle.meaning.specs.Fields.{blocks, exists, fieldCount, used, sound, table, freeBlocks, statusAt, Survey, survey}
 use Rattle.meaning.proofs.Choices.{both-right, and-both}
@@ -72,14 +73,6 @@ used-halt (s ∷ r) (suc f) = go (exists s) refl (used-halt r f)
     go true e h = rw (count-yes s (take f r) e, used-yes s r e, used-yes s (take f r) e) (omega arith)
     go false e h = rw (count-no s (take f r) e, used-no s (take f r) e) (omega arith)
 
--- past the end there is nothing to take
-pub take-least : (n : ℕ) (l : List ℕ) → take (min n (length l)) l ≡ take n l
-take-least n l = go (decLe n (length l))
-  where
-    go : Dec (n ≤ length l) → take (min n (length l)) l ≡ take n l
-    go (yes h) = let e : min n (length l) ≡ n = omega arith in ap (λ (k : ℕ). take k l) e
-    go (no h) = take-all (min n (length l)) l (omega arith) ∙ sym (take-all n l (omega arith))
-
 -- `&l[a..]` is what is left at a
 pub rest-is : (l : List ℕ) (a : ℕ) → take (length l - a) (drop a l) ≡ drop a l
 rest-is l a = take-all (length l - a) (drop a l) (omega (arith, length-drop a l))
@@ -136,3 +129,21 @@ free-in t m f = omega arith
 
 pub free-le : (t : ℕ) (m : List ℕ) (f : ℕ) (v : Survey) → v ≡ survey t m f → v .free ≤ t
 free-le t m f v e = subst (λ (w : Survey). w .free ≤ t) (sym e) (free-in t m f)
+
+-- what a command took apart
+trusted : Trust → Bool
+trusted Sound = true
+trusted Unsound = false
+
+by-trust : (t : Bool) → t ≡ trusted (trustOf t)
+unfolding trusted
+by-trust true = refl
+by-trust false = refl
+
+pub is-sound : (t : Bool) → trustOf t ≡ Sound → t ≡ true
+unfolding trusted
+is-sound t e = by-trust t ∙ ap trusted e
+
+pub unsound : (t : Bool) → trustOf t ≡ Unsound → t ≡ false
+unfolding trusted
+unsound t e = by-trust t ∙ ap trusted e

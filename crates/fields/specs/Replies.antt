@@ -5,7 +5,7 @@ use mathlib.Core.Path.{_≡_}
 use mathlib.Core.List.{List, [], _∷_}
 use lib.ListN.{length, drop}
 use lib.Dec.{ltb}
-use Rattle.meaning.specs.Bytes.{arg, part, put}
+use Rattle.meaning.specs.Bytes.{longestReply, mostCount, arg, part, put}
 use Rattle.meaning.specs.State.{State}
 use Rattle.meaning.specs.Commands as Commands
 use Rattle.meaning.specs.Commands.{Command, asked, error, accept}
@@ -29,19 +29,19 @@ named d = arg d 0 ∷ arg d 1 ∷ arg d 2 ∷ []
 
 pub record Repeatable (d w : List ℕ) : Type 0 where
   pub long : 4 ≤ length d
-  pub room : 134 ≤ length w
+  pub room : longestReply ≤ length w
 
 -- 4Ah: a count that a reply has room for
 pub record Readable (d w : List ℕ) : Type 0 where
   pub long : length d ≡ 4
-  pub few : arg d 2 ≤ 128
-  pub room : 134 ≤ length w
+  pub few : arg d 2 ≤ mostCount
+  pub room : longestReply ≤ length w
 
 -- 4Bh: as many bytes as the count says
 pub record Storable (d w : List ℕ) : Type 0 where
   pub long : length d ≡ 4 + arg d 2
   pub some : 5 ≤ length d
-  pub room : 134 ≤ length w
+  pub room : longestReply ≤ length w
 
 -- 01, "11h: offset + count exceeds the field's bytes", then the field's own bytes are told
 abbrev pub readOwn : List ℕ → List ℕ → State → List ℕ → Commands.Answer

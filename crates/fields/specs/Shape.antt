@@ -13,7 +13,7 @@ use Rattle.meaning.specs.Commands.{Answer, refuse, accept, resize, shapeField}
 use Rattle.fields.specs.declared.change.Change.{Change}
 use Rattle.fields.specs.declared.shape.Grant.{Grant}
 use Rattle.fields.specs.declared.shape.Grant.the-variants.{Granted, Refused}
-use Rattle.fields.specs.Memory.{Fit, Sits}
+use Rattle.fields.specs.Memory.{Sized, Sits}
 
 -- small enough for a signed number of 32 bits
 pub record Chargeable (free : ℕ) (change : ℤ) : Type 0 where
@@ -41,7 +41,7 @@ Placed t f (Granted c) = Room t f c
 Placed t f (Refused e) = Unit
 
 pub record Settable (t : ℕ) (m : List ℕ) (f : ℕ) (c : Change) : Type 0 where
-  pub fit : Fit t m
+  pub fit : Sized t m
   pub room : Room t f c
 
 -- one of create, modify, delete, judged

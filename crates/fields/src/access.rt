@@ -11,6 +11,10 @@ use crate::find::open_field;
 use crate::reply::repeat_three;
 use crate::status::is_writable;
 use wire::Answer;
+use wire::codes::MOST_COUNT;
+use wire::codes::READ_ONLY;
+use wire::codes::WRONG_ARGUMENT;
+use wire::codes::WRONG_OFFSET;
 use wire::fill;
 
 // The reader of offset and count, on the field's own part of memory. 11h; field, offset, count and the bytes.
@@ -22,7 +26,7 @@ fn read_own(own: &[u8], request: &[u8], room: &mut [u8]) -> Answer
     let from = request[1] as usize;
     let to = from + count;
     if own.len() < to {
-        return Answer::Refuse(0x11);
+        return Answer::Refuse(WRONG_OFFSET);
     }
     repeat_three(request, room);
     fill(&own[from..to], &mut room[5..]);
@@ -51,10 +55,10 @@ pub fn read_field(
         return Answer::Refuse(found.code());
     };
     if request[2] == 0 {
-        return Answer::Refuse(0x0D);
+        return Answer::Refuse(WRONG_ARGUMENT);
     }
-    if 128 < request[2] {
-        return Answer::Refuse(0x0D);
+    if MOST_COUNT < request[2] {
+        return Answer::Refuse(WRONG_ARGUMENT);
     }
     read_own(&memory[from..to], request, room)
 }
@@ -66,7 +70,7 @@ fn store_own(own: &mut [u8], request: &[u8], room: &mut [u8]) -> Answer
 {
     let from = request[1] as usize;
     if own.len() < from + request[2] as usize {
-        return Answer::Refuse(0x11);
+        return Answer::Refuse(WRONG_OFFSET);
     }
     fill(&request[4..], &mut own[from..]);
     repeat_three(request, room);
@@ -90,7 +94,7 @@ pub fn store_field(
         return Answer::Refuse(found.code());
     };
     if !is_writable(status) {
-        return Answer::Refuse(0x0E);
+        return Answer::Refuse(READ_ONLY);
     }
     store_own(&mut memory[from..to], request, room)
 }

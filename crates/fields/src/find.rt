@@ -1,11 +1,14 @@
 // A named field looked up in the table, with the checks that 4Ah, 4Bh and 4Ch begin with (01, "The commands").
 ghost use mathlib.Core.Path.{_≡_};
-ghost use Rattle.fields.specs.Memory.{Fit};
+ghost use Rattle.fields.specs.Memory.{Sized};
 ghost use Rattle.fields.specs.Found.{FoundIn, OpenTo, codeIn};
 use crate::sizes::bytes_of;
 use crate::status::blocks_in;
 use crate::status::is_barred;
 use crate::table::survey;
+use wire::codes::TABLE_DESTROYED;
+use wire::codes::WRONG_CODE;
+use wire::codes::WRONG_FIELD;
 
 pub enum Found {
     // The field's own part of memory, from its first byte up to the one past its last, and its status.
@@ -32,15 +35,15 @@ impl Found {
 
 // 03h; 12h.
 pub(crate) fn find_field(memory: &[u8], total: usize, field: u8) -> Found
-    requires { ⌜ Fit total (now memory) ⌝ }
+    requires { ⌜ Sized total (now memory) ⌝ }
     ensures { λ r. ⌜ FoundIn total (now (memory .entry)) field r ⌝ }
 {
     let seen = survey(memory, total, field);
     if !seen.sound {
-        return Found::Refused(0x03);
+        return Found::Refused(TABLE_DESTROYED);
     }
     if seen.fields <= field as usize {
-        return Found::Refused(0x12);
+        return Found::Refused(WRONG_FIELD);
     }
     let from = bytes_of(seen.first);
     let to = from + bytes_of(blocks_in(seen.status) as usize);
@@ -53,7 +56,7 @@ pub(crate) fn find_field(memory: &[u8], total: usize, field: u8) -> Found
 
 // 03h; 12h; 0Fh.
 pub(crate) fn open_field(memory: &[u8], total: usize, codes: [u8; 4], field: u8, code: u8) -> Found
-    requires { ⌜ Fit total (now memory) ⌝ }
+    requires { ⌜ Sized total (now memory) ⌝ }
     ensures { λ r. ⌜ OpenTo codes code total (now (memory .entry)) field r ⌝ }
 {
     let found = find_field(memory, total, field);
@@ -66,7 +69,7 @@ pub(crate) fn open_field(memory: &[u8], total: usize, codes: [u8; 4], field: u8,
         return found;
     };
     if is_barred(codes, status, code) {
-        return Found::Refused(0x0F);
+        return Found::Refused(WRONG_CODE);
     }
     found
 }

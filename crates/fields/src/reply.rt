@@ -3,12 +3,12 @@ ghost use mathlib.Core.Path.{_≡_};
 ghost use Prim.Native.Nat.{_≤_};
 ghost use mathlib.Core.List.{[], _∷_};
 ghost use lib.ListN.{length};
-ghost use Rattle.meaning.specs.Bytes.{put};
+ghost use Rattle.meaning.specs.Bytes.{longestReply, put};
 ghost use Rattle.fields.specs.Replies.{Repeatable, Replied, named};
 use wire::Answer;
 
 pub(crate) fn reply_two(first: u8, second: u8, room: &mut [u8]) -> Answer
-    requires { ⌜ 134 ≤ length (now room) ⌝ }
+    requires { ⌜ longestReply ≤ length (now room) ⌝ }
     ensures { λ r. ⌜ Replied (first ∷ second ∷ []) (now (room .entry)) r (now (room .exit)) ⌝ }
 {
     room[2] = first;

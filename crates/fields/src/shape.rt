@@ -19,6 +19,10 @@ use crate::status::has_field;
 use crate::status::is_wrong_code;
 use crate::table::survey;
 use wire::Answer;
+use wire::codes::FIXED_SIZE;
+use wire::codes::TABLE_DESTROYED;
+use wire::codes::WRONG_CODE;
+use wire::codes::WRONG_FIELD;
 
 pub enum Grant {
     Granted(Change),
@@ -55,11 +59,11 @@ fn judge_create(seen: Survey, total: usize, codes: [u8; 4], new: u8, code: u8) -
         → Judged codes total f new (λ (s : State) (m : List ℕ). create total s m (surveyOf seen) f new code) r) ⌝ }
 {
     if is_wrong_code(codes, new, code) {
-        return Grant::Refused(0x0F);
+        return Grant::Refused(WRONG_CODE);
     }
     let blocks = blocks_in(new);
     if lacks_room(seen.free, blocks, 0) {
-        return Grant::Refused(0x10);
+        return Grant::Refused(FIXED_SIZE);
     }
     Grant::Granted(Change {
         start: total - seen.free,
@@ -77,15 +81,15 @@ fn judge_modify(seen: Survey, codes: [u8; 4], field: u8, new: u8, code: u8) -> G
 {
     let stored = seen.status;
     if is_wrong_code(codes, stored, code) {
-        return Grant::Refused(0x0F);
+        return Grant::Refused(WRONG_CODE);
     }
     let blocks = blocks_in(new);
     let old = blocks_in(stored);
     if is_held(seen, field, blocks, old) {
-        return Grant::Refused(0x10);
+        return Grant::Refused(FIXED_SIZE);
     }
     if lacks_room(seen.free, blocks, old) {
-        return Grant::Refused(0x10);
+        return Grant::Refused(FIXED_SIZE);
     }
     Grant::Granted(Change {
         start: seen.first,
@@ -101,10 +105,10 @@ fn judge_delete(seen: Survey, codes: [u8; 4], field: u8, code: u8) -> Grant
         → Judged codes t field gone (λ (s : State) (m : List ℕ). delete t s m (surveyOf seen) field gone code) r) ⌝ }
 {
     if is_wrong_code(codes, seen.status, code) {
-        return Grant::Refused(0x0F);
+        return Grant::Refused(WRONG_CODE);
     }
     if field as usize + 1 != seen.fields {
-        return Grant::Refused(0x10);
+        return Grant::Refused(FIXED_SIZE);
     }
     Grant::Granted(Change {
         start: seen.first,
@@ -124,19 +128,19 @@ fn judge_shape(seen: Survey, total: usize, codes: [u8; 4], request: &[u8]) -> Gr
     let status = request[1];
     let code = request[2];
     if !seen.sound {
-        return Grant::Refused(0x03);
+        return Grant::Refused(TABLE_DESTROYED);
     }
     if has_field(status) {
         if number == seen.fields {
             return judge_create(seen, total, codes, status, code);
         }
         if seen.fields < number {
-            return Grant::Refused(0x12);
+            return Grant::Refused(WRONG_FIELD);
         }
         return judge_modify(seen, codes, field, status, code);
     }
     if seen.fields <= number {
-        return Grant::Refused(0x12);
+        return Grant::Refused(WRONG_FIELD);
     }
     judge_delete(seen, codes, field, code)
 }

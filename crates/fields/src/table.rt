@@ -2,13 +2,12 @@
 ghost use mathlib.Core.Path.{_≡_};
 ghost use Prim.Native.Nat.{ℕ, _≤_};
 ghost use mathlib.Core.List.{List};
-ghost use lib.ListN.{length, take, drop};
+ghost use lib.ListN.{length, drop};
 ghost use Rattle.meaning.specs.Bytes.{blank};
-ghost use Rattle.meaning.specs.Fields.{survey, statusAt, table};
-ghost use Rattle.fields.specs.Memory.{Fit, Statuses, Tallied, surveyOf};
+ghost use Rattle.meaning.specs.Fields.{survey, table};
+ghost use Rattle.fields.specs.Memory.{Sized, Statuses, Tallied, surveyOf};
 use crate::seen::Survey;
 use crate::sizes::bytes_of;
-use crate::sizes::least;
 use crate::sizes::less;
 use crate::status::blocks_in;
 use crate::status::has_field;
@@ -50,13 +49,6 @@ pub(crate) fn is_blank(rest: &[u8]) -> bool
     bits == 0
 }
 
-fn front(bytes: &[u8], n: usize) -> &[u8]
-    ensures { λ r. ⌜ now r ≡ take n (now (bytes .entry)) ⌝ }
-{
-    let end = least(n, bytes.len());
-    &bytes[..end]
-}
-
 fn past(bytes: &[u8], n: usize) -> &[u8]
     requires { ⌜ n ≤ length (now bytes) ⌝ }
     ensures { λ r. ⌜ now r ≡ drop n (now (bytes .entry)) ⌝ }
@@ -64,18 +56,12 @@ fn past(bytes: &[u8], n: usize) -> &[u8]
     &bytes[n..]
 }
 
-fn status_at(table: &[u8], field: usize) -> u8
-    ensures { λ r. ⌜ r ≡ statusAt (now (table .entry)) field ⌝ }
-{
-    if field < table.len() { table[field] } else { 0 }
-}
-
 // The walk halts at the named field, to note where it starts, and goes on from there: no status is passed twice.
 fn walk(statuses: &[u8], total: usize, field: usize) -> Survey
     requires { ⌜ Statuses total (now statuses) ⌝ }
     ensures { λ r. ⌜ ((m : List ℕ) → table total m ≡ now (statuses .entry) → surveyOf r ≡ survey total m field) ⌝ }
 {
-    let before = count_fields(front(statuses, field));
+    let before = count_fields(wire::front(statuses, field));
     let after = count_fields(past(statuses, before.fields));
     let fields = before.fields + after.fields;
     let used = before.blocks + after.blocks;
@@ -85,13 +71,13 @@ fn walk(statuses: &[u8], total: usize, field: usize) -> Survey
         fields,
         free: less(total, used),
         first: before.blocks,
-        status: status_at(statuses, field),
+        status: wire::byte_at(statuses, field),
     }
 }
 
 // 01, "Memory": all that a command reads of the table, whether it is sound or not.
 pub fn survey(memory: &[u8], total: usize, field: u8) -> Survey
-    requires { ⌜ Fit total (now memory) ⌝ }
+    requires { ⌜ Sized total (now memory) ⌝ }
     ensures { λ r. ⌜ surveyOf r ≡ survey total (now (memory .entry)) field ⌝ }
 {
     walk(past(memory, bytes_of(total)), total, field as usize)

@@ -10,8 +10,10 @@ ghost use Rattle.fields.specs.Replies.{Asked};
 use crate::find::Found;
 use crate::find::find_field;
 use crate::reply::reply_two;
+use crate::seen::Trust;
 use crate::table::survey;
 use wire::Answer;
+use wire::codes::TABLE_DESTROYED;
 
 // 4Ch: field. 03h; 12h; field and status.
 pub fn field_status(memory: &[u8], total: usize, request: &[u8], room: &mut [u8]) -> Answer
@@ -47,8 +49,8 @@ pub fn memory_status(memory: &[u8], total: usize, room: &mut [u8]) -> Answer
         → Works (memoryStatus p s (now (memory .entry)) d) (now (memory .entry)) (now (room .entry)) r (now (memory .entry)) (now (room .exit))) ⌝ }
 {
     let seen = survey(memory, total, 0);
-    if !seen.sound {
-        return Answer::Refuse(0x03);
-    }
+    let Trust::Sound = seen.trust() else {
+        return Answer::Refuse(TABLE_DESTROYED);
+    };
     reply_two(free_byte(seen.free), seen.fields as u8, room)
 }

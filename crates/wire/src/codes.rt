@@ -40,4 +40,4 @@ pub const LONGEST_REQUEST: usize = 135;
 pub const LONGEST_REPLY: usize = 134;
 
 // The largest count of 4Ah and 4Bh.
-pub const MOST_COUNT: usize = 128;
+pub const MOST_COUNT: u8 = 128;

@@ -74,7 +74,7 @@ fn counted_fits(base: usize, count: u8, n: usize) -> bool
         return false;
     }
     let more = n - base;
-    if MOST_COUNT < more {
+    if (MOST_COUNT as usize) < more {
         return false;
     }
     more == wide(count)

@@ -4,7 +4,7 @@ use mathlib.Core.Path.{_≡_, refl, ap, _∙_}
 use native.Mathlib.Omega.{arith}
 use lib.ListN.{take, length-take, length-drop}
 use borrow.Author.Needs.{needs}
-use Rattle.meaning.specs.Fields.{fieldCount, used}
+use Rattle.meaning.specs.Fields.{fieldCount, used, statusAt}
 use Rattle.meaning.specs.Bytes.{blank}
 use Rattle.fields.proofs.Tables.{used-le, walk-fields, walk-used, survey-is}
 use Rattle.fields.proofs.table.walk.Statement.{statement}
@@ -72,10 +72,11 @@ is-blank-requires c κs = search needs
 less-requires : tie.Need-less-requires
 less-requires c κs = search needs
 
-status-at-requires : tie.Need-status-at-requires
-status-at-requires c κs = search needs
+byte-at-requires : tie.Need-byte-at-requires
+byte-at-requires c κs = search needs
 
 returns : tie.Need-returns
+unfolding statusAt
 returns c = λ m e.
     let p = c .before .before .before in
     let k = p .before .before .before .before .before in
@@ -83,7 +84,7 @@ returns c = λ m e.
     let a = b .before .before .before .args in
     survey-is (a .total) (a .field) m (a .statuses .now) e _ (c .before .before .is-blank .result) _ _ _ _ _
     (all-fields k) (all-used k) (c .before .before .is-blank .ensures ∙ ap blank (p .past2 .ensures)) refl
-    (c .before .less .ensures) (used-before b) (c .status-at .ensures)
+    (c .before .less .ensures) (used-before b) (c .byte-at .ensures)
 
 pub walk-spec : {M : Type 1} → statement M
 walk-spec =
@@ -98,5 +99,5 @@ walk-spec =
     past-requires-2
     is-blank-requires
     less-requires
-    status-at-requires
+    byte-at-requires
     returns)

@@ -17,6 +17,9 @@ returns c d x e f = sym (too-few _ d x (rw f (c .if1 .taken)))
 sub-more : tie.Need-sub-more
 sub-more c = search needs
 
+cast-if2 : tie.Need-cast-if2
+cast-if2 c = search needs
+
 returns-2 : tie.Need-returns-2
 returns-2 c d x e f = sym (too-many _ d x (rw f (c .before .if1 .left)) (rw f (c .if2 .taken)))
 
@@ -31,4 +34,4 @@ returns-3 c d x e f =
     ∙ count-past (t .base) d x (rw f (c .before .before .if1 .left)) (rw f (c .before .if2 .left))
 
 pub counted-fits-spec : {M : Type 1} → statement M
-counted-fits-spec = tie.close (tie.spec returns sub-more returns-2 wide-requires returns-3)
+counted-fits-spec = tie.close (tie.spec returns sub-more cast-if2 returns-2 wide-requires returns-3)
