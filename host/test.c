@@ -474,6 +474,9 @@ static const struct trial TRIALS[] = {
     {.name = "the counter at FFFFFFh is read, steps to 0 and warns", .plate = &SHEET, .set = {{QS_IMAGE_COUNTER, 3, {0xFF, 0xFF, 0xFF}}},
      .lines = {{"40 46", "40 46 FF FF FF"}, {"40 47", "40 C7"}, {"40 46", "40 C6 00 00 00"}, {"40 4E", "40 CE 70 00"}, {"40 50", "40 50 08"},
                {"40 50", "40 50 00"}}},
+    {.name = "the counter from 0", .plate = &SHEET,
+     .lines = {{"40 46", "40 46 00 00 00"}, {"40 47", "40 47"}, {"40 46", "40 46 00 00 01"}, {"40 49 54", "40 50 0F"}, {"40 49 55", "40 49"},
+               {"40 46", "40 46 00 00 00"}}},
     {.name = "the counter a step below FFFFFFh", .plate = &SHEET, .set = {{QS_IMAGE_COUNTER, 3, {0xFE, 0xFF, 0xFF}}},
      .lines = {{"40 47", "40 47"}, {"40 46", "40 46 FF FF FF"}, {"40 49 54", "40 50 0F"}, {"40 49 55", "40 49"}, {"40 46", "40 46 00 00 00"}}},
     /* 01, "one already waiting, or a fifth, is dropped". */
