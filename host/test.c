@@ -1,9 +1,12 @@
-/* Every entry of quicksetter.h with good, extreme and damaged input. Each call's buffers stand between guard bytes. Prints what failed, ends in 1 if any did. */
+/* Every entry of quicksetter.h with good, extreme and damaged input, and the states that no tape reaches. Each call's buffers stand between guard bytes.
+ * Prints what failed, ends in 1 if any did. Tables say what is tried; document 01 is cited by its words. */
 #include "quicksetter.h"
 
 #include <stdbool.h>
 #include <stdio.h>
 #include <string.h>
+
+#define COUNT(table) (sizeof(table) / sizeof *(table))
 
 /* ---- checking ------------------------------------------------------------------------------------------------------------------------------------------- */
 
@@ -42,6 +45,8 @@ struct lengths {
 
 static const struct plate SHEET = {112, 24, 0, 4, 55};
 static const struct plate EIGHT = {8, 24, 0, 4, 55};
+static const struct plate ONE_BLOCK = {1, 24, 0, 4, 55};
+static const struct plate LAST_ADDRESS = {112, 24, 31, 4, 55};
 
 static struct lent lent, before;
 static uint32_t now;
@@ -50,34 +55,10 @@ static struct lengths right(struct plate p) {
     return (struct lengths){QS_IMAGE_LENGTH, QS_MEMORY_LENGTH(p.total), QS_REPLY_ROOM};
 }
 
-static void remember(void) {
-    before = lent;
-}
-
-static bool as_it_was(void) {
-    return memcmp(&before, &lent, sizeof lent) == 0;
-}
-
-/* Guards, and all of the buffers that lies beyond the lengths that were handed in. */
-static bool guards_stand(struct lengths n) {
-    return memcmp(lent.guard0, before.guard0, GUARD) == 0 && memcmp(lent.guard1, before.guard1, GUARD) == 0 &&
-           memcmp(lent.guard2, before.guard2, GUARD) == 0 && memcmp(lent.guard3, before.guard3, GUARD) == 0 &&
-           memcmp(lent.image + n.image, before.image + n.image, sizeof lent.image - n.image) == 0 &&
-           memcmp(lent.memory + n.memory, before.memory + n.memory, sizeof lent.memory - n.memory) == 0 &&
-           memcmp(lent.room + n.room, before.room + n.room, sizeof lent.room - n.room) == 0;
-}
+/* ---- the library's calls, all of them ------------------------------------------------------------------------------------------------------------------- */
 
 static size_t make_fresh(struct plate p, size_t image_length) {
     return qs_fresh(p.total, p.bits, p.address, p.ticks, p.pause, lent.image, image_length);
-}
-
-/* A fresh board with blank memory and everything round it marked. */
-static void start(struct plate p) {
-    memset(&lent, GUARD_BYTE, sizeof lent);
-    memset(lent.memory, 0, QS_MEMORY_LENGTH(p.total));
-    memset(lent.room, ROOM_BYTE, sizeof lent.room);
-    now = 1000;
-    check(make_fresh(p, QS_IMAGE_LENGTH) == 0, "a good plate is taken", p.total);
 }
 
 static size_t character_with(struct plate p, struct lengths n, uint32_t tick, uint8_t value, uint8_t parity) {
@@ -98,6 +79,48 @@ static size_t fault_with(struct plate p, struct lengths n, uint8_t code) {
 
 static size_t power_on_with(struct plate p, struct lengths n) {
     return qs_power_on(lent.image, n.image, p.total, p.bits, p.address, p.ticks, p.pause);
+}
+
+/* asked is the command and its data. */
+static size_t request_with(uint32_t address, const uint8_t *asked, size_t asked_length, size_t room_length) {
+    return qs_request(address, asked[0], asked + 1, asked_length - 1, lent.room, room_length);
+}
+
+struct judgement {
+    uint32_t verdict;
+    struct qs_piece data;
+};
+
+static struct judgement judge(const uint8_t *request, size_t request_length, const uint8_t *reply, size_t reply_length) {
+    return (struct judgement){qs_judge(request, request_length, reply, reply_length), qs_data_part(request, request_length, reply, reply_length)};
+}
+
+/* ---- what a call leaves --------------------------------------------------------------------------------------------------------------------------------- */
+
+static void remember(void) {
+    before = lent;
+}
+
+static bool as_it_was(void) {
+    return memcmp(&before, &lent, sizeof lent) == 0;
+}
+
+/* Guards, and all of the buffers that lies beyond the lengths that were handed in. */
+static bool guards_stand(struct lengths n) {
+    return memcmp(lent.guard0, before.guard0, GUARD) == 0 && memcmp(lent.guard1, before.guard1, GUARD) == 0 &&
+           memcmp(lent.guard2, before.guard2, GUARD) == 0 && memcmp(lent.guard3, before.guard3, GUARD) == 0 &&
+           memcmp(lent.image + n.image, before.image + n.image, sizeof lent.image - n.image) == 0 &&
+           memcmp(lent.memory + n.memory, before.memory + n.memory, sizeof lent.memory - n.memory) == 0 &&
+           memcmp(lent.room + n.room, before.room + n.room, sizeof lent.room - n.room) == 0;
+}
+
+/* A fresh board with blank memory and everything round it marked. */
+static void start(struct plate p) {
+    memset(&lent, GUARD_BYTE, sizeof lent);
+    memset(lent.memory, 0, QS_MEMORY_LENGTH(p.total));
+    memset(lent.room, ROOM_BYTE, sizeof lent.room);
+    now = 1000;
+    check(make_fresh(p, QS_IMAGE_LENGTH) == 0, "a good plate is taken", p.total);
 }
 
 enum call { CHARACTER, POLL, MEASURED, FAULT, POWER_ON, CALLS };
@@ -160,6 +183,7 @@ static void test_bad_plates(void) {
             remember();
             check(make_fresh(bad, QS_IMAGE_LENGTH) == QS_R1 && as_it_was(), "fresh refuses a plate", number);
             all_refuse(bad, right(EIGHT), QS_R1, "R1 for a plate", number);
+            all_refuse(bad, (struct lengths){QS_IMAGE_LENGTH, QS_MEMORY_LENGTH(8) - 1, QS_REPLY_ROOM - 1}, QS_R1, "R1 for a plate before R2 and R3", number);
             all_refuse(bad, (struct lengths){0, 0, 0}, QS_R1, "R1 for a plate before R2 and R3", number);
         }
     }
@@ -183,101 +207,184 @@ static void test_fresh(void) {
     memcpy(lent.image, before.image, sizeof expected);
     check(as_it_was(), "fresh leaves all behind the image as it was", 0);
     static const size_t wrong[] = {0, 1, QS_IMAGE_KEPT, QS_IMAGE_LENGTH - 1, QS_IMAGE_LENGTH + 1, QS_IMAGE_LENGTH + SPARE};
-    for (size_t i = 0; i < sizeof wrong / sizeof *wrong; i++)
+    for (size_t i = 0; i < COUNT(wrong); i++)
         check(make_fresh(SHEET, wrong[i]) == QS_R1 && as_it_was(), "fresh refuses an image's length", wrong[i]);
 }
 
-/* ---- damaged images, wrong lengths ---------------------------------------------------------------------------------------------------------------------- */
+/* ---- damaged images, wrong sizes ------------------------------------------------------------------------------------------------------------------------ */
 
-struct damage {
-    size_t place;
-    size_t size;
-    uint8_t bytes[4];
+/* Bytes at a place of the image or of memory. */
+struct bytes {
+    size_t place, size;
+    uint8_t value[16];
 };
 
-static const struct damage DAMAGES[] = {
-    {QS_IMAGE_COUNTER, 4, {0, 0, 0, 1}},          {QS_IMAGE_COUNTER, 4, {0xFF, 0xFF, 0xFF, 0xFF}},
-    {QS_IMAGE_OFFSET, 4, {0, 0, 0, 1}},           {QS_IMAGE_OFFSET, 4, {0xFF, 0xFF, 0xFF, 0xFF}},
-    {QS_IMAGE_WAITING, 4, {5, 5, 0, 0}},          {QS_IMAGE_WAITING, 4, {5, 6, 7, 5}},
-    {QS_IMAGE_WAITING, 4, {5, 6, 7, 6}},          {QS_IMAGE_WAITING, 4, {5, 6, 7, 7}},
-    {QS_IMAGE_WAITING, 4, {5, 6, 5, 0}},          {QS_IMAGE_WAITING, 4, {5, 6, 6, 0}},
-    {QS_IMAGE_WAITING, 4, {0, 5, 0, 0}},          {QS_IMAGE_WAITING, 4, {5, 0, 6, 0}},
-    {QS_IMAGE_WAITING, 4, {5, 6, 0, 7}},          {QS_IMAGE_WAITING, 4, {0, 0, 0, 1}},
-    {QS_IMAGE_WAITING, 4, {0x22, 0, 0, 0}},       {QS_IMAGE_WAITING, 4, {0x24, 0, 0, 0}},
-    {QS_IMAGE_WAITING, 4, {5, 0x24, 0, 0}},       {QS_IMAGE_WAITING, 4, {1, 2, 0x22, 0}},
-    {QS_IMAGE_WAITING, 4, {1, 2, 3, 0x22}},       {QS_IMAGE_WAITING, 4, {1, 2, 3, 0x24}},
-    {QS_IMAGE_LOCKED, 1, {2}},                    {QS_IMAGE_LOCKED, 1, {255}},
-    {QS_IMAGE_OPEN, 1, {2}},                      {QS_IMAGE_OPEN, 1, {128}},
-    {QS_IMAGE_LONGER, 1, {2}},                    {QS_IMAGE_LONGER, 1, {129}},
-    {QS_IMAGE_PARITY, 1, {2}},                    {QS_IMAGE_PARITY, 1, {255}},
-    {QS_IMAGE_KEPT_NUMBER, 1, {QS_KEPT_BYTES + 1}}, {QS_IMAGE_KEPT_NUMBER, 1, {255}},
+static void set(uint8_t *buffer, struct bytes b) {
+    memcpy(buffer + b.place, b.value, b.size);
+}
+
+static bool holds(const uint8_t *buffer, struct bytes b) {
+    return memcmp(buffer + b.place, b.value, b.size) == 0;
+}
+
+/* 01, "State limits", each number beyond its limit, and what no image holds. */
+static const struct {
+    const char *name;
+    struct bytes image;
+} DAMAGED[] = {
+    {"counter 1000000h", {QS_IMAGE_COUNTER, 4, {0, 0, 0, 1}}},
+    {"counter FFFFFFFFh", {QS_IMAGE_COUNTER, 4, {0xFF, 0xFF, 0xFF, 0xFF}}},
+    {"offset 2^24", {QS_IMAGE_OFFSET, 4, {0, 0, 0, 1}}},
+    {"offset FFFFFFFFh", {QS_IMAGE_OFFSET, 4, {0xFF, 0xFF, 0xFF, 0xFF}}},
+    {"a code waits twice: 1 and 2", {QS_IMAGE_WAITING, 4, {5, 5, 0, 0}}},
+    {"a code waits twice: 1 and 4", {QS_IMAGE_WAITING, 4, {5, 6, 7, 5}}},
+    {"a code waits twice: 2 and 4", {QS_IMAGE_WAITING, 4, {5, 6, 7, 6}}},
+    {"a code waits twice: 3 and 4", {QS_IMAGE_WAITING, 4, {5, 6, 7, 7}}},
+    {"a code waits twice: 1 and 3", {QS_IMAGE_WAITING, 4, {5, 6, 5, 0}}},
+    {"a code waits twice: 2 and 3", {QS_IMAGE_WAITING, 4, {5, 6, 6, 0}}},
+    {"an empty place before a code: 1", {QS_IMAGE_WAITING, 4, {0, 5, 0, 0}}},
+    {"an empty place before a code: 2", {QS_IMAGE_WAITING, 4, {5, 0, 6, 0}}},
+    {"an empty place before a code: 3", {QS_IMAGE_WAITING, 4, {5, 6, 0, 7}}},
+    {"three empty places before a code", {QS_IMAGE_WAITING, 4, {0, 0, 0, 1}}},
+    {"22h waits first", {QS_IMAGE_WAITING, 4, {0x22, 0, 0, 0}}},
+    {"24h waits first", {QS_IMAGE_WAITING, 4, {0x24, 0, 0, 0}}},
+    {"24h waits second", {QS_IMAGE_WAITING, 4, {5, 0x24, 0, 0}}},
+    {"22h waits third", {QS_IMAGE_WAITING, 4, {1, 2, 0x22, 0}}},
+    {"22h waits last", {QS_IMAGE_WAITING, 4, {1, 2, 3, 0x22}}},
+    {"24h waits last", {QS_IMAGE_WAITING, 4, {1, 2, 3, 0x24}}},
+    {"locked is 2", {QS_IMAGE_LOCKED, 1, {2}}},
+    {"locked is 255", {QS_IMAGE_LOCKED, 1, {255}}},
+    {"open is 2", {QS_IMAGE_OPEN, 1, {2}}},
+    {"open is 128", {QS_IMAGE_OPEN, 1, {128}}},
+    {"longer is 2", {QS_IMAGE_LONGER, 1, {2}}},
+    {"longer is 129", {QS_IMAGE_LONGER, 1, {129}}},
+    {"parity is 2", {QS_IMAGE_PARITY, 1, {2}}},
+    {"parity is 255", {QS_IMAGE_PARITY, 1, {255}}},
+    {"136 bytes kept", {QS_IMAGE_KEPT_NUMBER, 1, {QS_KEPT_BYTES + 1}}},
+    {"255 bytes kept", {QS_IMAGE_KEPT_NUMBER, 1, {255}}},
 };
 
-static const struct damage EXTREMES[] = {
-    {QS_IMAGE_CODES, 4, {0, 0xFF, 0, 0xFF}},      {QS_IMAGE_COUNTER, 4, {0xFF, 0xFF, 0xFF, 0}},
-    {QS_IMAGE_OFFSET, 4, {0xFF, 0xFF, 0xFF, 0}},  {QS_IMAGE_MEASURED, 4, {0xFF, 0xFF, 0xFF, 0xFF}},
-    {QS_IMAGE_WAITING, 4, {1, 2, 3, 4}},          {QS_IMAGE_WAITING, 4, {255, 254, 253, 252}},
-    {QS_IMAGE_WAITING, 4, {0x21, 0x23, 0x25, 0}}, {QS_IMAGE_LOCKED, 1, {1}},
-    {QS_IMAGE_LONGER, 1, {1}},                    {QS_IMAGE_PARITY, 1, {1}},
-    {QS_IMAGE_LAST, 4, {0xFF, 0xFF, 0xFF, 0xFF}}, {QS_IMAGE_SUM, 1, {255}},
-    {QS_IMAGE_KEPT_NUMBER, 1, {QS_KEPT_BYTES}},   {QS_IMAGE_KEPT_NUMBER, 1, {0}},
+static const struct {
+    const char *name;
+    struct bytes image;
+} EXTREME[] = {
+    {"codes 00h and FFh", {QS_IMAGE_CODES, 4, {0, 0xFF, 0, 0xFF}}},
+    {"counter FFFFFFh", {QS_IMAGE_COUNTER, 4, {0xFF, 0xFF, 0xFF, 0}}},
+    {"offset 2^24 - 1", {QS_IMAGE_OFFSET, 4, {0xFF, 0xFF, 0xFF, 0}}},
+    {"measured FFFFFFFFh", {QS_IMAGE_MEASURED, 4, {0xFF, 0xFF, 0xFF, 0xFF}}},
+    {"four codes wait", {QS_IMAGE_WAITING, 4, {1, 2, 3, 4}}},
+    {"the largest codes wait", {QS_IMAGE_WAITING, 4, {255, 254, 253, 252}}},
+    {"codes beside 22h and 24h wait", {QS_IMAGE_WAITING, 4, {0x21, 0x23, 0x25, 0}}},
+    {"locked", {QS_IMAGE_LOCKED, 1, {1}}},
+    {"longer", {QS_IMAGE_LONGER, 1, {1}}},
+    {"a parity fault", {QS_IMAGE_PARITY, 1, {1}}},
+    {"the last tick FFFFFFFFh", {QS_IMAGE_LAST, 4, {0xFF, 0xFF, 0xFF, 0xFF}}},
+    {"a sum of FFh", {QS_IMAGE_SUM, 1, {255}}},
+    {"135 bytes kept", {QS_IMAGE_KEPT_NUMBER, 1, {QS_KEPT_BYTES}}},
+    {"no byte kept", {QS_IMAGE_KEPT_NUMBER, 1, {0}}},
 };
 
-static void start_with(struct plate p, struct damage d, uint8_t open) {
+static void start_with(struct plate p, struct bytes image, uint8_t open) {
     start(p);
     lent.image[QS_IMAGE_OPEN] = open;
-    memcpy(lent.image + d.place, d.bytes, d.size);
+    set(lent.image, image);
 }
 
+/* Each with no frame open and with one. */
 static void test_damaged_images(void) {
     struct lengths none = {QS_IMAGE_LENGTH, 0, 0};
-    for (unsigned long i = 0; i < 2 * sizeof DAMAGES / sizeof *DAMAGES; i++) {
-        start_with(EIGHT, DAMAGES[i / 2], i % 2);
-        all_refuse(EIGHT, right(EIGHT), QS_R1, "R1 for a state number", i);
-        all_refuse(EIGHT, none, QS_R1, "R1 for a state number before R2 and R3", i);
+    for (unsigned long i = 0; i < 2 * COUNT(DAMAGED); i++) {
+        start_with(EIGHT, DAMAGED[i / 2].image, i % 2);
+        all_refuse(EIGHT, right(EIGHT), QS_R1, DAMAGED[i / 2].name, i);
+        all_refuse(EIGHT, none, QS_R1, DAMAGED[i / 2].name, i);
     }
-    for (unsigned long i = 0; i < 2 * sizeof EXTREMES / sizeof *EXTREMES; i++) {
-        start_with(EIGHT, EXTREMES[i / 2], i % 2);
-        all_take(EIGHT, "a state number at its limit", i);
+    for (unsigned long i = 0; i < 2 * COUNT(EXTREME); i++) {
+        start_with(EIGHT, EXTREME[i / 2].image, i % 2);
+        all_take(EIGHT, EXTREME[i / 2].name, i);
     }
 }
 
-/* The offset's limit is the plate's 2^bits. */
+static struct bytes offset_of(uint32_t value) {
+    return (struct bytes){QS_IMAGE_OFFSET, 4, {(uint8_t)value, (uint8_t)(value >> 8), (uint8_t)(value >> 16), (uint8_t)(value >> 24)}};
+}
+
+/* 01, "offset below 2^P". */
 static void test_offset_limits(void) {
     for (uint32_t bits = 1; bits <= 32; bits++) {
         struct plate p = with_number(EIGHT, 1, bits);
         uint32_t last = UINT32_MAX >> (32 - bits);
-        struct damage d = {QS_IMAGE_OFFSET, 4, {(uint8_t)last, (uint8_t)(last >> 8), (uint8_t)(last >> 16), (uint8_t)(last >> 24)}};
-        start_with(p, d, 0);
+        start_with(p, offset_of(last), 0);
         all_take(p, "the largest offset", bits);
         if (bits == 32)
             continue;
-        uint32_t over = last + 1;
-        d = (struct damage){QS_IMAGE_OFFSET, 4, {(uint8_t)over, (uint8_t)(over >> 8), (uint8_t)(over >> 16), (uint8_t)(over >> 24)}};
-        start_with(p, d, 0);
+        start_with(p, offset_of(last + 1), 0);
         all_refuse(p, right(p), QS_R1, "an offset over the largest", bits);
     }
 }
 
-static void test_lengths(void) {
-    const size_t memory = QS_MEMORY_LENGTH(8);
-    const size_t images[] = {0, 1, 30, QS_IMAGE_LENGTH - 1, QS_IMAGE_LENGTH + 1, QS_IMAGE_LENGTH + SPARE};
-    const size_t memories[] = {0, 1, memory - 17, memory - 1, memory + 1, memory + 17, QS_MEMORY_LENGTH(112)};
-    const size_t rooms[] = {0, 1, 3, QS_REPLY_ROOM - 1};
-    start(EIGHT);
-    lent.image[QS_IMAGE_OPEN] = 1;
-    for (size_t i = 0; i < sizeof images / sizeof *images; i++) {
-        all_refuse(EIGHT, (struct lengths){images[i], memory, QS_REPLY_ROOM}, QS_R1, "R1 for the image's length", images[i]);
-        all_refuse(EIGHT, (struct lengths){images[i], 0, 0}, QS_R1, "R1 before R2 and R3", images[i]);
+/* 01, "Named refusals": R1 to R3 in that order. How many bytes more or less than the right number are lent; NONE leaves none. */
+enum { NONE = -10000 };
+
+static const struct {
+    const char *name;
+    int image, memory, room;
+    size_t refusal;
+} SIZES[] = {
+    {"image a byte short: 134 places for kept bytes", -1, 0, 0, QS_R1},
+    {"image a byte too long: 136 places for kept bytes", 1, 0, 0, QS_R1},
+    {"image without the kept bytes", -QS_KEPT_BYTES, 0, 0, QS_R1},
+    {"image much too long", SPARE, 0, 0, QS_R1},
+    {"no image", NONE, 0, 0, QS_R1},
+    {"all a byte short: R1 before R2 and R3", -1, -1, -1, QS_R1},
+    {"all a byte too long: R1 before R2", 1, 1, 1, QS_R1},
+    {"nothing lent: R1 before R2 and R3", NONE, NONE, NONE, QS_R1},
+    {"memory a byte short", 0, -1, 0, QS_R2},
+    {"memory a byte too long", 0, 1, 0, QS_R2},
+    {"memory a block short", 0, -17, 0, QS_R2},
+    {"memory a block too long", 0, 17, 0, QS_R2},
+    {"memory of 112 blocks", 0, 104 * 17, 0, QS_R2},
+    {"no memory", 0, NONE, 0, QS_R2},
+    {"memory and room a byte short: R2 before R3", 0, -1, -1, QS_R2},
+    {"memory a byte too long, no room: R2 before R3", 0, 1, NONE, QS_R2},
+    {"neither memory nor room: R2 before R3", 0, NONE, NONE, QS_R2},
+    {"room a byte short", 0, 0, -1, QS_R3},
+    {"room for three bytes", 0, 0, 3 - QS_REPLY_ROOM, QS_R3},
+    {"no room", 0, 0, NONE, QS_R3},
+    {"the right sizes", 0, 0, 0, 0},
+    {"room a byte larger", 0, 0, 1, 0},
+    {"room much larger", 0, 0, SPARE, 0},
+};
+
+static size_t sized(size_t right_size, int more) {
+    return more == NONE ? 0 : right_size + (size_t)more;
+}
+
+/* A board whose every number is as large as it may be, so that no refusal is for want of a frame; with none open and with one. */
+static void start_full(struct plate p, uint8_t open) {
+    static const struct bytes full[] = {
+        {QS_IMAGE_COUNTER, 3, {0xFF, 0xFF, 0xFF}},
+        {QS_IMAGE_OFFSET, 3, {0xFF, 0xFF, 0xFF}},
+        {QS_IMAGE_WAITING, 5, {1, 2, 3, 4, 1}},
+        {QS_IMAGE_KEPT_NUMBER, 1, {QS_KEPT_BYTES}},
+    };
+    start(p);
+    lent.image[QS_IMAGE_OPEN] = open;
+    for (size_t i = 0; i < COUNT(full); i++)
+        set(lent.image, full[i]);
+}
+
+static void test_sizes(void) {
+    for (unsigned long i = 0; i < 2 * COUNT(SIZES); i++) {
+        size_t row = i / 2;
+        struct lengths r = right(EIGHT), n = {sized(r.image, SIZES[row].image), sized(r.memory, SIZES[row].memory), sized(r.room, SIZES[row].room)};
+        start_full(EIGHT, i % 2);
+        if (SIZES[row].refusal != 0) {
+            all_refuse(EIGHT, n, SIZES[row].refusal, SIZES[row].name, i);
+            continue;
+        }
+        remember();
+        check(poll_with(EIGHT, n, now) < QS_REFUSED && guards_stand(n), SIZES[row].name, i);
     }
-    for (size_t i = 0; i < sizeof memories / sizeof *memories; i++) {
-        all_refuse(EIGHT, (struct lengths){QS_IMAGE_LENGTH, memories[i], QS_REPLY_ROOM}, QS_R2, "R2", memories[i]);
-        all_refuse(EIGHT, (struct lengths){QS_IMAGE_LENGTH, memories[i], 0}, QS_R2, "R2 before R3", memories[i]);
-    }
-    for (size_t i = 0; i < sizeof rooms / sizeof *rooms; i++)
-        all_refuse(EIGHT, (struct lengths){QS_IMAGE_LENGTH, memory, rooms[i]}, QS_R3, "R3", rooms[i]);
-    struct lengths large = {QS_IMAGE_LENGTH, memory, QS_REPLY_ROOM + SPARE};
-    check(poll_with(EIGHT, large, now) < QS_REFUSED, "a larger room will do", 0);
 }
 
 /* ---- frames --------------------------------------------------------------------------------------------------------------------------------------------- */
@@ -334,117 +441,124 @@ static bool replies(struct plate p, const uint8_t *bytes, size_t n, size_t fault
 enum { NONE_FAULTY = 1 << 30 };
 
 /* Request and reply without their checksums; "" is silence. */
-static void line(struct plate p, const char *request, const char *reply) {
+static void asks(struct plate p, const char *request, const char *reply, const char *name) {
     uint8_t bytes[QS_REQUEST_ROOM];
     size_t n = sealed(request, bytes);
     checks++;
     if (replies(p, bytes, n, NONE_FAULTY, reply))
         return;
     failures++;
-    printf("test.c: FAILED: %s is not answered with %s\n", request, reply[0] ? reply : "silence");
+    printf("test.c: FAILED: %s: %s is not answered with %s\n", name, request, reply[0] ? reply : "silence");
 }
 
-static void test_fields(void) {
-    start(EIGHT);
-    line(EIGHT, "40 4E", "40 4E 08 00");
-    line(EIGHT, "40 4C 00", "40 50 12");
-    line(EIGHT, "40 4D 01 C0 55", "40 50 12");
-    line(EIGHT, "40 4D 00 40 55", "40 50 12");
-    line(EIGHT, "40 4D FF C0 55", "40 50 12");
-    line(EIGHT, "40 4D 00 C7 54", "40 50 0F");
-    line(EIGHT, "40 4D 00 C7 55", "40 4D 00 C7");
-    line(EIGHT, "40 4D 01 C0 55", "40 50 10");
-    line(EIGHT, "40 4D 00 C1 55", "40 4D 00 C1");
-    line(EIGHT, "40 4E", "40 4E 06 01");
-    line(EIGHT, "40 4D 01 C6 55", "40 50 10");
-    line(EIGHT, "40 4D 01 C5 55", "40 4D 01 C5");
-    line(EIGHT, "40 4D 00 C0 55", "40 50 10");
-    line(EIGHT, "40 4D 00 00 55", "40 50 10");
-    line(EIGHT, "40 4D 00 89 55", "40 4D 00 89");
-    line(EIGHT, "40 4C 00", "40 4C 00 89");
-    line(EIGHT, "40 4B 00 00 01 54 AA", "40 50 0F");
-    line(EIGHT, "40 4B 00 00 01 55 AA", "40 50 0E");
-    line(EIGHT, "40 4B 01 5E 02 00 AA BB", "40 4B 01 5E 02");
-    line(EIGHT, "40 4B 01 5F 02 00 AA BB", "40 50 11");
-    line(EIGHT, "40 4A 01 5D 03 00", "40 4A 01 5D 03 00 AA BB");
-    line(EIGHT, "40 4A 01 FF 80 00", "40 50 11");
-    line(EIGHT, "40 4A 01 00 00 00", "40 50 0D");
-    line(EIGHT, "40 4A 01 00 81 00", "40 50 0D");
-    line(EIGHT, "40 4A 00 00 00 54", "40 50 0F");
-    line(EIGHT, "40 4A 02 00 01 55", "40 50 12");
-    line(EIGHT, "40 4D 01 7F 55", "40 4D 01 7F");
-    line(EIGHT, "40 4E", "40 4E 06 01");
-    line(EIGHT, "40 4D 01 C3 55", "40 4D 01 C3");
-    line(EIGHT, "40 4D 01 C6 55", "40 50 10");
-    line(EIGHT, "40 4D 01 C5 55", "40 4D 01 C5");
-    line(EIGHT, "40 4D 01 C6 55", "40 50 10");
+/* What is done with a board, line by line: a request and its reply, or a call of the host that returns 0: "fault 22", "measured FF000005", "power-on". */
+struct line {
+    const char *said, *reply;
+};
+
+enum { LINES = 36 };
+
+/* A fresh board but for what is set in its image; what image and memory hold after the lines. */
+struct trial {
+    const char *name;
+    const struct plate *plate;
+    struct bytes set[2];
+    struct line lines[LINES];
+    struct bytes left, stored;
+};
+
+static const struct trial TRIALS[] = {
+    /* 01, "counter + 1; from FFFFFFh it goes to 0 and 08h is queued". */
+    {.name = "bench sheet: the counter at FFFFFFh", .plate = &SHEET, .set = {{QS_IMAGE_COUNTER, 3, {0xFF, 0xFF, 0xFF}}},
+     .lines = {{"40 47", "40 C7"}, {"40 50", "40 50 08"}}},
+    {.name = "the counter at FFFFFFh is read, steps to 0 and warns", .plate = &SHEET, .set = {{QS_IMAGE_COUNTER, 3, {0xFF, 0xFF, 0xFF}}},
+     .lines = {{"40 46", "40 46 FF FF FF"}, {"40 47", "40 C7"}, {"40 46", "40 C6 00 00 00"}, {"40 4E", "40 CE 70 00"}, {"40 50", "40 50 08"},
+               {"40 50", "40 50 00"}}},
+    {.name = "the counter from 0", .plate = &SHEET,
+     .lines = {{"40 46", "40 46 00 00 00"}, {"40 47", "40 47"}, {"40 46", "40 46 00 00 01"}, {"40 49 54", "40 50 0F"}, {"40 49 55", "40 49"},
+               {"40 46", "40 46 00 00 00"}}},
+    {.name = "the counter a step below FFFFFFh", .plate = &SHEET, .set = {{QS_IMAGE_COUNTER, 3, {0xFE, 0xFF, 0xFF}}},
+     .lines = {{"40 47", "40 47"}, {"40 46", "40 46 FF FF FF"}, {"40 49 54", "40 50 0F"}, {"40 49 55", "40 49"}, {"40 46", "40 46 00 00 00"}}},
+    /* 01, "one already waiting, or a fifth, is dropped". */
+    {.name = "the counter at FFFFFFh, four codes wait: 08h is dropped", .plate = &SHEET,
+     .set = {{QS_IMAGE_COUNTER, 3, {0xFF, 0xFF, 0xFF}}, {QS_IMAGE_WAITING, 4, {1, 2, 3, 4}}},
+     .lines = {{"40 47", "40 C7"}, {"40 46", "40 C6 00 00 00"}, {"40 50", "40 D0 01"}, {"40 50", "40 D0 02"}, {"40 50", "40 D0 03"}, {"40 50", "40 50 04"},
+               {"40 50", "40 50 00"}}},
+    {.name = "the counter at FFFFFFh, 08h waits: it keeps its place", .plate = &SHEET,
+     .set = {{QS_IMAGE_COUNTER, 3, {0xFF, 0xFF, 0xFF}}, {QS_IMAGE_WAITING, 2, {8, 5}}},
+     .lines = {{"fault 00", ""}, {"40 47", "40 C7"}, {"40 44", "40 D0 0B"}, {"40 50", "40 D0 08"}, {"40 50", "40 50 05"}, {"40 50", "40 50 00"}}},
+    {.name = "the counter at FFFFFFh, four codes wait, 08h last", .plate = &SHEET,
+     .set = {{QS_IMAGE_COUNTER, 3, {0xFF, 0xFF, 0xFF}}, {QS_IMAGE_WAITING, 4, {1, 2, 3, 8}}},
+     .lines = {{"40 47", "40 C7"}, {"40 50", "40 D0 01"}, {"40 50", "40 D0 02"}, {"40 50", "40 D0 03"}, {"40 50", "40 50 08"}, {"40 50", "40 50 00"}}},
+    {.name = "codes that wait are read in their order", .plate = &SHEET, .set = {{QS_IMAGE_WAITING, 4, {9, 3, 7, 1}}},
+     .lines = {{"40 50", "40 D0 09"}, {"fault 09", ""}, {"fault 03", ""}, {"40 50", "40 D0 03"}, {"40 50", "40 D0 07"}},
+     .left = {QS_IMAGE_WAITING, 4, {1, 9, 0, 0}}},
+    {.name = "four codes wait, a fifth is dropped, 22h locks", .plate = &SHEET,
+     .lines = {{"fault 00", ""}, {"fault 31", ""}, {"fault 32", ""}, {"fault 31", ""}, {"fault 33", ""}, {"fault 34", ""}, {"fault 35", ""}, {"fault 22", ""},
+               {"40 42", "40 D0 02"}, {"40 43 00 00 00 02 54", "40 D0 02"}},
+     .left = {QS_IMAGE_WAITING, 5, {0x31, 0x32, 0x33, 0x34, 1}}},
+    {.name = "53h empties the queue and leaves the lock", .plate = &SHEET, .set = {{QS_IMAGE_WAITING, 5, {0x31, 0x32, 0x33, 0x34, 1}}},
+     .lines = {{"40 50", "40 D0 31"}, {"40 53", ""}, {"40 42", "40 50 02"}, {"40 53 00", "40 50 0C"}}, .left = {QS_IMAGE_WAITING, 5, {0, 0, 0, 0, 1}}},
+    {.name = "power-on unlocks; offset is reduced, measured kept as given", .plate = &SHEET, .set = {{QS_IMAGE_LOCKED, 1, {1}}},
+     .lines = {{"40 42", "40 50 02"}, {"power-on", ""}, {"measured FF000005", ""}, {"40 42", "40 42 00 00 00 05"}, {"40 43 00 00 00 02 54", "40 50 0F"},
+               {"40 43 01 00 00 00 55", "40 50 0D"}, {"40 43 00 00 00 02 55", "40 43"}, {"40 42", "40 42 00 00 00 02"}},
+     .left = {QS_IMAGE_OFFSET, 8, {0xFD, 0xFF, 0xFF, 0, 5, 0, 0, 0xFF}}},
+    {.name = "codes", .plate = &SHEET,
+     .lines = {{"40 4F 04 55 66", "40 50 0D"}, {"40 4F 03 54 66", "40 50 0F"}, {"40 4F 03 55 66", "40 4F 03"}, {"40 4D 00 F0 55", "40 50 0F"},
+               {"40 4D 00 F0 66", "40 4D 00 F0"}, {"40 4D 00 C0 55", "40 50 0F"}, {"40 4D 00 C0 66", "40 4D 00 C0"}, {"40 4F 00 55 77", "40 4F 00"},
+               {"40 49 55", "40 50 0F"}, {"40 49 77", "40 49"}, {"40 43 00 00 00 02 55", "40 50 0F"}, {"40 43 00 00 00 02 77", "40 43"}},
+     .left = {QS_IMAGE_CODES, 4, {0x77, 0x55, 0x55, 0x66}}},
+    {.name = "fields", .plate = &EIGHT,
+     .lines = {{"40 4E", "40 4E 08 00"}, {"40 4C 00", "40 50 12"}, {"40 4D 01 C0 55", "40 50 12"}, {"40 4D 00 40 55", "40 50 12"},
+               {"40 4D FF C0 55", "40 50 12"}, {"40 4D 00 C7 54", "40 50 0F"}, {"40 4D 00 C7 55", "40 4D 00 C7"}, {"40 4D 01 C0 55", "40 50 10"},
+               {"40 4D 00 C1 55", "40 4D 00 C1"}, {"40 4E", "40 4E 06 01"}, {"40 4D 01 C6 55", "40 50 10"}, {"40 4D 01 C5 55", "40 4D 01 C5"},
+               {"40 4D 00 C0 55", "40 50 10"},
+               {"40 4D 00 00 55", "40 50 10"}, {"40 4D 00 89 55", "40 4D 00 89"}, {"40 4C 00", "40 4C 00 89"}, {"40 4B 00 00 01 54 AA", "40 50 0F"},
+               {"40 4B 00 00 01 55 AA", "40 50 0E"}, {"40 4B 01 5E 02 00 AA BB", "40 4B 01 5E 02"}, {"40 4B 01 5F 02 00 AA BB", "40 50 11"},
+               {"40 4A 01 5D 03 00", "40 4A 01 5D 03 00 AA BB"}, {"40 4A 01 FF 80 00", "40 50 11"}, {"40 4A 01 00 00 00", "40 50 0D"},
+               {"40 4A 01 00 81 00", "40 50 0D"}, {"40 4A 00 00 00 54", "40 50 0F"}, {"40 4A 02 00 01 55", "40 50 12"}, {"40 4D 01 7F 55", "40 4D 01 7F"},
+               {"40 4E", "40 4E 06 01"}, {"40 4D 01 C3 55", "40 4D 01 C3"}, {"40 4D 01 C6 55", "40 50 10"}, {"40 4D 01 C5 55", "40 4D 01 C5"},
+               {"40 4D 01 C6 55", "40 50 10"}}},
+    {.name = "002's example: field 1 lies behind the two blocks of field 0", .plate = &EIGHT,
+     .lines = {{"40 4E", "40 4E 08 00"}, {"40 4D 00 C9 55", "40 4D 00 C9"}, {"40 4D 01 E0 55", "40 4D 01 E0"}, {"40 4F 02 55 66", "40 4F 02"},
+               {"40 4B 01 05 02 66 08 15", "40 4B 01 05 02"}},
+     .stored = {0x20, 16, {0, 0, 0, 0, 0, 8, 0x15}}},
+    {.name = "a store over a block's end", .plate = &EIGHT, .lines = {{"40 4D 00 C1 55", "40 4D 00 C1"}, {"40 4B 00 0F 02 55 01 02", "40 4B 00 0F 02"}},
+     .stored = {0x0E, 4, {0, 1, 2, 0}}},
+    {.name = "T = 1", .plate = &ONE_BLOCK,
+     .lines = {{"40 4D 00 C1 55", "40 50 10"}, {"40 4D 00 C0 55", "40 4D 00 C0"}, {"40 4D 01 C0 55", "40 50 10"}, {"40 4E", "40 4E 00 01"},
+               {"40 4A 00 0F 01 00", "40 4A 00 0F 01 00"}}},
+    {.name = "address 31", .plate = &LAST_ADDRESS,
+     .lines = {{"5F 4E", "5F 4E 70 00"}, {"FF 4E", "5F 4E 70 00"}, {"40 4E", ""}, {"7F 4E", ""}, {"DF 4E", ""}, {"5F C2", "5F 50 0B"}, {"5F 44", "5F 50 0B"},
+               {"5F 42 00", "5F 50 0C"}, {"5F 4B 00 00", "5F 50 0C"}, {"5F 4B 00 00 02 55 AA", "5F 50 0C"}, {"5F 4B 00 00 00 55", "5F 50 0C"}}},
+};
+
+/* One line of a trial. */
+static void works(struct plate p, struct line l, const char *name) {
+    unsigned number;
+    if (sscanf(l.said, "fault %x", &number) == 1)
+        check(fault_with(p, right(p), (uint8_t)number) == 0, name, number);
+    else if (sscanf(l.said, "measured %x", &number) == 1)
+        check(measured_with(p, right(p), number) == 0, name, number);
+    else if (strcmp(l.said, "power-on") == 0)
+        check(power_on_with(p, right(p)) == 0, name, 0);
+    else
+        asks(p, l.said, l.reply, name);
 }
 
-static void test_codes_and_counter(void) {
-    start(SHEET);
-    line(SHEET, "40 4F 04 55 66", "40 50 0D");
-    line(SHEET, "40 4F 03 54 66", "40 50 0F");
-    line(SHEET, "40 4F 03 55 66", "40 4F 03");
-    line(SHEET, "40 4D 00 F0 55", "40 50 0F");
-    line(SHEET, "40 4D 00 F0 66", "40 4D 00 F0");
-    line(SHEET, "40 4D 00 C0 55", "40 50 0F");
-    line(SHEET, "40 4D 00 C0 66", "40 4D 00 C0");
-    line(SHEET, "40 46", "40 46 00 00 00");
-    line(SHEET, "40 47", "40 47");
-    line(SHEET, "40 46", "40 46 00 00 01");
-    line(SHEET, "40 49 54", "40 50 0F");
-    line(SHEET, "40 49 55", "40 49");
-    line(SHEET, "40 46", "40 46 00 00 00");
-    line(SHEET, "40 4F 00 55 77", "40 4F 00");
-    line(SHEET, "40 49 55", "40 50 0F");
-    line(SHEET, "40 49 77", "40 49");
-    line(SHEET, "40 43 00 00 00 02 55", "40 50 0F");
-    line(SHEET, "40 43 00 00 00 02 77", "40 43");
-    memset(lent.image + QS_IMAGE_COUNTER, 0xFF, 3);
-    line(SHEET, "40 46", "40 46 FF FF FF");
-    line(SHEET, "40 47", "40 C7");
-    line(SHEET, "40 4E", "40 CE 6F 01");
-    line(SHEET, "40 50", "40 50 08");
-    line(SHEET, "40 50", "40 50 00");
-}
-
-static void test_faults_and_position(void) {
-    start(SHEET);
-    const uint8_t noted[] = {0x00, 0x31, 0x32, 0x31, 0x33, 0x34, 0x35, 0x22};
-    for (size_t i = 0; i < sizeof noted; i++)
-        check(fault_with(SHEET, right(SHEET), noted[i]) == 0, "a fault is noted", i);
-    check(memcmp(lent.image + QS_IMAGE_WAITING, "\x31\x32\x33\x34\x01", 5) == 0, "four wait, and the position is locked", 0);
-    line(SHEET, "40 42", "40 D0 02");
-    line(SHEET, "40 43 00 00 00 02 54", "40 D0 02");
-    line(SHEET, "40 50", "40 D0 31");
-    check(memcmp(lent.image + QS_IMAGE_WAITING, "\x32\x33\x34\x00", 4) == 0, "a free place is 00h", 0);
-    line(SHEET, "40 53", "");
-    line(SHEET, "40 42", "40 50 02");
-    line(SHEET, "40 53 00", "40 50 0C");
-    check(power_on_with(SHEET, right(SHEET)) == 0, "power-on", 0);
-    check(measured_with(SHEET, right(SHEET), 0xFF000005) == 0, "measured", 0);
-    line(SHEET, "40 42", "40 42 00 00 00 05");
-    line(SHEET, "40 43 00 00 00 02 54", "40 50 0F");
-    line(SHEET, "40 43 01 00 00 00 55", "40 50 0D");
-    line(SHEET, "40 43 00 00 00 02 55", "40 43");
-    line(SHEET, "40 42", "40 42 00 00 00 02");
-    check(memcmp(lent.image + QS_IMAGE_OFFSET, "\xFD\xFF\xFF\x00\x05\x00\x00\xFF", 8) == 0, "offset is reduced, measured kept as given", 0);
-}
-
-static void test_addresses(void) {
-    struct plate p = with_number(SHEET, 2, 31);
-    start(p);
-    line(p, "5F 4E", "5F 4E 70 00");
-    line(p, "FF 4E", "5F 4E 70 00");
-    line(p, "40 4E", "");
-    line(p, "7F 4E", "");
-    line(p, "DF 4E", "");
-    line(p, "5F C2", "5F 50 0B");
-    line(p, "5F 44", "5F 50 0B");
-    line(p, "5F 42 00", "5F 50 0C");
-    line(p, "5F 4B 00 00", "5F 50 0C");
-    line(p, "5F 4B 00 00 02 55 AA", "5F 50 0C");
-    line(p, "5F 4B 00 00 00 55", "5F 50 0C");
+static void test_trials(void) {
+    for (size_t i = 0; i < COUNT(TRIALS); i++) {
+        const struct trial *t = &TRIALS[i];
+        start(*t->plate);
+        for (size_t j = 0; j < COUNT(t->set); j++)
+            set(lent.image, t->set[j]);
+        for (size_t j = 0; j < LINES && t->lines[j].said != NULL; j++)
+            works(*t->plate, t->lines[j], t->name);
+        if (t->left.size > 0)
+            check(holds(lent.image, t->left), t->name, t->left.place);
+        if (t->stored.size > 0)
+            check(holds(lent.memory, t->stored), t->name, t->stored.place);
+    }
 }
 
 /* Every front part of the longest store: silence under 3 bytes, else a wrong checksum or a wrong length; memory stays as it was. */
@@ -454,7 +568,7 @@ static void test_cut_frames(void) {
         frame[i] = (uint8_t)(i * 7);
     frame[QS_REQUEST_ROOM - 1] = xor_of(frame, QS_REQUEST_ROOM - 1);
     start(EIGHT);
-    line(EIGHT, "40 4D 00 C7 55", "40 4D 00 C7");
+    asks(EIGHT, "40 4D 00 C7 55", "40 4D 00 C7", "a field for the longest store");
     static uint8_t blank[QS_MEMORY_LENGTH(8)];
     memcpy(blank, lent.memory, sizeof blank);
     for (size_t n = 1; n < QS_REQUEST_ROOM; n++) {
@@ -471,7 +585,7 @@ static void test_long_frames(void) {
     static uint8_t frame[65540];
     static const size_t sizes[] = {QS_KEPT_BYTES, QS_KEPT_BYTES + 1, 256, 258, 259, 65538, 65539};
     start(SHEET);
-    for (size_t i = 0; i < sizeof sizes / sizeof *sizes; i++) {
+    for (size_t i = 0; i < COUNT(sizes); i++) {
         size_t n = sizes[i];
         memset(frame, 0, n);
         memcpy(frame, "\x40\x44", 2);
@@ -508,7 +622,7 @@ static void closes_at(uint32_t last, uint32_t tick, bool closes) {
 
 static void test_gaps(void) {
     static const uint32_t ends[] = {1000, 2, 1, 0, UINT32_MAX, UINT32_MAX - 100, UINT32_MAX / 2};
-    for (size_t i = 0; i < sizeof ends / sizeof *ends; i++) {
+    for (size_t i = 0; i < COUNT(ends); i++) {
         closes_at(ends[i], ends[i], false);
         closes_at(ends[i], ends[i] + 1, false);
         closes_at(ends[i], ends[i] + 219, false);
@@ -566,7 +680,7 @@ static void test_states_that_never_arise(void) {
         uint8_t longer, sum, kept;
         const char *reply;
     } cases[] = {{0, 0, 0, ""}, {1, 7, 2, ""}, {1, 0, 3, "40 50 0C"}, {1, 9, 3, "40 50 0A"}, {0, 9, 3, "40 50 0A"}, {0, 0, 3, "40 4E 70 00"}};
-    for (size_t i = 0; i < sizeof cases / sizeof *cases; i++) {
+    for (size_t i = 0; i < COUNT(cases); i++) {
         uint8_t expected[QS_REPLY_ROOM + 1];
         size_t n = sealed(cases[i].reply, expected);
         start(SHEET);
@@ -585,22 +699,59 @@ static void test_states_that_never_arise(void) {
 
 /* ---- lent memory that is not blank ---------------------------------------------------------------------------------------------------------------------- */
 
+/* 01, "03h": before 12h and all else. The first places of the status table, the rest 00h. */
+static const struct {
+    const char *name;
+    uint8_t table[8];
+} UNSOUND[] = {
+    {"a field behind a place that is 00h", {0, 0x80}},
+    {"a field behind a field and a place that is 00h", {0x80, 0, 0x80}},
+    {"a status other than 00h whose bit 7 is clear", {0x01}},
+    {"bit 7 clear, write-enabled", {0x40}},
+    {"bit 7 clear behind a field", {0x80, 0x7F}},
+    {"bit 7 clear behind all blocks", {0x83, 0x82, 0x80, 0x01}},
+    {"bit 7 clear at the last place", {0, 0, 0, 0, 0, 0, 0, 1}},
+    {"nine blocks of eight", {0x87, 0x80}},
+    {"nine blocks of eight, write-enabled", {0xC7, 0x80}},
+    {"sixteen blocks of eight", {0x87, 0x87}},
+};
+
+static const struct line UNSOUND_LINES[] = {
+    {"40 4A 00 00 01 55", "40 50 03"}, {"40 4A 09 00 00 00", "40 50 03"}, {"40 4B 00 00 01 55 AA", "40 50 03"}, {"40 4B 09 00 01 00 00", "40 50 03"},
+    {"40 4C 00", "40 50 03"},          {"40 4C 09", "40 50 03"},          {"40 4D 00 C0 55", "40 50 03"},       {"40 4D 09 00 00", "40 50 03"},
+    {"40 4E", "40 50 03"},             {"40 46", "40 46 00 00 00"},
+};
+
 static void test_unsound_tables(void) {
-    static const uint8_t tables[][8] = {
-        {0x40}, {0x80, 0, 0x80}, {0, 0x80}, {0xC7, 0x80}, {0x87, 0x87}, {0, 0, 0, 0, 0, 0, 0, 1}, {0x83, 0x82, 0x80, 0x01}, {0x80, 0x7F},
-    };
-    static const char *const requests[] = {"40 4A 00 00 01 55", "40 4B 00 00 01 55 AA", "40 4C 00", "40 4D 00 C0 55", "40 4E"};
-    for (size_t i = 0; i < sizeof tables / sizeof *tables; i++) {
+    for (size_t i = 0; i < COUNT(UNSOUND); i++) {
         start(EIGHT);
         memset(lent.memory, 0xDD, 8 * QS_BLOCK);
-        memcpy(lent.memory + 8 * QS_BLOCK, tables[i], 8);
+        memcpy(lent.memory + 8 * QS_BLOCK, UNSOUND[i].table, 8);
         struct lent whole = lent;
-        for (size_t j = 0; j < sizeof requests / sizeof *requests; j++)
-            line(EIGHT, requests[j], "40 50 03");
-        line(EIGHT, "40 46", "40 46 00 00 00");
-        check(memcmp(whole.memory, lent.memory, sizeof lent.memory) == 0, "an unsound memory is left as it was", i);
+        for (size_t j = 0; j < COUNT(UNSOUND_LINES); j++)
+            works(EIGHT, UNSOUND_LINES[j], UNSOUND[i].name);
+        check(memcmp(whole.memory, lent.memory, sizeof lent.memory) == 0, UNSOUND[i].name, i);
     }
 }
+
+/* 01, "Blocks granted and blocks given back are set to 00h; kept bytes stay": a memory of DDh. Before each line the field's blocks are filled with a byte;
+ * then the byte that each of the eight blocks is full of. */
+static const struct {
+    const char *name;
+    size_t filled;
+    uint8_t with;
+    struct line line;
+    uint8_t blocks[8];
+} DIRTY[] = {
+    {"a grant clears its blocks alone", 0, 0, {"40 4D 00 C1 55", "40 4D 00 C1"}, {0, 0, 0xDD, 0xDD, 0xDD, 0xDD, 0xDD, 0xDD}},
+    {"growth clears what it adds", 2, 0x11, {"40 4D 00 C3 55", "40 4D 00 C3"}, {0x11, 0x11, 0, 0, 0xDD, 0xDD, 0xDD, 0xDD}},
+    {"a cut clears what it gives back", 4, 0x22, {"40 4D 00 C2 55", "40 4D 00 C2"}, {0x22, 0x22, 0x22, 0, 0xDD, 0xDD, 0xDD, 0xDD}},
+    {"a cut to one block", 3, 0x33, {"40 4D 00 C0 55", "40 4D 00 C0"}, {0x33, 0, 0, 0, 0xDD, 0xDD, 0xDD, 0xDD}},
+    {"a second field leaves the first", 1, 0x44, {"40 4D 01 C4 55", "40 4D 01 C4"}, {0x44, 0, 0, 0, 0, 0, 0xDD, 0xDD}},
+    {"a deletion clears the last field alone", 6, 0x55, {"40 4D 01 00 55", "40 4D 01 00"}, {0x55, 0, 0, 0, 0, 0, 0xDD, 0xDD}},
+    {"a deletion clears the only field", 1, 0x66, {"40 4D 00 00 55", "40 4D 00 00"}, {0, 0, 0, 0, 0, 0, 0xDD, 0xDD}},
+    {"eight blocks free, no field", 0, 0, {"40 4E", "40 4E 08 00"}, {0, 0, 0, 0, 0, 0, 0xDD, 0xDD}},
+};
 
 static bool all_are(const uint8_t *bytes, size_t n, uint8_t value) {
     for (size_t i = 0; i < n; i++)
@@ -609,40 +760,33 @@ static bool all_are(const uint8_t *bytes, size_t n, uint8_t value) {
     return true;
 }
 
-/* Granted and returned blocks become 00h, free ones that are not granted keep their bytes. */
 static void test_dirty_memory(void) {
     start(EIGHT);
     memset(lent.memory, 0xDD, 8 * QS_BLOCK);
-    line(EIGHT, "40 4D 00 C1 55", "40 4D 00 C1");
-    check(all_are(lent.memory, 32, 0) && all_are(lent.memory + 32, 96, 0xDD), "a grant clears its blocks alone", 0);
-    memset(lent.memory, 0x11, 32);
-    line(EIGHT, "40 4D 00 C3 55", "40 4D 00 C3");
-    check(all_are(lent.memory, 32, 0x11) && all_are(lent.memory + 32, 32, 0) && all_are(lent.memory + 64, 64, 0xDD), "growth clears what it adds", 0);
-    memset(lent.memory + 32, 0x22, 32);
-    line(EIGHT, "40 4D 00 C2 55", "40 4D 00 C2");
-    check(all_are(lent.memory + 32, 16, 0x22) && all_are(lent.memory + 48, 16, 0) && all_are(lent.memory + 64, 64, 0xDD), "a cut clears what it gives back", 0);
-    line(EIGHT, "40 4D 00 00 55", "40 4D 00 00");
-    check(all_are(lent.memory, 64, 0) && all_are(lent.memory + 64, 64, 0xDD), "a deletion clears the field", 0);
-    check(all_are(lent.memory + 128, 8, 0), "and its status", 0);
+    for (size_t i = 0; i < COUNT(DIRTY); i++) {
+        memset(lent.memory, DIRTY[i].with, DIRTY[i].filled * QS_BLOCK);
+        works(EIGHT, DIRTY[i].line, DIRTY[i].name);
+        for (size_t block = 0; block < 8; block++)
+            check(all_are(lent.memory + block * QS_BLOCK, QS_BLOCK, DIRTY[i].blocks[block]), DIRTY[i].name, block);
+    }
+    check(all_are(lent.memory + 8 * QS_BLOCK, 8, 0), "the status table is blank again", 0);
 }
 
-static void test_smallest_and_largest(void) {
-    struct plate one = with_number(SHEET, 0, 1);
-    start(one);
-    line(one, "40 4D 00 C1 55", "40 50 10");
-    line(one, "40 4D 00 C0 55", "40 4D 00 C0");
-    line(one, "40 4D 01 C0 55", "40 50 10");
-    line(one, "40 4E", "40 4E 00 01");
+/* 01, "total blocks T 112": a field for each block; then one too many, whose code is tested first, and the last field. */
+static void test_largest(void) {
+    static const struct line full[] = {
+        {"40 4E", "40 4E 00 70"},    {"40 4D 70 C0 55", "40 50 10"}, {"40 4D 70 C0 00", "40 50 0F"},
+        {"40 4C 6F", "40 4C 6F C0"}, {"40 4C 70", "40 50 12"},       {"40 4B 6F 0F 01 00 AB", "40 4B 6F 0F 01"},
+    };
     start(SHEET);
     for (unsigned i = 0; i < 112; i++) {
         char request[32], reply[32];
         snprintf(request, sizeof request, "40 4D %02X C0 55", i);
         snprintf(reply, sizeof reply, "40 4D %02X C0", i);
-        line(SHEET, request, reply);
+        asks(SHEET, request, reply, "T = 112");
     }
-    line(SHEET, "40 4E", "40 4E 00 70");
-    line(SHEET, "40 4D 70 C0 55", "40 50 10");
-    line(SHEET, "40 4B 6F 0F 01 00 AB", "40 4B 6F 0F 01");
+    for (size_t i = 0; i < COUNT(full); i++)
+        works(SHEET, full[i], "T = 112, all fields there");
     check(lent.memory[112 * QS_BLOCK - 1] == 0xAB, "the last byte of the last field", 0);
 }
 
@@ -654,7 +798,7 @@ static void request_is(uint32_t address, const char *command_and_data, size_t ro
     size_t expected_length = sealed(expected_text, expected);
     memset(&lent, GUARD_BYTE, sizeof lent);
     remember();
-    size_t result = qs_request(address, given[0], given + 1, n - 1, lent.room, room_length);
+    size_t result = request_with(address, given, n, room_length);
     check(result == (refusal != 0 ? refusal : expected_length), command_and_data, address);
     memcpy(before.room, expected, expected_length);
     check(as_it_was(), command_and_data, address);
@@ -665,7 +809,7 @@ static void test_requests(void) {
                                        "4C FF", "4D FF FF FF", "4E", "4F 03 55 66", "50", "53"};
     static const char *const bad[] = {"44", "C2", "00", "FF", "42 00", "43", "43 00 00 00 02", "49", "4A 00 00 00 55", "4A 00 00 81 55", "4A 00 00 01",
                                       "4B", "4B 00 00 00 55", "4B 00 00 02 55 AA", "4B 00 00 01 55", "4C", "4D 00 C0", "4F 04 55 66", "50 00", "53 00"};
-    for (size_t i = 0; i < sizeof good / sizeof *good; i++) {
+    for (size_t i = 0; i < COUNT(good); i++) {
         char expected[64];
         snprintf(expected, sizeof expected, "40 %s", good[i]);
         request_is(0, good[i], QS_REQUEST_ROOM, expected, 0);
@@ -678,20 +822,20 @@ static void test_requests(void) {
         request_is(256, good[i], QS_REQUEST_ROOM, "", QS_R5);
         request_is(UINT32_MAX, good[i], 0, "", QS_R4);
     }
-    for (size_t i = 0; i < sizeof bad / sizeof *bad; i++) {
+    for (size_t i = 0; i < COUNT(bad); i++) {
         request_is(0, bad[i], QS_REQUEST_ROOM, "", QS_R5);
         request_is(0, bad[i], 3, "", QS_R4);
     }
 }
 
 static void test_long_requests(void) {
-    static uint8_t data[300] = {0, 0, 128, 0x55};
+    static uint8_t asked[300] = {QS_STORE_DATA, 0, 0, 128, 0x55};
     memset(&lent, GUARD_BYTE, sizeof lent);
     remember();
-    for (size_t n = 0; n < sizeof data; n++) {
-        size_t result = qs_request(0, QS_STORE_DATA, data, n, lent.room, sizeof lent.room);
-        check(result == (n == 132 ? 135 : QS_R5), "4Bh wants 4 + count bytes", n);
-        if (n == 132)
+    for (size_t n = 1; n < sizeof asked; n++) {
+        size_t result = request_with(0, asked, n, sizeof lent.room);
+        check(result == (n == 133 ? 135 : QS_R5), "4Bh wants 4 + count bytes", n);
+        if (n == 133)
             lent = before;
         check(as_it_was(), "a refused request leaves the room", n);
     }
@@ -738,15 +882,15 @@ static const struct {
 };
 
 static void judged_as(const uint8_t *request, size_t request_length, const uint8_t *reply, size_t reply_length, uint32_t verdict, unsigned long number) {
-    check(qs_judge(request, request_length, reply, reply_length) == verdict, "verdict", number);
-    struct qs_piece piece = qs_data_part(request, request_length, reply, reply_length);
+    struct judgement found = judge(request, request_length, reply, reply_length);
     bool taken = verdict < QS_VERDICT_REFUSED;
-    check(piece.place == (taken ? 2u : 0u), "the piece's place", number);
-    check(piece.length == (taken ? reply_length - 3 : 0u), "the piece's length", number);
+    check(found.verdict == verdict, "verdict", number);
+    check(found.data.place == (taken ? 2u : 0u), "the piece's place", number);
+    check(found.data.length == (taken ? reply_length - 3 : 0u), "the piece's length", number);
 }
 
 static void test_verdicts(void) {
-    for (size_t i = 0; i < sizeof JUDGED / sizeof *JUDGED; i++) {
+    for (size_t i = 0; i < COUNT(JUDGED); i++) {
         uint8_t request[QS_REQUEST_ROOM], reply[QS_REPLY_ROOM];
         size_t asked = sealed(JUDGED[i].request, request);
         size_t replied = sealed(JUDGED[i].reply, reply);
@@ -769,11 +913,8 @@ int main(void) {
     test_good_plates();
     test_damaged_images();
     test_offset_limits();
-    test_lengths();
-    test_fields();
-    test_codes_and_counter();
-    test_faults_and_position();
-    test_addresses();
+    test_sizes();
+    test_trials();
     test_cut_frames();
     test_long_frames();
     test_gaps();
@@ -782,7 +923,7 @@ int main(void) {
     test_states_that_never_arise();
     test_unsound_tables();
     test_dirty_memory();
-    test_smallest_and_largest();
+    test_largest();
     test_requests();
     test_long_requests();
     test_verdicts();

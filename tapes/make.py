@@ -1,12 +1,18 @@
 #!/usr/bin/env python3
 """Writes the stored tapes of this folder: NAME.tape, and NAME.out, the text that the answer program must print of it.
 
-Each expected text is written here by hand from document 01 ("The answer program", "Frames on the bench sheet") and stands beside its reason; no
-program made it. Places are counted by hand too: a plate takes 9 bytes, a character 10, a poll and a measured position 8, a fault 5, a power-on 4."""
+Each expected text is written by hand from document 01 ("The answer program", "Frames on the bench sheet") and stands beside its reason, here or in the
+session's text; no program made it. Places are counted by hand too: a plate takes 9 bytes, a character 10, a poll and a measured position 8, a fault 5,
+a power-on 4."""
 import pathlib
 import struct
+import sys
 
 HERE = pathlib.Path(__file__).resolve().parent
+TOOLS = HERE.parent / "tools"
+sys.path.append(str(TOOLS))
+from tape import TextError, answers_to_come, tape_of  # noqa: E402
+
 FIRST = "tick reply\n"
 
 
@@ -117,6 +123,16 @@ tape("lone_last_byte", "one byte of a length", plate() + b"\x06", "bad 9\n")
 tape("parity_of_2", "the parity byte is 0 or 1", plate() + character(0, 0x40, 2), "bad 9\n")
 tape("parity_of_255", "the frame before it is closed by the poll, not by the bad record", DOCUMENT + character(400, 0x40, 255), "308 40 4E 70 00 7E\nbad 47\n")
 tape("bad_closes_nothing", "a bad record long after the last character closes no frame", plate() + frame(0, "40 4E 0E") + character(100000, 0x40, 2), "bad 39\n")
+
+
+# ---- the sessions: each text of tools/sessions, which names its replies
+
+for path in sorted(TOOLS.glob("sessions/*.txt")):
+    session = path.read_text(encoding="utf-8")
+    try:
+        tape(path.stem, "it stands in the text", tape_of(session), answers_to_come(session)[len(FIRST):])
+    except TextError as error:
+        sys.exit(f"{path.name}: {error}")
 
 
 def main():

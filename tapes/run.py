@@ -1,6 +1,6 @@
 #!/usr/bin/env python3
 """run.py PROGRAM: runs an answer program on every stored tape of this folder and compares what it prints. Ends with status 1 on any difference,
-also where a stored file is not what make.py says, or none is stored."""
+also where a stored file is not what make.py or the session's text says, or none is stored."""
 import pathlib
 import subprocess
 import sys
@@ -9,6 +9,8 @@ from make import HERE, TAPES
 
 
 def main():
+    if len(sys.argv) != 2 or not pathlib.Path(sys.argv[1]).is_file():
+        sys.exit("run.py PROGRAM: no such answer program")
     program = pathlib.Path(sys.argv[1]).resolve()
     wrong = 0
     stored = {p.stem for p in HERE.glob("*.tape")} | {p.stem for p in HERE.glob("*.out")}
@@ -20,8 +22,8 @@ def main():
         if not tape.is_file() or tape.read_bytes() != data or not out.is_file() or out.read_text() != text:
             print(f"tapes: {name} is not stored as make.py writes it")
             wrong += 1
-        with tape.open("rb") as source:
-            got = subprocess.run([str(program)], stdin=source, stdout=subprocess.PIPE, timeout=60)
+            continue
+        got = subprocess.run([str(program)], input=data, stdout=subprocess.PIPE, timeout=60)
         if got.returncode != 0 or got.stdout != text.encode():
             print(f"tapes: {name}: status {got.returncode}, printed {got.stdout!r}, wanted {text!r}")
             wrong += 1

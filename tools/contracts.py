@@ -16,8 +16,6 @@ import sys
 ROOT = os.path.dirname(os.path.dirname(os.path.abspath(__file__)))
 TABLE = os.path.join(ROOT, "docs", "CONTRACTS.md")
 IMPL = re.compile(r"^impl (\w+) \{")
-# What only the test programs call: it prints, and is run and compared.
-TEST_LIBRARIES = ["script", "desk", "trial", "verdicts"]
 FUNCTION = re.compile(r"^(\s*)pub (extern \"C\" )?fn (\w+)")
 PASSED_ON = re.compile(r"^pub use (\w+)::(\w+);")
 LAW = re.compile(r"^\s*(?:pub )?([a-z0-9-]+)(?: \{\S+\})? :", re.M)
@@ -25,12 +23,11 @@ CITED = re.compile(r"[a-z0-9]+(?:[-_][a-z0-9]+)+")
 OPEN_MODULE = re.compile(r"^pub mod (\w+);")
 
 
-def libraries():
-    """The crates that crates.txt lists and that are libraries."""
+def crates(root):
+    """The crates that crates.txt lists and whose root is this module: lib for a library, main for a program."""
     with open(os.path.join(ROOT, "crates.txt"), encoding="utf-8") as file:
         names = [line.split(":")[0].strip() for line in file if ":" in line.split("#")[0]]
-    libraries = [name for name in names if os.path.exists(os.path.join(ROOT, "crates", name, "src", "lib.rt"))]
-    return [name for name in libraries if name not in TEST_LIBRARIES]
+    return [name for name in names if os.path.exists(os.path.join(ROOT, "crates", name, "src", root + ".rt"))]
 
 
 def lines_of(crate, module):
@@ -76,6 +73,11 @@ def public_functions(crate):
                 yield "::".join(part for part in (prefix, owner, name) if part)
 
 
+def handed_out(program):
+    """What a program calls public, though nobody can call it."""
+    return [program + "::" + name for module in modules_of(program) for _, name, _ in functions_in(program, module)]
+
+
 def rows():
     with open(TABLE, encoding="utf-8") as file:
         return [line.split("`")[1] for line in file if line.startswith("| `")]
@@ -103,13 +105,14 @@ def missing_citations():
 
 
 def main():
-    found = [name for crate in libraries() for name in public_functions(crate)]
+    found = [name for crate in crates("lib") for name in public_functions(crate)]
     if "--list" in sys.argv:
         print("\n".join(found))
         return
     told = rows()
     wrong = ["no row for " + name for name in found if name not in told]
     wrong += ["a row for what is not there: " + name for name in told if name not in found]
+    wrong += ["a public function of a program: " + name for crate in crates("main") for name in handed_out(crate)]
     wrong += ["two rows for " + name for name in sorted(set(told)) if told.count(name) > 1]
     wrong += ["it cites %s, which is not there" % name for name in missing_citations()]
     if wrong:

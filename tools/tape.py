@@ -10,6 +10,7 @@ A text has one event a line; what follows # is a comment. The plate comes first 
     frame at 0 every 44: 40 4E 0E     characters, stamped 0, 44 and 88
     frame: 40 4E sum                  as soon as the line is free; sum is the checksum so far
     frame: 40 4B 00 00 03 55 "ABC" sum
+    frame: 40 44 00*133 sum           a byte so many times
     character at 352: 40 parity       one character, here with a parity fault
     poll 308                          a poll at that tick
     poll                              a poll when the open frame's pause is over
@@ -21,19 +22,23 @@ A text has one event a line; what follows # is a comment. The plate comes first 
 Bytes are two hex digits or text in quotation marks, other numbers decimal or 0x...
 Left out, `every` is a character's eleven bits. Left out, `at` is one pause after the last
 character, or one character after a poll that came later; 0 on an idle line.
-`tape.py read` prints all of this but `sum` and quoted text; writing its text gives the tape
+`tape.py read` prints all of this but `sum`, `*` and quoted text; writing its text gives the tape
 back byte for byte. What follows the first bad record is printed as raw bytes, with the reason.
+
+A comment `# reply 40 4E 70 00 7E` behind an event names the reply that its first character, or
+the poll, is to bring. Every text of tools/sessions names all of its replies so.
 """
 
 import re
 import sys
 from functools import reduce
 from operator import xor
-from typing import List, NamedTuple, Optional, Tuple, Union
+from typing import Iterator, List, NamedTuple, Optional, Tuple, Union
 
 TICKS = 1 << 32
 CHARACTER_BITS = 11
 RAW_BYTES_A_LINE = 32
+MOST_TIMES = 100_000
 
 
 class Plate(NamedTuple):
@@ -277,7 +282,8 @@ MEASURED_LINE = re.compile(rf"measured\s+{NUMBER}")
 FAULT_LINE = re.compile(r"fault\s+([0-9a-fA-F]{2})")
 POWER_ON_LINE = re.compile(r"power-on")
 RAW_LINE = re.compile(r"raw\s*:\s*(.*)")
-BYTE_WORD = re.compile(r'\s*(?:([0-9a-fA-F]{2})(?=\s|$)|"([^"]*)"(?=\s|$)|(sum)(?=\s|$))')
+BYTE_WORD = re.compile(r'\s*(?:([0-9a-fA-F]{2})(?:\*(\d+))?(?=\s|$)|"([^"]*)"(?=\s|$)|(sum)(?=\s|$))')
+REPLY_WORD = "reply "
 
 SHAPES = {
     "plate": "plate total T bits P address A ticks N pause N",
@@ -291,15 +297,15 @@ SHAPES = {
 }
 
 
-def without_comment(line: str) -> str:
-    """The line up to its first # that stands outside quotation marks."""
+def event_and_comment(line: str) -> Tuple[str, str]:
+    """The line up to its first # that stands outside quotation marks, and what is behind it."""
     quoted = False
     for place, letter in enumerate(line):
         if letter == '"':
             quoted = not quoted
         if letter == "#" and not quoted:
-            return line[:place].strip()
-    return line.strip()
+            return line[:place].strip(), line[place + 1 :].strip()
+    return line.strip(), ""
 
 
 class Writer:
@@ -334,9 +340,9 @@ class Writer:
         return bytes(found)
 
     def one_word(self, word, before: bytearray) -> bytes:
-        pair, quoted, total = word.groups()
+        pair, times, quoted, total = word.groups()
         if pair:
-            return bytes.fromhex(pair)
+            return bytes.fromhex(pair) * self.number(times or "1", MOST_TIMES + 1, "a byte's number of times")
         if total:
             return bytes([xor_of(before)])
         if not quoted.isascii():
@@ -430,15 +436,42 @@ LINES = {
 }
 
 
-def tape_of(text: str) -> bytes:
-    """The tape that a text says; TextError for a line that says no event."""
+class Piece(NamedTuple):
+    """What one line adds to the tape, and its comment."""
+
+    line: int
+    tape: bytes
+    comment: str
+
+
+def pieces_of(text: str) -> Iterator[Piece]:
+    """The lines that say an event, one after the other; TextError for one that says none."""
     writer = Writer()
     for number, line in enumerate(text.splitlines(), start=1):
         writer.line = number
-        event = without_comment(line)
+        event, comment = event_and_comment(line)
         if event:
+            start = len(writer.tape)
             writer.put_line(event)
-    return bytes(writer.tape)
+            yield Piece(number, bytes(writer.tape[start:]), comment)
+
+
+def tape_of(text: str) -> bytes:
+    """The tape that a text says."""
+    return b"".join(piece.tape for piece in pieces_of(text))
+
+
+def answers_to_come(text: str) -> str:
+    """What an answer program is to print of a text that names every reply (01, "The answer program")."""
+    answers = ["tick reply"]
+    for piece in pieces_of(text):
+        if not piece.comment.startswith(REPLY_WORD):
+            continue
+        record, _, _ = decode(piece.tape, 0)
+        if not isinstance(record, (Character, Poll)):
+            raise TextError(piece.line, "only a character or a poll brings a reply")
+        answers.append(f"{record.tick} {piece.comment[len(REPLY_WORD):].strip()}")
+    return "".join(answer + "\n" for answer in answers)
 
 
 def main(arguments: List[str]) -> int:

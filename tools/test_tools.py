@@ -7,7 +7,6 @@
 
 import os
 import random
-import re
 import subprocess
 import sys
 
@@ -15,7 +14,7 @@ import explain
 import tape
 
 HERE = os.path.dirname(os.path.abspath(__file__))
-SESSIONS = ("example-002", "pallet-night")
+SESSIONS = sorted(name[:-4] for name in os.listdir(os.path.join(HERE, "sessions")) if name.endswith(".txt"))
 
 SHEET_TAPE = bytes.fromhex(
     "07 00 01 00 70 18 00 04 37 08 00 02 00 00 00 00 00 40 00 08 00 02 00 2C 00 00 00 4E 00"
@@ -29,18 +28,6 @@ def session(name):
     with open(os.path.join(HERE, "sessions", name + ".txt"), encoding="utf-8") as file:
         return file.read()
 
-
-def replies_to_come(text):
-    return re.findall(r"# reply (.*)", text)
-
-
-def answers_to_come(text):
-    """What an answer program is to print for a session whose every poll names its reply."""
-    records, _ = tape.split(tape.tape_of(text))
-    ticks = [record.tick for record in records if isinstance(record, tape.Poll)]
-    replies = replies_to_come(text)
-    assert len(ticks) == len(replies)
-    return "tick reply\n" + "".join(f"{tick} {reply}\n" for tick, reply in zip(ticks, replies))
 
 
 # --- tape.py --------------------------------------------------------------------------------
@@ -144,6 +131,8 @@ def test_text_errors():
         (PLATE_LINE + "frame: 40 4\n", "line 2: no byte, quoted text or sum: 4"),
         (PLATE_LINE + "frame:\n", "line 2: a frame without bytes"),
         (PLATE_LINE + "\nframes: 40\n", "line 3: no event starts like this: frames: 40"),
+        (PLATE_LINE + "frame: 00*100001\n", "line 2: a byte's number of times 100001 is over 100000"),
+        (PLATE_LINE + "frame: 00*\n", "line 2: no byte, quoted text or sum: 00*"),
         (PLATE_LINE + 'frame: "Ä"\n', 'line 2: only ASCII text has bytes here: "Ä"'),
     )
     for text, message in cases:
@@ -153,6 +142,19 @@ def test_text_errors():
             assert str(error) == message, str(error)
         else:
             raise AssertionError(f"taken: {text!r}")
+
+
+def test_answers_to_come():
+    frame = 'frame at 7: 40 42 00*3 "# reply 1" sum # the rest\n'
+    assert tape.tape_of(PLATE_LINE + frame) == tape.tape_of(PLATE_LINE + 'frame at 7: 40 42 00 00 00 "# reply 1" sum\n')
+    text = PLATE_LINE + frame + "character at 9: 40 # reply 01 02\npoll 12 # none\n# reply 03\nframe at 30: 40 4E # reply 04\n"
+    assert tape.answers_to_come(text) == "tick reply\n9 01 02\n30 04\n"
+    try:
+        tape.answers_to_come(PLATE_LINE + "fault 22 # reply 40\n")
+    except tape.TextError as error:
+        assert str(error) == "line 2: only a character or a poll brings a reply"
+    else:
+        raise AssertionError("a fault with a reply is taken")
 
 
 def run_tool(name, arguments, given):
@@ -221,9 +223,12 @@ def test_judge():
 def test_sessions_are_explained():
     for name in SESSIONS:
         text = session(name)
-        page = explain.explain(tape.tape_of(text), answers_to_come(text))
-        assert "though" not in page and "to no frame" not in page
-        assert page.count("bench: ") == len(replies_to_come(text))
+        answers = tape.answers_to_come(text)
+        page = explain.explain(tape.tape_of(text), answers)
+        assert "though" not in page and "to no frame" not in page, name
+        assert page.count("bench: ") == answers.count("\n") - 1, name
+    text = session("pallet-night")
+    page = explain.explain(tape.tape_of(text), tape.answers_to_come(text))
     assert "bench: error 10h\n" in page and "bench: refused" not in page
     assert "4Dh Create Data Field: create or modify: field 0, status C1h (exists, write-enabled, no code wanted, code number 0, 2 blocks), code 55h\n" in page
     assert '\n                      field 0, offset 0, count 16, data 4C 4F 54' in page and '"LOT 0417 MOTOR 9"\n' in page
@@ -275,7 +280,7 @@ def test_program(program):
     for name in SESSIONS:
         text = session(name)
         answers = explain.answers_of(program, tape.tape_of(text))
-        assert answers == answers_to_come(text), f"{name}: {answers}"
+        assert answers == tape.answers_to_come(text), f"{name}: {answers}"
     torn = tape.tape_of(PLATE_LINE) + b"\x05"
     assert explain.answers_of(program, torn) == "tick reply\nbad 9\n"
 

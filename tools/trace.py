@@ -1,8 +1,8 @@
 #!/usr/bin/env python3
-"""Fails if docs/TRACE.md names a file, definition, theorem, function, trial or edit that is not there.
+"""Fails if docs/TRACE.md names a file, definition, theorem, function, test, tape or edit that is not there.
 
 A reference stands in backquotes: `FILE: NAME, NAME`, or `FILE` alone. FILE is below crates/ or the project's root, without .antt;
-a name is one that the file defines, or in double quotes a line of it.
+a name is one that the file defines, or in double quotes a text that stands so in a C file, as the name of a row of a table.
 """
 
 import os
@@ -15,6 +15,7 @@ TRACE = os.path.join(ROOT, "docs", "TRACE.md")
 DEFINED = {
     ".antt": r"^\s*(?:(?:abbrev |unfoldable )?(?:pub )?%s(?: \{\S+\})? :|(?:pub )?(?:data|record) %s )",
     ".rt": r"^\s*(?:pub(?:\(crate\))? )?(?:extern \"C\" )?(?:fn|struct|enum|const) %s\b",
+    ".c": r"^(?:static )?\w+ \*?%s\(.*\{$",
 }
 
 
@@ -28,10 +29,11 @@ def path_of(name):
 
 
 def has(path, text, name):
+    kind = os.path.splitext(path)[1]
     if name.startswith('"'):
-        return name.strip('"') in text.splitlines()
-    form = DEFINED[os.path.splitext(path)[1]]
-    return re.search(form.replace("%s", re.escape(name)), text, re.M) is not None
+        return kind == ".c" and name in text
+    form = DEFINED.get(kind)
+    return form is not None and re.search(form.replace("%s", re.escape(name)), text, re.M) is not None
 
 
 def faults(reference):

@@ -1,8 +1,9 @@
 // Dialogues of the bench with the board, told line by line: the example of document 002, the pallet night, and others on the bus.
-ghost use Prim.Native.Nat.{_≤_};
+mod words;
+
 use board::Board;
 use line::Plate;
-use script::Script;
+use words::say;
 
 // Address 0, pause 55, 4 ticks a bit, 24 position bits, 8 blocks.
 fn plate() -> Plate {
@@ -15,191 +16,87 @@ fn plate() -> Plate {
     }
 }
 
-// One request and what came of it. A character has 11 bits, 44 ticks.
-fn ask(
-    board: Board,
-    tick: u32,
-    address: u32,
-    bytes: &[u8],
-    count: usize,
-    kept: &mut [u8; 135],
-    memory: &mut [u8; 136],
-) -> Board {
-    if count < 1 {
-        return board;
-    }
-    if bytes.len() < count {
-        return board;
-    }
+// One request and what came of it. The tick count wraps around within it; a character has 11 bits, 44 ticks. Between requests no frame is
+// open, so that the kept bytes need not last.
+fn ask(board: Board, address: u32, command: u8, body: &[u8], memory: &mut [u8; 136]) -> Board {
     let mut request = [0u8; 135];
+    let mut kept = [0u8; 135];
     let mut room = [0u8; 134];
     let passed = exchange::exchange(
         plate(),
         board,
         address,
-        bytes[0],
-        &bytes[1..count],
-        tick,
+        command,
+        body,
+        0xFFFFFFF0,
         44,
         &mut request,
-        kept,
+        &mut kept,
         memory,
         &mut room,
     );
     let ended = passed.ended;
-    verdicts::say_ended(ended, &request, &room);
+    words::say_ended(ended, &request, &room);
     passed.board
 }
 
-// 01, "The host notes codes".
-fn note(board: Board, code: u8) -> Board {
-    let stepped = board::fault(plate(), board, code);
-    stepped.board
-}
-
-// The request's command and data, word by word; the end of its line empties it.
-fn gathered(sign: u8, number: u32, bytes: &mut [u8; 16], count: usize) -> usize
-    ensures { λ r. ⌜ r ≤ 16 ⌝ }
-{
-    if sign == b'.' {
-        return 0;
-    }
-    if 15 < count {
-        return 16;
-    }
-    if sign != b'>' {
-        return count;
-    }
-    bytes[count] = (number % 256) as u8;
-    count + 1
-}
-
-// The next request comes some time after.
-fn later(sign: u8, tick: u32) -> u32 {
-    if sign == b'.' {
-        return line::stamp_after(tick, 20000);
-    }
-    tick
-}
-
-// A request at the end of its line, to the address at N, or the code at n noted.
-fn turn(
-    board: Board,
-    sign: u8,
-    tick: u32,
-    numbers: &[u32; 256],
-    bytes: &[u8; 16],
-    count: usize,
-    kept: &mut [u8; 135],
-    memory: &mut [u8; 136],
-) -> Board {
-    if sign == b'n' {
-        return note(board, (numbers[0x6E] % 256) as u8);
-    }
-    if sign != b'.' {
-        return board;
-    }
-    ask(board, tick, numbers[0x4E], bytes, count, kept, memory)
-}
-
-// The words of a script, one after the other, at a fresh board. The tick count wraps around within the first request.
-fn play(text: &[u8]) {
-    let mut script = Script::start(0);
-    let mut numbers = [0u32; 256];
-    let mut bytes = [0u8; 16];
-    let mut count: usize = 0;
-    let mut kept = [0u8; 135];
+// 002, "Example: Data Field Definition": two fields are made, code 2 becomes 66h, two bytes are stored. Its checksum 69 in the third request is
+// a misprint for B9.
+fn example() {
+    say(b"Document 002, data field definition\n");
     let mut memory = [0u8; 136];
     let mut board = board::fresh(plate());
-    let mut tick = 0xFFFFFFF0u32;
-    let mut left: u32 = 4096;
-    while 0 < left {
-        left -= 1;
-        if text.len() <= script.at {
-            return;
-        }
-        script = script.next(text);
-        let sign = script.said;
-        let number = script.number;
-        numbers[sign as usize] = number;
-        board = turn(
-            board,
-            sign,
-            tick,
-            &numbers,
-            &bytes,
-            count,
-            &mut kept,
-            &mut memory,
-        );
-        let mut nowhere = [0u8; 1];
-        script::aside(sign, number, 0, &mut nowhere);
-        count = gathered(sign, number, &mut bytes, count);
-        tick = later(sign, tick);
-    }
+    board = ask(board, 0, 0x4E, b"", &mut memory);
+    board = ask(board, 0, 0x4D, b"\x00\xC9\x55", &mut memory);
+    board = ask(board, 0, 0x4D, b"\x01\xE0\x55", &mut memory);
+    board = ask(board, 0, 0x4F, b"\x02\x55\x66", &mut memory);
+    ask(board, 0, 0x4B, b"\x01\x05\x02\x66\x08\x15", &mut memory);
 }
 
-// 002, "Example: Data Field Definition". Its checksum 69 in the third request is a misprint for B9.
-fn example() {
-    play(
-        b"=Document 002, data field definition
-# the memory is blank
-4E .
-# field 0, of two blocks; field 1, of one, under code 2
-4D 00 C9 55 .
-4D 01 E0 55 .
-# code 2 is 66h now
-4F 02 55 66 .
-# two bytes stored in field 1, from byte 5 on
-4B 01 05 02 66 08 15 .
-",
-    );
+// The label field takes all eight blocks and gives six back, which the next field gets: seven are one too many.
+fn label(memory: &mut [u8; 136]) -> Board {
+    let mut board = board::fresh(plate());
+    board = ask(board, 0, 0x4E, b"", memory);
+    board = ask(board, 0, 0x4D, b"\x00\xC7\x55", memory);
+    board = ask(board, 0, 0x4E, b"", memory);
+    board = ask(board, 0, 0x4D, b"\x00\xC1\x55", memory);
+    board = ask(board, 0, 0x4E, b"", memory);
+    board = ask(board, 0, 0x4D, b"\x01\xC6\x55", memory);
+    ask(board, 0, 0x4D, b"\x01\xC5\x55", memory)
 }
 
-// Pole pairs 4, offset angle 300, gain 1500, lag 180, two bytes each.
+// The commutation data in those six: blank, stored, read back. Pole pairs 4, offset angle 300, gain 1500, lag 180, two bytes each.
 fn pallet_night() {
-    play(
-        b"=The pallet night
-# the label field is made, of all eight blocks
-4E .
-4D 00 C7 55 .
-4E .
-# it is cut to two: six come back
-4D 00 C1 55 .
-4E .
-# seven are one too many for the second field
-4D 01 C6 55 .
-# it takes the six
-4D 01 C5 55 .
-4E .
-# the commutation data: blank, stored, read back
-4A 01 00 08 55 .
-4B 01 00 08 55 00 04 01 2C 05 DC 00 B4 .
-4A 01 00 08 55 .
-4E .
-",
+    say(b"The pallet night\n");
+    let mut memory = [0u8; 136];
+    let mut board = label(&mut memory);
+    board = ask(board, 0, 0x4E, b"", &mut memory);
+    board = ask(board, 0, 0x4A, b"\x01\x00\x08\x55", &mut memory);
+    board = ask(
+        board,
+        0,
+        0x4B,
+        b"\x01\x00\x08\x55\x00\x04\x01\x2C\x05\xDC\x00\xB4",
+        &mut memory,
     );
+    board = ask(board, 0, 0x4A, b"\x01\x00\x08\x55", &mut memory);
+    ask(board, 0, 0x4E, b"", &mut memory);
 }
 
+// Broadcast, another board's address and one that is none. Then, while a code waits, every reply warns; 50h fetches it; 53h has no reply.
 fn others() {
-    play(
-        b"=Others on the bus
-# broadcast
-Node255 4E .
-# another board's address
-Node1 4E .
-# one that is none
-Node32 4E .
-# while a code waits every reply warns
-note1E
-Node0 46 .
-4C 05 .
-# 50h fetches it
-50 .
-# 53h has no reply
-53 .
-",
-    );
+    say(b"Others on the bus\n");
+    let mut memory = [0u8; 136];
+    let mut board = board::fresh(plate());
+    board = ask(board, 255, 0x4E, b"", &mut memory);
+    board = ask(board, 1, 0x4E, b"", &mut memory);
+    board = ask(board, 32, 0x4E, b"", &mut memory);
+    let noted = board::fault(plate(), board, 0x1E);
+    board = noted.board;
+    board = ask(board, 0, 0x46, b"", &mut memory);
+    board = ask(board, 0, 0x4C, b"\x05", &mut memory);
+    board = ask(board, 0, 0x50, b"", &mut memory);
+    ask(board, 0, 0x53, b"", &mut memory);
 }
 
 fn main() {
