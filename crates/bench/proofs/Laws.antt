@@ -153,18 +153,18 @@ module _ (q r : List ℕ) (e : errorReply q r ≡ false) where
   done-warned f g h = done-told true f g (le-leb 128 (arg r 1) h)
 
 -- R4, R5, and a request that is written
-module _ (n c : ℕ) (d room : List ℕ) where
-  pub room-short : length room < 135 → writtenOf R4 room ≡ writes n c d room
+module _ (n c : ℕ) (d buffer : List ℕ) where
+  pub buffer-short : length buffer < 135 → writtenOf R4 buffer ≡ writes n c d buffer
   unfolding writes
-  room-short h = simp (lt-ltb (length room) 135 h)
+  buffer-short h = simp (lt-ltb (length buffer) 135 h)
 
-  pub address-wrong : 135 ≤ length room → addressOk n ≡ false → writtenOf R5 room ≡ writes n c d room
+  pub address-wrong : 135 ≤ length buffer → addressOk n ≡ false → writtenOf R5 buffer ≡ writes n c d buffer
   unfolding writes
-  address-wrong h e = simp (le-ltb (length room) 135 h, e)
+  address-wrong h e = simp (le-ltb (length buffer) 135 h, e)
 
-  pub data-wrong : 135 ≤ length room → addressOk n ≡ true → allowed (commandOf c) d ≡ false → writtenOf R5 room ≡ writes n c d room
+  pub data-wrong : 135 ≤ length buffer → addressOk n ≡ true → allowed (commandOf c) d ≡ false → writtenOf R5 buffer ≡ writes n c d buffer
   unfolding writes
-  data-wrong h e f = simp (le-ltb (length room) 135 h, e, f)
+  data-wrong h e f = simp (le-ltb (length buffer) 135 h, e, f)
 
   module _ (e : addressOk n ≡ true) (f : allowed (commandOf c) d ≡ true) where
     pub request-length : length (request (addressFor n) c d) ≡ length d + 3
@@ -174,10 +174,10 @@ module _ (n c : ℕ) (d room : List ℕ) where
     pub request-fits : length d + 3 ≤ 135
     request-fits = omega (arith, request-length, writes-well n c d (rw e tt) (rw f tt) .1)
 
-    pub request-written : (after : List ℕ) → 135 ≤ length room → after ≡ put room 0 (request (addressFor n) c d)
-        → writtenOf (Request (length d + 3)) after ≡ writes n c d room
+    pub request-written : (after : List ℕ) → 135 ≤ length buffer → after ≡ put buffer 0 (request (addressFor n) c d)
+        → writtenOf (Request (length d + 3)) after ≡ writes n c d buffer
     unfolding writes
-    request-written after h k = simp (le-ltb (length room) 135 h, e, f, request-length, k)
+    request-written after h k = simp (le-ltb (length buffer) 135 h, e, f, request-length, k)
 
 -- 01, "Checks in order: B0 to B6"
 module _ (q r : List ℕ) where

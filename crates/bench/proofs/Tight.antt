@@ -43,18 +43,18 @@ verdict-back (Refused b) = ap Refused (number-back b)
 pub judge-tight : (q r : List ℕ) (v w : Verdict) → verdictOf v ≡ withoutData (meaning.judge q r) → verdictOf w ≡ withoutData (meaning.judge q r) → v ≡ w
 judge-tight q r v w = one-outcome verdictOf verdictBack verdict-back (withoutData (meaning.judge q r)) v w
 
--- what is returned, and the room afterwards
+-- what is returned, and the buffer afterwards
 abbrev writtenBack : meaning.Written → Written × List ℕ
-writtenBack w = (pick (eqb (w .refusal) 4) R4 (pick (eqb (w .refusal) 5) R5 (Request (w .count))), w .room)
+writtenBack w = (pick (eqb (w .refusal) 4) R4 (pick (eqb (w .refusal) 5) R5 (Request (w .count))), w .buffer)
 
 written-back : (w : Written × List ℕ) → writtenBack (writtenOf (w .0) (w .1)) ≡ w
-written-back (Request n, room) = refl
-written-back (R4, room) = refl
-written-back (R5, room) = refl
+written-back (Request n, buffer) = refl
+written-back (R4, buffer) = refl
+written-back (R5, buffer) = refl
 
-pub write-request-tight : (n c : ℕ) (d room : List ℕ) (a b : Written × List ℕ)
-    → writtenOf (a .0) (a .1) ≡ meaning.writes n c d room → writtenOf (b .0) (b .1) ≡ meaning.writes n c d room → a ≡ b
-write-request-tight n c d room a b = one-outcome (λ (w : Written × List ℕ). writtenOf (w .0) (w .1)) writtenBack written-back (meaning.writes n c d room) a b
+pub write-request-tight : (n c : ℕ) (d buffer : List ℕ) (a b : Written × List ℕ)
+    → writtenOf (a .0) (a .1) ≡ meaning.writes n c d buffer → writtenOf (b .0) (b .1) ≡ meaning.writes n c d buffer → a ≡ b
+write-request-tight n c d buffer a b = one-outcome (λ (w : Written × List ℕ). writtenOf (w .0) (w .1)) writtenBack written-back (meaning.writes n c d buffer) a b
 
 -- the piece: its bytes and its place are each given
 pub data-of-tight : {P : Type 0} (bytes : List ℕ) (place : P) (a b : List ℕ × P) → a ≡ (bytes, place) → b ≡ (bytes, place) → a ≡ b

@@ -3,9 +3,10 @@ use mathlib.Core.Path.{_≡_, refl, sym, ap, _∙_, subst}
 use mathlib.Core.Logic.{_≢_, ⊎-elim}
 use mathlib.Core.Bool.{Bool, true, false, not}
 use mathlib.Core.List.{List, [], _∷_}
-use Prim.Native.Nat.{ℕ, _-_, _<_}
+use Prim.Native.Nat.{ℕ, _+_, _-_, _<_, _≤_}
+use native.Mathlib.Omega.{arith}
 use lib.Dec.{T}
-use lib.ListN.{length, getD, set}
+use lib.ListN.{length, getD, set, take, drop}
 use borrow.Author.Tests.{eqb-false}
 use denote.Enum.Declared.{tagOf}
 use types.Run.{OneOf}
@@ -16,7 +17,8 @@ use Rattle.meaning.specs.Bench as meaning
 use Rattle.meaning.specs.Demands.{accepts, Fit, FitDone, FitFailed, Grounds}
 use Rattle.meaning.proofs.Fitting.{only-if-fits, no-reply-to-53}
 use Rattle.meaning.proofs.Bytewise.{one-byte-changed}
-use Rattle.bench.specs.Outcomes.{verdictOf, withoutData}
+use Rattle.bench.specs.Outcomes.{verdictOf, withoutData, pieceFrom, pieceBy}
+use Rattle.bench.specs.declared.reply.Piece.{Piece}
 use Rattle.bench.specs.declared.reply.Verdict.{Verdict}
 use Rattle.bench.specs.declared.reply.Verdict.the-variants.{Done, DoneWithWarning, Error, ErrorWithWarning, Refused}
 use Rattle.bench.proofs.reply.Verdict.{the-type}
@@ -70,45 +72,54 @@ piece-same r (meaning.refusal n) = refl
 piece-same r (meaning.done w d) = refl
 piece-same r (meaning.failed w e) = refl
 
-pub tag-refused : (v : Verdict) → tagOf the-type v ≡ 4 → T (not (accepts (verdictOf v)))
-unfolding accepts
-tag-refused Done e = absurd (eqb-false 0 4 refl e)
-tag-refused DoneWithWarning e = absurd (eqb-false 1 4 refl e)
-tag-refused (Error x) e = absurd (eqb-false 2 4 refl e)
-tag-refused (ErrorWithWarning x) e = absurd (eqb-false 3 4 refl e)
-tag-refused (Refused b) e = tt
+spans : {p : Piece} {n : ℕ} → 3 ≤ n → pieceFrom p ≡ (record { from = 2; count = n - 3 }) → p .from + p .count ≤ n
+spans h e = omega (arith, ap (λ (x : meaning.Piece). x .from) e, ap (λ (x : meaning.Piece). x .count) e)
 
-pub tag-accepted : (v : Verdict) → OneOf (0 ∷ 1 ∷ 2 ∷ 3 ∷ []) (tagOf the-type v) → T (accepts (verdictOf v))
-unfolding accepts
-tag-accepted Done e = tt
-tag-accepted DoneWithWarning e = tt
-tag-accepted (Error x) e = tt
-tag-accepted (ErrorWithWarning x) e = tt
-tag-accepted (Refused b) e =
+-- .. by the code's verdict
+pub piece-refused : (n : ℕ) (v : Verdict) → tagOf the-type v ≡ 4 → (record { from = 0; count = 0 }) ≡ pieceBy n v
+piece-refused n Done e = absurd (eqb-false 0 4 refl e)
+piece-refused n DoneWithWarning e = absurd (eqb-false 1 4 refl e)
+piece-refused n (Error x) e = absurd (eqb-false 2 4 refl e)
+piece-refused n (ErrorWithWarning x) e = absurd (eqb-false 3 4 refl e)
+piece-refused n (Refused b) e = refl
+
+pub piece-accepted : (n k : ℕ) (v : Verdict) → OneOf (0 ∷ 1 ∷ 2 ∷ 3 ∷ []) (tagOf the-type v) → k ≡ n - 3 → (record { from = 2; count = k }) ≡ pieceBy n v
+piece-accepted n k Done e h = rw h
+piece-accepted n k DoneWithWarning e h = rw h
+piece-accepted n k (Error x) e h = rw h
+piece-accepted n k (ErrorWithWarning x) e h = rw h
+piece-accepted n k (Refused b) e h =
     absurd (⊎-elim (eqb-false 4 0 refl) (⊎-elim (eqb-false 4 1 refl) (⊎-elim (eqb-false 4 2 refl) (eqb-false 4 3 refl))) e)
 
-piece-refused : (r : List ℕ) (v : meaning.Verdict) → T (not (accepts v)) → pieceOf r v ≡ (record { from = 0; count = 0 })
-unfolding accepts pieceOf
-piece-refused r (meaning.refusal n) h = refl
-piece-refused r (meaning.done w d) h = absurd h
-piece-refused r (meaning.failed w e) h = absurd h
-
-piece-accepted : (r : List ℕ) (v : meaning.Verdict) → T (accepts v) → pieceOf r v ≡ (record { from = 2; count = length r - 3 })
-unfolding accepts pieceOf
-piece-accepted r (meaning.refusal n) h = absurd h
-piece-accepted r (meaning.done w d) h = refl
-piece-accepted r (meaning.failed w e) h = refl
+piece-told : (r : List ℕ) (v : Verdict) → pieceOf r (verdictOf v) ≡ pieceBy (length r) v
+unfolding pieceOf
+piece-told r Done = refl
+piece-told r DoneWithWarning = refl
+piece-told r (Error x) = refl
+piece-told r (ErrorWithWarning x) = refl
+piece-told r (Refused b) = refl
 
 module _ (q r : List ℕ) (v : Verdict) (e : verdictOf v ≡ withoutData (judge q r)) where
-  by-verdict : handed q r ≡ pieceOf r (verdictOf v)
+  pub handed-by : handed q r ≡ pieceBy (length r) v
   unfolding handed
-  by-verdict = sym (piece-same r (judge q r)) ∙ ap (pieceOf r) (sym e)
+  handed-by = sym (piece-same r (judge q r)) ∙ ap (pieceOf r) (sym e) ∙ piece-told r v
 
-  pub handed-refused : T (not (accepts (verdictOf v))) → handed q r ≡ (record { from = 0; count = 0 })
-  handed-refused h = by-verdict ∙ piece-refused r (verdictOf v) h
+  -- it lies within the reply
+  pub piece-within : (p : Piece) → pieceFrom p ≡ pieceBy (length r) v → p .from + p .count ≤ length r
+  unfolding accepts
+  piece-within p h = go v (λ k. accepted-fits q r v e k .long) h
+    where
+      go : (u : Verdict) → (T (accepts (verdictOf u)) → 3 ≤ length r) → pieceFrom p ≡ pieceBy (length r) u → p .from + p .count ≤ length r
+      go Done k h = spans (k tt) h
+      go DoneWithWarning k h = spans (k tt) h
+      go (Error x) k h = spans (k tt) h
+      go (ErrorWithWarning x) k h = spans (k tt) h
+      go (Refused b) k h = omega (arith, ap (λ (x : meaning.Piece). x .from) h, ap (λ (x : meaning.Piece). x .count) h)
 
-  pub handed-accepted : T (accepts (verdictOf v)) → handed q r ≡ (record { from = 2; count = length r - 3 })
-  handed-accepted h = by-verdict ∙ piece-accepted r (verdictOf v) h
+-- a part from its start up to its end
+pub cut-out : (r : List ℕ) (f n : ℕ) → take (f + n - f) (drop f r) ≡ part r f n
+unfolding part
+cut-out r f n = let k : f + n - f ≡ n = omega arith in rw k
 
 -- the piece of a reply that is done is its data
 pub handed-data : (q r : List ℕ) (w : Bool) (d : List ℕ) → judge q r ≡ meaning.done w d → part r ((handed q r) .from) ((handed q r) .count) ≡ d

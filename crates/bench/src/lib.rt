@@ -3,6 +3,7 @@ mod bytes;
 mod reply;
 mod request;
 
+pub use reply::Piece;
 pub use reply::Refusal;
 pub use reply::Verdict;
 pub use reply::data_of;

@@ -9,12 +9,13 @@ ghost use denote.Ref.{ptr};
 ghost use Rattle.meaning.specs.Bytes.{both, either, part};
 ghost use Rattle.meaning.specs.Bench.{boardByte, addressByte, written, fromAsked, errorReply, content, handed};
 ghost use Rattle.meaning.specs.Bench as meaning;
-ghost use Rattle.bench.specs.Outcomes.{verdictOf, withoutData, Ordinary};
-use crate::bytes::byte_at;
-use crate::bytes::data_part;
-use crate::bytes::first;
+ghost use Rattle.bench.specs.Outcomes.{verdictOf, withoutData, pieceFrom, pieceBy, Ordinary};
 use crate::bytes::same;
 use crate::request::is_allowed;
+use wire::codes::BROADCAST;
+use wire::codes::ERROR_REPLY;
+use wire::data_part;
+use wire::front;
 
 // The refusals by their numbers in 01.
 pub enum Refusal {
@@ -36,6 +37,30 @@ pub enum Verdict {
     Refused(Refusal),
 }
 
+// Where a reply's data part starts, and its length.
+pub struct Piece {
+    pub from: usize,
+    pub count: usize,
+}
+
+impl Verdict {
+    // 01, "the data part .., and on refusal .. the empty piece at its front", of a reply of so many bytes.
+    pub fn piece(self, reply: usize) -> Piece
+        ensures { λ r. ⌜ pieceFrom r ≡ pieceBy reply self ⌝ }
+    {
+        if let Verdict::Refused(_) = self {
+            return Piece { from: 0, count: 0 };
+        }
+        if reply < 3 {
+            return Piece { from: 2, count: 0 };
+        }
+        Piece {
+            from: 2,
+            count: reply - 3,
+        }
+    }
+}
+
 fn is_board(address: u8) -> bool
     ensures { λ r. ⌜ r ≡ boardByte address ⌝ }
 {
@@ -51,7 +76,7 @@ fn is_address(address: u8) -> bool
     if is_board(address) {
         return true;
     }
-    address == 0xFF
+    address == BROADCAST
 }
 
 // B0: the request is one that the bench writes.
@@ -74,7 +99,7 @@ fn is_written(request: &[u8]) -> bool
 fn from_asked(asked: u8, answering: u8) -> bool
     ensures { λ r. ⌜ r ≡ fromAsked asked answering ⌝ }
 {
-    if asked == 0xFF {
+    if asked == BROADCAST {
         return is_board(answering);
     }
     answering == asked
@@ -88,15 +113,15 @@ fn command_fits(asked: u8, answering: u8) -> bool
     if low == asked {
         return true;
     }
-    low == 0x50
+    low == ERROR_REPLY
 }
 
 // 01, "A reply whose command is 50h or D0h is error code, except to a request 50h".
 fn is_error(asked: u8, answering: u8) -> bool
     ensures { λ r. ⌜ r ≡ both (eqb (answering % 128) 0x50) (not (eqb asked 0x50)) ⌝ }
 {
-    if answering % 128 == 0x50 {
-        return asked != 0x50;
+    if answering % 128 == ERROR_REPLY {
+        return asked != ERROR_REPLY;
     }
     false
 }
@@ -124,10 +149,10 @@ fn done_verdict(request: &[u8], reply: &[u8]) -> Verdict
     let wanted = row.reply;
     let asked = data_part(request);
     let answered = data_part(reply);
-    if !wire::length_fits(wanted, byte_at(asked, 2), answered.len()) {
+    if !wire::length_fits(wanted, asked, answered.len()) {
         return Verdict::Refused(Refusal::B5);
     }
-    if !same(first(answered, row.repeats), first(asked, row.repeats)) {
+    if !same(front(answered, row.repeats), front(asked, row.repeats)) {
         return Verdict::Refused(Refusal::B6);
     }
     if reply[1] < 128 {
@@ -167,8 +192,8 @@ pub fn data_of<'a>(request: &[u8], reply: &'a [u8]) -> &'a [u8]
     ensures { λ r. ⌜ ptr r ≡ (ptr (reply .entry) .0, (handed (now (request .entry)) (now (reply .entry))) .from + ptr (reply .entry) .1) ⌝ }
 {
     let verdict = judge(request, reply);
-    if let Verdict::Refused(_) = verdict {
-        return &reply[..0];
-    }
-    data_part(reply)
+    let piece = verdict.piece(reply.len());
+    let from = piece.from;
+    let end = from + piece.count;
+    &reply[from..end]
 }

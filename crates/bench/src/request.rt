@@ -4,9 +4,11 @@ ghost use mathlib.Core.Bool.{true};
 ghost use Rattle.meaning.specs.Commands.{commandOf};
 ghost use Rattle.meaning.specs.Bench.{addressOk, addressFor, allowed, writes};
 ghost use Rattle.bench.specs.Outcomes.{writtenOf};
-use crate::bytes::byte_at;
+use wire::codes::BROADCAST;
+use wire::codes::LONGEST_REQUEST;
+use wire::codes::MOST_COUNT;
 
-// The length of the request that fills the front of the room, or the refusal; refused, the room is untouched.
+// The length of the request that fills the front of the buffer, or the refusal; refused, the buffer is untouched.
 pub enum Written {
     Request { len: usize },
     R4,
@@ -28,35 +30,35 @@ fn address_byte(address: u32) -> u8
     ensures { λ r. ⌜ r ≡ addressFor address ⌝ }
 {
     if address == 255 {
-        return 0xFF;
+        return BROADCAST;
     }
     0x40 + address as u8
 }
 
 // R5: "4Ah's count 0 or over 128; 4Fh's number over 3. Not otherwise".
-pub fn is_allowed(command: u8, body: &[u8]) -> bool
+pub(crate) fn is_allowed(command: u8, body: &[u8]) -> bool
     ensures { λ r. ⌜ r ≡ allowed (commandOf command) (now (body .entry)) ⌝ }
 {
     let row = wire::row_of(command);
     let wanted = row.request;
-    let count = byte_at(body, 2);
-    if !wire::length_fits(wanted, count, body.len()) {
+    if !wire::length_fits(wanted, body, body.len()) {
         return false;
     }
     if command == 0x4A {
-        return 1 <= count && count <= 128;
+        let count = wire::byte_at(body, 2);
+        return 1 <= count && count <= MOST_COUNT;
     }
     if command == 0x4F {
-        return byte_at(body, 0) <= 3;
+        return wire::byte_at(body, 0) <= 3;
     }
     true
 }
 
 // R4 before R5. `address` is 0 to 31, or 255 for broadcast.
-pub fn write_request(address: u32, command: u8, body: &[u8], room: &mut [u8]) -> Written
-    ensures { λ r. ⌜ writtenOf r (now (room .exit)) ≡ writes address command (now (body .entry)) (now (room .entry)) ⌝ }
+pub fn write_request(address: u32, command: u8, body: &[u8], buffer: &mut [u8]) -> Written
+    ensures { λ r. ⌜ writtenOf r (now (buffer .exit)) ≡ writes address command (now (body .entry)) (now (buffer .entry)) ⌝ }
 {
-    if room.len() < 135 {
+    if buffer.len() < LONGEST_REQUEST {
         return Written::R4;
     }
     if !address_ok(address) {
@@ -65,7 +67,7 @@ pub fn write_request(address: u32, command: u8, body: &[u8], room: &mut [u8]) ->
     if !is_allowed(command, body) {
         return Written::R5;
     }
-    wire::write(address_byte(address), command, body, room);
+    wire::write(address_byte(address), command, body, buffer);
     Written::Request {
         len: body.len() + 3,
     }

@@ -3,7 +3,9 @@ use Rattle.bench.proofs.Laws.{fits-reply, fits-repeated, wrong-length, 
 use Rattle.bench.specs.Outcomes.{withoutData}
 use Rattle.meaning.specs.Bench.{rightLength, repeated}
 use Rattle.meaning.specs.Frames.{commandByte, dataOf}
-use Rattle.meaning.specs.Bytes.{arg, same}
+use Rattle.meaning.specs.Bytes.{same}
+use Rattle.meaning.specs.Commands.{lengthFits}
+use Rattle.wire.specs.Table.{lengthOf}
 use lib.ListN.{length, take}
 use borrow.Author.Tests.{not-true, not-false}
 use Prim.Native.Nat.{ℕ}
@@ -14,41 +16,39 @@ use Rattle.bench.proofs.reply.done_verdict.Statement.{statement}
 use Rattle.bench.proofs.reply.done_verdict.Tie as tie
 use Rattle.bench.proofs.reply.done_verdict.Reads as reads
 use Rattle.bench.proofs.reply.done_verdict.Lts as lts
-use Rattle.bench.proofs.bytes.byte_at.Reads as byte-at-reads
-use Rattle.bench.proofs.bytes.data_part.Reads as data-part-reads
-use Rattle.bench.proofs.bytes.first.Reads as first-reads
+use Rattle.wire.proofs.data_part.Reads as data-part-reads
+use Rattle.wire.proofs.front.Reads as front-reads
 use Rattle.bench.proofs.bytes.same.Reads as same-reads
 use Rattle.wire.proofs.length_fits.Reads as length-fits-reads
 use Rattle.wire.proofs.row_of.Reads as row-of-reads
 
 -- what the tests of the length and of the repeated bytes say
 right : (c : tie.After-length-fits)
-    → let a = c .before .before .before .before .before .before .before .before .args in
+    → let a = c .before .before .before .before .before .before .before .args in
     rightLength (a .request .now) (a .reply .now) ≡ c .length-fits .result
 unfolding commandByte
 right c =
-    let p = c .before .before in
+    let p = c .before in
     let q = p .before in
     let r = q .before in
     let a = r .before .before .before .before .args in
     let e = q .data-part .ensures .0 in
     let f = p .data-part2 .ensures .0 in
     fits-reply (r .row-of .result) (a .request .now) (a .reply .now) (c .length-fits .result) (r .row-of .ensures)
-    (c .length-fits .ensures (dataOf (a .request .now)) (dataOf (a .reply .now))
-    (ap (λ (d : List ℕ). arg d 2) (sym e) ∙ sym (c .before .byte-at .ensures)) (ap (λ (d : List ℕ). length d) (sym f)))
+    (c .length-fits .ensures (dataOf (a .reply .now)) (ap (λ (d : List ℕ). length d) (sym f)) ∙ ap (λ (d : List ℕ). lengthFits (lengthOf (r .row-of .result .reply)) d (dataOf (a .reply .now))) e)
 
 repeats : (c : tie.After-same)
-    → let a = c .before .before .before .before .before .before .before .before .before .before .before .before .args in
+    → let a = c .before .before .before .before .before .before .before .before .before .before .before .args in
     repeated (a .request .now) (a .reply .now) ≡ c .same .result
 unfolding commandByte
 repeats c =
-    let p = c .before .before .before .before .before .before in
+    let p = c .before .before .before .before .before in
     let q = p .before in
     let r = q .before in
     let a = r .before .before .before .before .args in
     let k = r .row-of .result .repeats in
-    let e = c .before .first2 .ensures ∙ ap (take k) (q .data-part .ensures .0) in
-    let f = c .before .before .first .ensures ∙ ap (take k) (p .data-part2 .ensures .0) in
+    let e = c .before .front2 .ensures ∙ ap (take k) (q .data-part .ensures .0) in
+    let f = c .before .before .front .ensures ∙ ap (take k) (p .data-part2 .ensures .0) in
     fits-repeated (r .row-of .result) (a .request .now) (a .reply .now) (c .same .result) (r .row-of .ensures)
     (c .same .ensures ∙ ap₂ same f e)
 
@@ -64,22 +64,19 @@ data-part-requires c κs = search needs
 data-part-requires-2 : tie.Need-data-part-requires-2
 data-part-requires-2 c κs = search needs
 
-byte-at-requires : tie.Need-byte-at-requires
-byte-at-requires c κs = search needs
-
 length-fits-requires : tie.Need-length-fits-requires
 length-fits-requires c κs = search needs
 
 returns : tie.Need-returns
 returns c =
-    let s = c .before .before .before .before .before .before .before .before .before in
+    let s = c .before .before .before .before .before .before .before .before in
     sym (ap withoutData (wrong-length _ _ (s .pre .ordinary) (right (c .before) ∙ not-true _ (c .if1 .taken))))
 
-first-requires : tie.Need-first-requires
-first-requires c κs = search needs
+front-requires : tie.Need-front-requires
+front-requires c κs = search needs
 
-first-requires-2 : tie.Need-first-requires-2
-first-requires-2 c κs = search needs
+front-requires-2 : tie.Need-front-requires-2
+front-requires-2 c κs = search needs
 
 same-requires : tie.Need-same-requires
 same-requires c κs = search needs
@@ -87,7 +84,7 @@ same-requires c κs = search needs
 returns-2 : tie.Need-returns-2
 returns-2 c =
     let u = c .before .before .before .before in
-    let s = u .before .before .before .before .before .before .before .before .before in
+    let s = u .before .before .before .before .before .before .before .before in
     sym (ap withoutData (not-repeated _ _ (s .pre .ordinary) (right (u .before) ∙ not-false _ (u .if1 .left)) (repeats (c .before) ∙ not-true _ (c .if2 .taken))))
 
 shared-slice-read-if3 : tie.Need-shared-slice-read-if3
@@ -97,14 +94,14 @@ returns-3 : tie.Need-returns-3
 returns-3 c =
     let v = c .before .before in
     let u = v .before .before .before .before in
-    let s = u .before .before .before .before .before .before .before .before .before in
+    let s = u .before .before .before .before .before .before .before .before in
     sym (ap withoutData (done-calm _ _ (s .pre .ordinary) (right (u .before) ∙ not-false _ (u .if1 .left)) (repeats (v .before) ∙ not-false _ (v .if2 .left)) (c .if3 .taken)))
 
 returns-4 : tie.Need-returns-4
 returns-4 c =
     let v = c .before .before in
     let u = v .before .before .before .before in
-    let s = u .before .before .before .before .before .before .before .before .before in
+    let s = u .before .before .before .before .before .before .before .before in
     sym (ap withoutData (done-warned _ _ (s .pre .ordinary) (right (u .before) ∙ not-false _ (u .if1 .left)) (repeats (v .before) ∙ not-false _ (v .if2 .left)) (c .if3 .left)))
 
 pub done-verdict-spec : {M : Type 1} → statement M
@@ -115,11 +112,10 @@ done-verdict-spec =
     row-of-requires
     data-part-requires
     data-part-requires-2
-    byte-at-requires
     length-fits-requires
     returns
-    first-requires
-    first-requires-2
+    front-requires
+    front-requires-2
     same-requires
     returns-2
     shared-slice-read-if3

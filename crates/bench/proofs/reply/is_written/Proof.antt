@@ -9,7 +9,7 @@ use Rattle.bench.proofs.reply.is_written.Statement.{statement}
 use Rattle.bench.proofs.reply.is_written.Tie as tie
 use Rattle.bench.proofs.reply.is_written.Reads as reads
 use Rattle.bench.proofs.reply.is_written.Lts as lts
-use Rattle.bench.proofs.bytes.data_part.Reads as data-part-reads
+use Rattle.wire.proofs.data_part.Reads as data-part-reads
 use Rattle.bench.proofs.reply.is_address.Reads as is-address-reads
 use Rattle.bench.proofs.request.is_allowed.Reads as is-allowed-reads
 use Rattle.wire.proofs.xor_of.Reads as xor-of-reads

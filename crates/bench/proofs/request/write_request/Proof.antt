@@ -1,5 +1,5 @@
 -- `bench::request::write_request` meets its contract. Assumes nothing.
-use Rattle.bench.proofs.Laws.{room-short, address-wrong, data-wrong, request-fits, request-written}
+use Rattle.bench.proofs.Laws.{buffer-short, address-wrong, data-wrong, request-fits, request-written}
 use Rattle.meaning.specs.Bench.{addressOk, allowed, request}
 use Rattle.meaning.specs.Commands.{commandOf}
 use Rattle.meaning.specs.Frames.{sealed}
@@ -28,7 +28,7 @@ data-well : (c : tie.Else3)
 data-well c = sym (c .before .is-allowed .ensures) ∙ not-false _ (c .if3 .left)
 
 returns : tie.Need-returns
-returns c = room-short _ _ _ _ (c .if1 .taken)
+returns c = buffer-short _ _ _ _ (c .if1 .taken)
 
 address-ok-requires : tie.Need-address-ok-requires
 address-ok-requires c κs = search needs
@@ -51,7 +51,7 @@ write-requires : tie.Need-write-requires
 write-requires c κs =
     let v = c .before .before in
     let u = v .before .before in
-    omega (arith, request-fits _ _ _ (u .before .before .before .before .before .args .room .now) (address-well u) (data-well v))
+    omega (arith, request-fits _ _ _ (u .before .before .before .before .before .args .buffer .now) (address-well u) (data-well v))
 
 add-t12 : tie.Need-add-t12
 add-t12 c = search needs
@@ -68,7 +68,7 @@ returns-4 c =
     let u = v .before .before in
     let a = u .before .before .before .before .before .args in
     request-written _ _ _ _ (address-well u) (data-well v) _ (u .before .before .if1 .left)
-    (p .write .ensures ∙ ap (λ (x : ℕ). put (a .room .now) 0 (sealed (x ∷ a .command ∷ a .body .now))) (b .address-byte .ensures))
+    (p .write .ensures ∙ ap (λ (x : ℕ). put (a .buffer .now) 0 (sealed (x ∷ a .command ∷ a .body .now))) (b .address-byte .ensures))
 
 pub write-request-spec : {M : Type 1} → statement M
 write-request-spec =
