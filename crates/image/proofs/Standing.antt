@@ -18,7 +18,8 @@ use Rattle.state.specs.Queue.{waiting, queueOf}
 use Rattle.state.specs.State.{stateWith}
 use Rattle.line.specs.declared.characters.OpenFrame.{OpenFrame}
 use Rattle.line.specs.Line.{lineOf, Fits}
-use Rattle.image.specs.Image.{low4, flagByte, stateIn, stateBytes, frameIn, lineBytes, frameRow, frameBytes, PutsState, PutsFrame}
+use Rattle.wire.specs.Numbers.{low4}
+use Rattle.image.specs.Image.{flagByte, stateIn, stateBytes, frameIn, lineBytes, frameRow, frameBytes, PutsState, PutsFrame}
 use Rattle.state.proofs.Places.{front}
 
 later-place : (c i : ℕ) (q : List ℕ) → arg (waiting c q) (suc i) ≡ arg q i
@@ -97,13 +98,14 @@ codes-again (a ∷ b ∷ c ∷ []) e = absurd (omega arith)
 codes-again (a ∷ b ∷ c ∷ d ∷ []) e = refl
 codes-again (a ∷ b ∷ c ∷ d ∷ x ∷ l) e = absurd (omega arith)
 
--- the row of a state, its flag as a byte
-pub state-row : (s : State) (l : Line) {k : ℕ} → k ≡ flagByte (s .faults .locked)
+-- the row of a state, its flag as a byte and its numbers as theirs
+pub state-row : (s : State) (l : Line) {k : ℕ} {a b c : List ℕ} → k ≡ flagByte (s .faults .locked) → a ≡ low4 (s .counter) [] → b ≡ low4 (s .offset) [] → c ≡ low4 (s .measured) []
     → _≡_ {A = List ℕ} (arg (s .codes) 0 ∷ arg (s .codes) 1 ∷ arg (s .codes) 2 ∷ arg (s .codes) 3
-    ∷ low4 (s .counter) (low4 (s .offset) (low4 (s .measured) (s .faults .first ∷ s .faults .second ∷ s .faults .third ∷ s .faults .fourth ∷ k ∷ []))))
+    ∷ arg a 0 ∷ arg a 1 ∷ arg a 2 ∷ arg a 3 ∷ arg b 0 ∷ arg b 1 ∷ arg b 2 ∷ arg b 3 ∷ arg c 0 ∷ arg c 1 ∷ arg c 2 ∷ arg c 3
+    ∷ s .faults .first ∷ s .faults .second ∷ s .faults .third ∷ s .faults .fourth ∷ k ∷ [])
     (stateBytes (stateWith s l))
 unfolding stateBytes
-state-row s l e = let q = places (s .faults) in rw (e, q .first, q .second, q .third, q .fourth)
+state-row s l e x y z = let q = places (s .faults) in rw (e, x, y, z, q .first, q .second, q .third, q .fourth)
 
 -- a state within its types is written and read again
 pub record Typed (s : State) : Type 0 where

@@ -1,12 +1,13 @@
 -- The state image: where its 165 bytes stand, the state that they hold, and the bytes of a state (01, "calls on numbers and byte slices"). Assumes nothing.
-use Prim.Native.Nat.{ℕ, _/_, _%_}
+use Prim.Native.Nat.{ℕ}
 use mathlib.Core.Path.{_≡_}
 use mathlib.Core.Bool.{Bool, true, false}
 use mathlib.Core.List.{List, [], _∷_, _++_}
 use lib.Dec.{eqb, leb}
 use lib.ListN.{length, take, drop}
-use Rattle.meaning.specs.Bytes.{both, arg, part, put, little}
+use Rattle.meaning.specs.Bytes.{both, longestRequest, arg, part, put, little}
 use Rattle.meaning.specs.State as meaning
+use Rattle.wire.specs.Numbers.{low4}
 use Rattle.state.specs.declared.state.State.{State}
 use Rattle.state.specs.State.{stateWith}
 use Rattle.line.specs.declared.characters.OpenFrame.{OpenFrame}
@@ -15,9 +16,6 @@ use Rattle.line.specs.Line.{lineOf}
 -- numbers stand low byte first
 abbrev pub numberAt : List ℕ → ℕ → ℕ
 numberAt img i = little (part img i 4)
-
-abbrev pub low4 : ℕ → List ℕ → List ℕ
-low4 n rest = n % 256 ∷ n / 0x100 % 256 ∷ n / 0x10000 % 256 ∷ n / 0x1000000 % 256 ∷ rest
 
 -- a flag is 1 or 0
 abbrev pub flagAt : List ℕ → ℕ → Bool
@@ -52,7 +50,7 @@ frameIn img =
 
 -- 30 to 164 the kept bytes
 abbrev pub keptIn : List ℕ → List ℕ
-keptIn img = take 135 (drop 30 img)
+keptIn img = take longestRequest (drop 30 img)
 
 -- the meaning's state that an image holds
 abbrev pub heldIn : List ℕ → meaning.State
@@ -63,7 +61,7 @@ unfoldable pub flagsOk : List ℕ → Bool
 flagsOk img = both (leb (arg img 20) 1) (both (leb (arg img 21) 1) (both (leb (arg img 22) 1) (leb (arg img 23) 1)))
 
 unfoldable pub isImage : List ℕ → Bool
-isImage img = both (eqb (length img) 165) (both (flagsOk img) (leb (arg img 29) 135))
+isImage img = both (eqb (length img) 165) (both (flagsOk img) (leb (arg img 29) longestRequest))
 
 -- the 21 bytes of a state, but for its frame
 unfoldable pub stateBytes : meaning.State → List ℕ

@@ -20,6 +20,7 @@ use crate::layout::WAITING;
 use line::OpenFrame;
 use state::Faults;
 use state::State;
+use wire::codes::LONGEST_REQUEST;
 
 fn is_one(byte: u8) -> bool
     ensures { λ r. ⌜ r ≡ eqb byte 1 ⌝ }
@@ -48,7 +49,7 @@ pub fn is_image(image: &[u8]) -> bool
     if !flags_ok(image) {
         return false;
     }
-    if 135 < image[COUNT] {
+    if (LONGEST_REQUEST as u8) < image[COUNT] {
         return false;
     }
     true

@@ -9,7 +9,8 @@ ghost use Rattle.meaning.specs.State.{Line, none};
 ghost use Rattle.meaning.specs.Characters.{more};
 ghost use Rattle.line.specs.Line.{lineOf};
 ghost use Rattle.state.specs.State.{stateWith};
-ghost use Rattle.image.specs.Image.{flagByte, low4, isImage, frameIn, keptIn, stateBytes, frameRow, Open, PutsState, PutsFrame, PutsBoard, Takes};
+ghost use Rattle.wire.specs.Numbers.{low4};
+ghost use Rattle.image.specs.Image.{flagByte, isImage, frameIn, keptIn, stateBytes, frameRow, Open, PutsState, PutsFrame, PutsBoard, Takes};
 use crate::layout::COUNT;
 use crate::layout::FRAME;
 use crate::layout::KEPT;
@@ -19,6 +20,7 @@ use crate::layout::PARITY;
 use crate::layout::SUM;
 use line::OpenFrame;
 use state::State;
+use wire::codes::LONGEST_REQUEST;
 
 fn flag_byte(on: bool) -> u8
     ensures { λ r. ⌜ r ≡ flagByte on ⌝ }
@@ -35,26 +37,26 @@ fn state_row(state: State, locked: u8) -> [u8; 21]
 {
     let codes = state.codes;
     let faults = state.faults;
-    let counter = state.counter;
-    let offset = state.offset;
-    let measured = state.measured;
+    let counter = wire::bytes_of(state.counter);
+    let offset = wire::bytes_of(state.offset);
+    let measured = wire::bytes_of(state.measured);
     [
         codes[0],
         codes[1],
         codes[2],
         codes[3],
-        (counter % 256) as u8,
-        (counter / 0x100 % 256) as u8,
-        (counter / 0x10000 % 256) as u8,
-        (counter / 0x1000000 % 256) as u8,
-        (offset % 256) as u8,
-        (offset / 0x100 % 256) as u8,
-        (offset / 0x10000 % 256) as u8,
-        (offset / 0x1000000 % 256) as u8,
-        (measured % 256) as u8,
-        (measured / 0x100 % 256) as u8,
-        (measured / 0x10000 % 256) as u8,
-        (measured / 0x1000000 % 256) as u8,
+        counter[0],
+        counter[1],
+        counter[2],
+        counter[3],
+        offset[0],
+        offset[1],
+        offset[2],
+        offset[3],
+        measured[0],
+        measured[1],
+        measured[2],
+        measured[3],
         faults.first,
         faults.second,
         faults.third,
@@ -67,15 +69,15 @@ fn state_row(state: State, locked: u8) -> [u8; 21]
 fn frame_row(frame: OpenFrame, begun: u8, longer: u8, parity: u8) -> [u8; 9]
     ensures { λ r. ⌜ r ≡ frameRow frame begun longer parity ⌝ }
 {
-    let last = frame.last;
+    let last = wire::bytes_of(frame.last);
     [
         begun,
         longer,
         parity,
-        (last % 256) as u8,
-        (last / 0x100 % 256) as u8,
-        (last / 0x10000 % 256) as u8,
-        (last / 0x1000000 % 256) as u8,
+        last[0],
+        last[1],
+        last[2],
+        last[3],
         frame.sum,
         frame.len,
     ]
@@ -123,14 +125,8 @@ fn put_stamp(parity: u8, tick: u32, sum: u8, image: &mut [u8])
     requires { ⌜ length (now image) ≡ 165 ⌝ }
     ensures { λ _. ⌜ now (image .exit) ≡ put (now (image .entry)) 23 (parity ∷ low4 tick (sum ∷ [])) ⌝ }
 {
-    let row = [
-        parity,
-        (tick % 256) as u8,
-        (tick / 0x100 % 256) as u8,
-        (tick / 0x10000 % 256) as u8,
-        (tick / 0x1000000 % 256) as u8,
-        sum,
-    ];
+    let stamp = wire::bytes_of(tick);
+    let row = [parity, stamp[0], stamp[1], stamp[2], stamp[3], sum];
     wire::fill(&row, &mut image[PARITY..COUNT]);
 }
 
@@ -143,7 +139,7 @@ fn go_on(tick: u32, value: u8, parity: bool, image: &mut [u8])
     let sum = image[SUM] ^ value;
     let faulty = image[PARITY] | flag_byte(parity);
     put_stamp(faulty, tick, sum, image);
-    if count < 135 {
+    if count < LONGEST_REQUEST as u8 {
         let at = KEPT + count as usize;
         image[at] = value;
         image[COUNT] = count + 1;

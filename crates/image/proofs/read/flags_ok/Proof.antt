@@ -10,15 +10,12 @@ use Rattle.image.proofs.read.flags_ok.Reads as reads
 use Rattle.image.proofs.read.flags_ok.Lts as lts
 use Rattle.wire.proofs.number_at.Reads as number-at-reads
 
--- src/read.rt:47:8
 number-at-requires : tie.Need-number-at-requires
 number-at-requires c κs = search needs
 
--- src/read.rt:48:9
 returns : tie.Need-returns
 returns c = sym (flags-bad _ (λ i. (c .before .before .shared-slice-known .given i) .fits) (λ z. c .if1 .taken (ap (λ (x : ℕ). bitAnd x 0xFEFEFEFE) (c .before .number-at .ensures) ∙ z)))
 
--- src/read.rt:44:1
 returns-2 : tie.Need-returns-2
 returns-2 c = sym (flags-fine _ (λ i. (c .before .before .shared-slice-known .given i) .fits) (ap (λ (x : ℕ). bitAnd x 0xFEFEFEFE) (sym (c .before .number-at .ensures)) ∙ c .if1 .left))
 

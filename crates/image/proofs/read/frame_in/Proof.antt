@@ -8,43 +8,33 @@ use Rattle.image.proofs.read.frame_in.Lts as lts
 use Rattle.image.proofs.read.is_one.Reads as is-one-reads
 use Rattle.wire.proofs.number_at.Reads as number-at-reads
 
--- src/read.rt:69:23
 shared-slice-read-is-one : tie.Need-shared-slice-read-is-one
 shared-slice-read-is-one c = search needs
 
--- src/read.rt:69:16
 is-one-requires : tie.Need-is-one-requires
 is-one-requires c κs = search needs
 
--- src/read.rt:70:15
 number-at-requires : tie.Need-number-at-requires
 number-at-requires c κs = search needs
 
--- src/read.rt:71:14
 shared-slice-read-t7 : tie.Need-shared-slice-read-t7
 shared-slice-read-t7 c = search needs
 
--- src/read.rt:72:14
 shared-slice-read-t9 : tie.Need-shared-slice-read-t9
 shared-slice-read-t9 c = search needs
 
--- src/read.rt:73:24
 shared-slice-read-is-one-2 : tie.Need-shared-slice-read-is-one-2
 shared-slice-read-is-one-2 c = search needs
 
--- src/read.rt:73:17
 is-one-requires-2 : tie.Need-is-one-requires-2
 is-one-requires-2 c κs = search needs
 
--- src/read.rt:74:24
 shared-slice-read-is-one-3 : tie.Need-shared-slice-read-is-one-3
 shared-slice-read-is-one-3 c = search needs
 
--- src/read.rt:74:17
 is-one-requires-3 : tie.Need-is-one-requires-3
 is-one-requires-3 c κs = search needs
 
--- src/read.rt:64:1
 returns : tie.Need-returns
 unfolding frameIn
 returns c = rw (c .before .before .before .before .before .before .before .is-one .ensures, c .before .before .before .before .before .before .number-at .ensures, c .before .before .is-one2 .ensures, c .is-one3 .ensures)

@@ -9,30 +9,27 @@ use Rattle.image.proofs.read.is_image.Reads as reads
 use Rattle.image.proofs.read.is_image.Lts as lts
 use Rattle.image.proofs.read.flags_ok.Reads as flags-ok-reads
 
--- src/read.rt:67:9
 returns : tie.Need-returns
 unfolding isImage
 returns c = simp (ne-eqb _ _ (c .if1 .taken))
 
--- src/read.rt:69:9
 flags-ok-requires : tie.Need-flags-ok-requires
 flags-ok-requires c κs = search needs
 
--- src/read.rt:70:9
 returns-2 : tie.Need-returns-2
 unfolding isImage
 returns-2 c = simp (eq-eqb _ _ (c .before .before .if1 .left), sym (c .before .flags-ok .ensures) ∙ not-true _ (c .if2 .taken))
 
--- src/read.rt:72:14
+cast-if3 : tie.Need-cast-if3
+cast-if3 c = search needs
+
 shared-slice-read-if3 : tie.Need-shared-slice-read-if3
 shared-slice-read-if3 c = search needs
 
--- src/read.rt:73:9
 returns-3 : tie.Need-returns-3
 unfolding isImage
 returns-3 c = simp (eq-eqb _ _ (c .before .before .before .before .if1 .left), sym (c .before .before .before .flags-ok .ensures) ∙ not-false _ (c .before .before .if2 .left), lt-leb _ _ (c .if3 .taken))
 
--- src/read.rt:63:1
 returns-4 : tie.Need-returns-4
 unfolding isImage
 returns-4 c = simp (eq-eqb _ _ (c .before .before .before .before .if1 .left), sym (c .before .before .before .flags-ok .ensures) ∙ not-false _ (c .before .before .if2 .left), le-leb _ _ (c .if3 .left))
@@ -44,6 +41,7 @@ is-image-spec =
     returns
     flags-ok-requires
     returns-2
+    cast-if3
     shared-slice-read-if3
     returns-3
     returns-4)

@@ -8,83 +8,63 @@ use Rattle.image.proofs.read.state_in.Lts as lts
 use Rattle.image.proofs.read.is_one.Reads as is-one-reads
 use Rattle.wire.proofs.number_at.Reads as number-at-reads
 
--- src/read.rt:47:18
 shared-slice-read-t5 : tie.Need-shared-slice-read-t5
 shared-slice-read-t5 c = search needs
 
--- src/read.rt:47:38
 add-t6 : tie.Need-add-t6
 add-t6 c = search needs
 
--- src/read.rt:47:32
 shared-slice-read-t8 : tie.Need-shared-slice-read-t8
 shared-slice-read-t8 c = search needs
 
--- src/read.rt:47:56
 add-t9 : tie.Need-add-t9
 add-t9 c = search needs
 
--- src/read.rt:47:50
 shared-slice-read-t11 : tie.Need-shared-slice-read-t11
 shared-slice-read-t11 c = search needs
 
--- src/read.rt:47:74
 add-t12 : tie.Need-add-t12
 add-t12 c = search needs
 
--- src/read.rt:47:68
 shared-slice-read-t14 : tie.Need-shared-slice-read-t14
 shared-slice-read-t14 c = search needs
 
--- src/read.rt:49:16
 shared-slice-read-t5-2 : tie.Need-shared-slice-read-t5-2
 shared-slice-read-t5-2 c = search needs
 
--- src/read.rt:50:23
 add-t6-2 : tie.Need-add-t6-2
 add-t6-2 c = search needs
 
--- src/read.rt:50:17
 shared-slice-read-t14-2 : tie.Need-shared-slice-read-t14-2
 shared-slice-read-t14-2 c = search needs
 
--- src/read.rt:51:22
 add-t12-2 : tie.Need-add-t12-2
 add-t12-2 c = search needs
 
--- src/read.rt:51:16
 shared-slice-read-t11-2 : tie.Need-shared-slice-read-t11-2
 shared-slice-read-t11-2 c = search needs
 
--- src/read.rt:52:23
 add-t9-2 : tie.Need-add-t9-2
 add-t9-2 c = search needs
 
--- src/read.rt:52:17
 shared-slice-read-t8-2 : tie.Need-shared-slice-read-t8-2
 shared-slice-read-t8-2 c = search needs
 
--- src/read.rt:53:24
 shared-slice-read-is-one : tie.Need-shared-slice-read-is-one
 shared-slice-read-is-one c = search needs
 
--- src/read.rt:53:17
 is-one-requires : tie.Need-is-one-requires
 is-one-requires c κs = search needs
 
--- src/read.rt:57:18
 number-at-requires : tie.Need-number-at-requires
 number-at-requires c κs = search needs
 
--- src/read.rt:58:17
 number-at-requires-2 : tie.Need-number-at-requires-2
 number-at-requires-2 c κs = search needs
 
--- src/read.rt:59:19
 number-at-requires-3 : tie.Need-number-at-requires-3
 number-at-requires-3 c κs = search needs
 
--- src/read.rt:43:1
 returns : tie.Need-returns
 unfolding stateIn
 returns c = rw (c .before .before .before .is-one .ensures, c .before .before .number-at .ensures, c .before .number-at2 .ensures, c .number-at3 .ensures)

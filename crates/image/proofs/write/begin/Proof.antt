@@ -10,35 +10,27 @@ use Rattle.image.proofs.write.put_frame.Reads as put-frame-reads
 use Rattle.line.proofs.characters.OpenFrame.none.Reads as none-reads
 use Rattle.line.proofs.characters.OpenFrame.with_character.Reads as with-character-reads
 
--- src/write.rt:109:17
 none-requires : tie.Need-none-requires
 none-requires c κs = search needs
 
--- src/write.rt:109:67
 sub-with-character : tie.Need-sub-with-character
 sub-with-character c = search needs
 
--- src/write.rt:109:67
 part-with-character-start : tie.Need-part-with-character-start
 part-with-character-start c = search needs
 
--- src/write.rt:109:67
 part-with-character-end : tie.Need-part-with-character-end
 part-with-character-end c = search needs
 
--- src/write.rt:109:9
 with-character-requires : tie.Need-with-character-requires
 with-character-requires c κs = nothing-fits (now (c .before .before .before .args .image)) (c .before .before .before .pre) (c .before .none .ensures)
 
--- src/write.rt:110:5
 put-frame-requires : tie.Need-put-frame-requires
 put-frame-requires c κs = search needs
 
--- src/write.rt:105:1
 same-length : tie.Need-same-length
 same-length c = search needs
 
--- src/write.rt:105:1
 returns : tie.Need-returns
 returns c = begins (now (c .before .before .before .before .before .before .before .before .before .before .args .image)) _ _ _ (c .before .before .before .before .before .before .before .before .before .before .pre) (c .before .before .before .before .before .before .before .before .none .ensures) (c .before .before .before .before .before .before .with-character .ensures) (c .before .before .put-frame .ensures)
 

@@ -5,12 +5,10 @@ use Rattle.image.proofs.write.flag_byte.Tie as tie
 use Rattle.image.proofs.write.flag_byte.Reads as reads
 use Rattle.image.proofs.write.flag_byte.Lts as lts
 
--- src/write.rt:17:9
 returns : tie.Need-returns
 unfolding flagByte
 returns c = simp (c .if1 .taken)
 
--- src/write.rt:13:1
 returns-2 : tie.Need-returns-2
 unfolding flagByte
 returns-2 c = simp (c .if1 .left)

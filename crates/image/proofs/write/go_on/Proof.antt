@@ -16,63 +16,51 @@ use Rattle.image.proofs.write.put_stamp.Reads as put-stamp-reads
 long : (c : tie.Start) → length (now (c .args .image)) ≡ 165
 long c = (good (now (c .args .image)) (c .pre .image)) .all
 
--- src/write.rt:134:17
 slice-read-count : tie.Need-slice-read-count
 slice-read-count c = omega (arith, long (c .before .before))
 
--- src/write.rt:135:15
 slice-read-sum : tie.Need-slice-read-sum
 slice-read-sum c = omega (arith, long (c .before .before .before))
 
--- src/write.rt:136:18
 slice-read-faulty : tie.Need-slice-read-faulty
 slice-read-faulty c = omega (arith, long (c .before .before .before .before))
 
--- src/write.rt:136:34
 flag-byte-requires : tie.Need-flag-byte-requires
 flag-byte-requires c κs = search needs
 
--- src/write.rt:137:5
 put-stamp-requires : tie.Need-put-stamp-requires
 put-stamp-requires c κs = long (c .before .before .before .before .before .before)
 
--- src/write.rt:139:25
+cast-if1 : tie.Need-cast-if1
+cast-if1 c = search needs
+
 cast-at : tie.Need-cast-at
 cast-at c = search needs
 
--- src/write.rt:139:18
 add-at : tie.Need-add-at
 add-at c = search needs
 
--- src/write.rt:140:9
 slice-write-image : tie.Need-slice-write-image
 slice-write-image c = omega (arith, c .if1 .taken, stamped-length (now (c .before .before .before .before .before .before .before .before .before .before .args .image)) (c .before .before .before .before .before .before .before .before .before .before .pre) _ _ _ (search needs) (c .before .before .before .before .before .flag-byte .ensures) (c .before .before .before .put-stamp .ensures))
 
--- src/write.rt:141:24
 add-image : tie.Need-add-image
 add-image c = search needs
 
--- src/write.rt:141:9
 slice-write-image-2 : tie.Need-slice-write-image-2
 slice-write-image-2 c = simp length-set (omega (arith, stamped-length (now (c .before .before .before .before .before .before .before .before .before .before .args .image)) (c .before .before .before .before .before .before .before .before .before .before .pre) _ _ _ (search needs) (c .before .before .before .before .before .flag-byte .ensures) (c .before .before .before .put-stamp .ensures)))
 
--- src/write.rt:142:9
 same-length : tie.Need-same-length
 same-length c = search needs
 
--- src/write.rt:142:9
 returns : tie.Need-returns
 returns c = goes-on (now (c .before .before .before .before .before .before .before .before .before .before .args .image)) (c .before .before .before .before .before .before .before .before .before .before .pre) _ _ _ (search needs) (c .before .before .before .before .before .flag-byte .ensures) (c .before .before .before .put-stamp .ensures) (c .if1 .taken)
 
--- src/write.rt:144:5
 slice-write-image-3 : tie.Need-slice-write-image-3
 slice-write-image-3 c = omega (arith, stamped-length (now (c .before .before .before .before .before .before .before .before .before .before .args .image)) (c .before .before .before .before .before .before .before .before .before .before .pre) _ _ _ (search needs) (c .before .before .before .before .before .flag-byte .ensures) (c .before .before .before .put-stamp .ensures))
 
--- src/write.rt:130:1
 same-length-2 : tie.Need-same-length-2
 same-length-2 c = search needs
 
--- src/write.rt:130:1
 returns-2 : tie.Need-returns-2
 returns-2 c = goes-past (now (c .before .before .before .before .before .before .before .before .before .before .args .image)) (c .before .before .before .before .before .before .before .before .before .before .pre) _ _ _ (search needs) (c .before .before .before .before .before .flag-byte .ensures) (c .before .before .before .put-stamp .ensures) (c .if1 .left)
 
@@ -85,6 +73,7 @@ go-on-spec =
     slice-read-faulty
     flag-byte-requires
     put-stamp-requires
+    cast-if1
     cast-at
     add-at
     slice-write-image

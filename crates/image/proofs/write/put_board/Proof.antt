@@ -8,19 +8,15 @@ use Rattle.image.proofs.write.put_board.Lts as lts
 use Rattle.image.proofs.write.put_frame.Reads as put-frame-reads
 use Rattle.image.proofs.write.put_state.Reads as put-state-reads
 
--- src/write.rt:108:5
 put-state-requires : tie.Need-put-state-requires
 put-state-requires c κs = search needs
 
--- src/write.rt:109:5
 put-frame-requires : tie.Need-put-frame-requires
 put-frame-requires c κs = search needs
 
--- src/write.rt:104:1
 same-length : tie.Need-same-length
 same-length c = search needs
 
--- src/write.rt:104:1
 returns : tie.Need-returns
 returns c = puts-board _ _ _ (c .before .before .before .before .before .before .before .before .before .pre) (c .before .before .before .before .before .before .put-state .ensures) (c .before .before .put-frame .ensures)
 

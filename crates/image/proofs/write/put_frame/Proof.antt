@@ -11,50 +11,39 @@ use Rattle.wire.proofs.fill.Reads as fill-reads
 use Rattle.image.proofs.write.flag_byte.Reads as flag-byte-reads
 use Rattle.image.proofs.write.frame_row.Reads as frame-row-reads
 
--- src/write.rt:87:9
 flag-byte-requires : tie.Need-flag-byte-requires
 flag-byte-requires c κs = search needs
 
--- src/write.rt:88:9
 flag-byte-requires-2 : tie.Need-flag-byte-requires-2
 flag-byte-requires-2 c κs = search needs
 
--- src/write.rt:89:9
 flag-byte-requires-3 : tie.Need-flag-byte-requires-3
 flag-byte-requires-3 c κs = search needs
 
--- src/write.rt:90:15
 frame-row-requires : tie.Need-frame-row-requires
 frame-row-requires c κs = search needs
 
--- src/write.rt:91:17
 slice-aggregate-fill : tie.Need-slice-aggregate-fill
 slice-aggregate-fill c = search needs
 
--- src/write.rt:91:23
 sub-fill : tie.Need-sub-fill
 sub-fill c = search needs
 
--- src/write.rt:91:23
 part-fill-start : tie.Need-part-fill-start
 part-fill-start c = search needs
 
--- src/write.rt:91:23
 part-fill-end : tie.Need-part-fill-end
 part-fill-end c = search needs
 
--- src/write.rt:91:5
 fill-requires : tie.Need-fill-requires
 fill-requires c κs = search needs
 
--- src/write.rt:83:1
 same-length : tie.Need-same-length
 same-length c = search needs
 
 stamp : (c : tie.Start) → c .args .frame .last < 2 ^ 32
 stamp c = search needs
 
--- src/write.rt:83:1
 returns : tie.Need-returns
 returns c = puts-frame _ (now (c .before .before .before .before .before .before .before .before .before .before .args .image)) (c .before .before .before .before .before .before .before .before .before .before .pre) (stamp (c .before .before .before .before .before .before .before .before .before .before)) (c .before .before .before .before .before .before .before .before .flag-byte .ensures) (c .before .before .before .before .before .before .before .flag-byte2 .ensures) (c .before .before .before .before .before .before .flag-byte3 .ensures) (c .before .before .before .before .before .frame-row .ensures) (c .before .before .fill .ensures)
 

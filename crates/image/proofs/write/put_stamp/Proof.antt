@@ -8,59 +8,57 @@ use Rattle.image.proofs.write.put_stamp.Tie as tie
 use Rattle.image.proofs.write.put_stamp.Reads as reads
 use Rattle.image.proofs.write.put_stamp.Lts as lts
 use Rattle.wire.proofs.fill.Reads as fill-reads
+use Rattle.wire.proofs.bytes_of.Reads as bytes-of-reads
 
--- src/write.rt:120:9
-cast-t7 : tie.Need-cast-t7
-cast-t7 c = search needs
+bytes-of-requires : tie.Need-bytes-of-requires
+bytes-of-requires c κs = search needs
 
--- src/write.rt:121:9
-cast-t10 : tie.Need-cast-t10
-cast-t10 c = search needs
+array-read-t10 : tie.Need-array-read-t10
+array-read-t10 c = search needs
 
--- src/write.rt:122:9
-cast-t13 : tie.Need-cast-t13
-cast-t13 c = search needs
+array-read-t13 : tie.Need-array-read-t13
+array-read-t13 c = search needs
 
--- src/write.rt:123:9
-cast-t16 : tie.Need-cast-t16
-cast-t16 c = search needs
+array-read-t16 : tie.Need-array-read-t16
+array-read-t16 c = search needs
 
--- src/write.rt:126:17
+array-read-t19 : tie.Need-array-read-t19
+array-read-t19 c = search needs
+
 slice-aggregate-fill : tie.Need-slice-aggregate-fill
 slice-aggregate-fill c = search needs
 
--- src/write.rt:126:23
 sub-fill : tie.Need-sub-fill
 sub-fill c = search needs
 
--- src/write.rt:126:23
 part-fill-start : tie.Need-part-fill-start
 part-fill-start c = search needs
 
--- src/write.rt:126:23
 part-fill-end : tie.Need-part-fill-end
 part-fill-end c = search needs
 
--- src/write.rt:126:5
 fill-requires : tie.Need-fill-requires
 fill-requires c κs = search needs
 
--- src/write.rt:114:1
 same-length : tie.Need-same-length
 same-length c = search needs
 
--- src/write.rt:114:1
 returns : tie.Need-returns
-returns c = part-filled (now (c .before .before .before .before .before .before .args .image)) 23 6 _ (search needs) refl (c .before .before .fill .ensures)
+returns c =
+    let after-fill = c .before .before in
+    let after-bytes-of = after-fill .before .before .before in
+    let start = after-bytes-of .before .before in
+    part-filled (now (start .args .image)) 23 6 _ (search needs) refl (rw (after-bytes-of .bytes-of .ensures) at (after-fill .fill .ensures))
 
 pub put-stamp-spec : {M : Type 1} → statement M
 put-stamp-spec =
     tie.close
     (tie.spec
-    cast-t7
-    cast-t10
-    cast-t13
-    cast-t16
+    bytes-of-requires
+    array-read-t10
+    array-read-t13
+    array-read-t16
+    array-read-t19
     slice-aggregate-fill
     sub-fill
     part-fill-start

@@ -9,30 +9,24 @@ use Rattle.wire.proofs.fill.Reads as fill-reads
 use Rattle.image.proofs.write.flag_byte.Reads as flag-byte-reads
 use Rattle.image.proofs.write.state_row.Reads as state-row-reads
 
--- src/write.rt:79:32
 flag-byte-requires : tie.Need-flag-byte-requires
 flag-byte-requires c κs = search needs
 
--- src/write.rt:79:15
 state-row-requires : tie.Need-state-row-requires
 state-row-requires c κs = search needs
 
--- src/write.rt:80:17
 slice-aggregate-fill : tie.Need-slice-aggregate-fill
 slice-aggregate-fill c = search needs
 
--- src/write.rt:80:5
 fill-requires : tie.Need-fill-requires
 fill-requires c κs = search needs
 
--- src/write.rt:74:1
 same-length : tie.Need-same-length
 same-length c = search needs
 
 typed : (c : tie.Start) → Typed (c .args .state)
 typed c = record { codes = search needs; counter = search needs; offset = search needs; measured = search needs }
 
--- src/write.rt:74:1
 returns : tie.Need-returns
 returns c = puts-state _ _ (typed (c .before .before .before .before .before .before .before .before .before)) (c .before .before .before .before .before .state-row .ensures) (c .before .before .fill .ensures)
 

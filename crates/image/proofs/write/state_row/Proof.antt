@@ -5,93 +5,92 @@ use Rattle.image.proofs.write.state_row.Statement.{statement}
 use Rattle.image.proofs.write.state_row.Tie as tie
 use Rattle.image.proofs.write.state_row.Reads as reads
 use Rattle.image.proofs.write.state_row.Lts as lts
+use Rattle.wire.proofs.bytes_of.Reads as bytes-of-reads
 
--- src/write.rt:32:9
-array-read-t10 : tie.Need-array-read-t10
-array-read-t10 c = search needs
+bytes-of-requires : tie.Need-bytes-of-requires
+bytes-of-requires c κs = search needs
 
--- src/write.rt:33:9
-array-read-t13 : tie.Need-array-read-t13
-array-read-t13 c = search needs
+bytes-of-requires-2 : tie.Need-bytes-of-requires-2
+bytes-of-requires-2 c κs = search needs
 
--- src/write.rt:34:9
-array-read-t16 : tie.Need-array-read-t16
-array-read-t16 c = search needs
+bytes-of-requires-3 : tie.Need-bytes-of-requires-3
+bytes-of-requires-3 c κs = search needs
 
--- src/write.rt:35:9
-array-read-t19 : tie.Need-array-read-t19
-array-read-t19 c = search needs
+array-read-t11 : tie.Need-array-read-t11
+array-read-t11 c = search needs
 
--- src/write.rt:36:9
-cast-t21 : tie.Need-cast-t21
-cast-t21 c = search needs
+array-read-t14 : tie.Need-array-read-t14
+array-read-t14 c = search needs
 
--- src/write.rt:37:9
-cast-t24 : tie.Need-cast-t24
-cast-t24 c = search needs
+array-read-t17 : tie.Need-array-read-t17
+array-read-t17 c = search needs
 
--- src/write.rt:38:9
-cast-t27 : tie.Need-cast-t27
-cast-t27 c = search needs
+array-read-t20 : tie.Need-array-read-t20
+array-read-t20 c = search needs
 
--- src/write.rt:39:9
-cast-t30 : tie.Need-cast-t30
-cast-t30 c = search needs
+array-read-t23 : tie.Need-array-read-t23
+array-read-t23 c = search needs
 
--- src/write.rt:40:9
-cast-t32 : tie.Need-cast-t32
-cast-t32 c = search needs
+array-read-t26 : tie.Need-array-read-t26
+array-read-t26 c = search needs
 
--- src/write.rt:41:9
-cast-t35 : tie.Need-cast-t35
-cast-t35 c = search needs
+array-read-t29 : tie.Need-array-read-t29
+array-read-t29 c = search needs
 
--- src/write.rt:42:9
-cast-t38 : tie.Need-cast-t38
-cast-t38 c = search needs
+array-read-t32 : tie.Need-array-read-t32
+array-read-t32 c = search needs
 
--- src/write.rt:43:9
-cast-t41 : tie.Need-cast-t41
-cast-t41 c = search needs
+array-read-t35 : tie.Need-array-read-t35
+array-read-t35 c = search needs
 
--- src/write.rt:44:9
-cast-t43 : tie.Need-cast-t43
-cast-t43 c = search needs
+array-read-t38 : tie.Need-array-read-t38
+array-read-t38 c = search needs
 
--- src/write.rt:45:9
-cast-t46 : tie.Need-cast-t46
-cast-t46 c = search needs
+array-read-t41 : tie.Need-array-read-t41
+array-read-t41 c = search needs
 
--- src/write.rt:46:9
-cast-t49 : tie.Need-cast-t49
-cast-t49 c = search needs
+array-read-t44 : tie.Need-array-read-t44
+array-read-t44 c = search needs
 
--- src/write.rt:47:9
-cast-t52 : tie.Need-cast-t52
-cast-t52 c = search needs
+array-read-t47 : tie.Need-array-read-t47
+array-read-t47 c = search needs
 
--- src/write.rt:22:1
+array-read-t50 : tie.Need-array-read-t50
+array-read-t50 c = search needs
+
+array-read-t53 : tie.Need-array-read-t53
+array-read-t53 c = search needs
+
+array-read-t56 : tie.Need-array-read-t56
+array-read-t56 c = search needs
+
 returns : tie.Need-returns
-returns c = λ l. state-row _ l (c .before .before .pre)
+returns c =
+    let after-bytes-of = c .before .before in
+    let start = after-bytes-of .before .before .before in
+    λ l. state-row _ l (start .pre) (after-bytes-of .bytes-of .ensures) (c .before .bytes-of2 .ensures) (c .bytes-of3 .ensures)
 
 pub state-row-spec : {M : Type 1} → statement M
 state-row-spec =
     tie.close
     (tie.spec
-    array-read-t10
-    array-read-t13
-    array-read-t16
-    array-read-t19
-    cast-t21
-    cast-t24
-    cast-t27
-    cast-t30
-    cast-t32
-    cast-t35
-    cast-t38
-    cast-t41
-    cast-t43
-    cast-t46
-    cast-t49
-    cast-t52
+    bytes-of-requires
+    bytes-of-requires-2
+    bytes-of-requires-3
+    array-read-t11
+    array-read-t14
+    array-read-t17
+    array-read-t20
+    array-read-t23
+    array-read-t26
+    array-read-t29
+    array-read-t32
+    array-read-t35
+    array-read-t38
+    array-read-t41
+    array-read-t44
+    array-read-t47
+    array-read-t50
+    array-read-t53
+    array-read-t56
     returns)

@@ -16,31 +16,24 @@ use Rattle.image.proofs.write.go_on.Reads as go-on-reads
 long : (c : tie.Start) → length (now (c .args .image)) ≡ 165
 long c = (good (now (c .args .image)) (c .pre)) .all
 
--- src/write.rt:152:8
 slice-read-if1 : tie.Need-slice-read-if1
 slice-read-if1 c = omega (arith, long (c .before .before))
 
--- src/write.rt:153:9
 go-on-requires : tie.Need-go-on-requires
 go-on-requires c κs = search needs
 
--- src/write.rt:154:9
 same-length : tie.Need-same-length
 same-length c = search needs
 
--- src/write.rt:154:9
 returns : tie.Need-returns
 returns c = open-taken _ _ _ _ _ (c .before .before .before .before .if1 .taken) (c .before .before .go-on .ensures)
 
--- src/write.rt:156:5
 begin-requires : tie.Need-begin-requires
 begin-requires c κs = long (c .before .before .before .before)
 
--- src/write.rt:148:1
 same-length-2 : tie.Need-same-length-2
 same-length-2 c = search needs
 
--- src/write.rt:148:1
 returns-2 : tie.Need-returns-2
 returns-2 c = first-taken _ _ _ _ _ (c .before .before .before .before .if1 .left) (c .before .before .begin .ensures)
 
