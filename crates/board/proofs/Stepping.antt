@@ -33,7 +33,7 @@ use Rattle.board.specs.declared.limits.Stepped.{Stepped}
 use Rattle.board.specs.declared.closing.Closed.{Closed}
 use Rattle.board.specs.Board.{stateOf, fitsIn, within, takenIf, refusalOn, refusedAs, isRefusal, calledOn, outcomeOf, Steps}
 use Rattle.board.specs.Work.{Closes}
-use Rattle.board.proofs.Bounding.{lends-poll, alone-by, few-kept, facts, as-told, refused-alike, none-refused, some-refused}
+use Rattle.board.proofs.Bounding.{lends-poll, alone-by, few-kept, facts, refusal-few, as-told, refused-alike, none-refused, some-refused}
 
 -- bytes put where they stand already
 pub put-own : (kept : List ℕ) (n : ℕ) → kept ≡ put kept 0 (take n kept)
@@ -79,6 +79,10 @@ module _ (p : Plate) (b : Board) (k m w : List ℕ) (g : Call) where
       go : (t : Bool) → eqb (refusalOn p b k m (length w) g) 0 ≡ t → (calledOn p b k m w g) .refusal ≡ refusalOn p b k m (length w) g
       go true z = let e = eqb-true (refusalOn p b k m (length w) g) 0 z in ap (λ (h : Held). h .refusal) (held-on e) ∙ sym e
       go false z = ap (λ (h : Held). h .refusal) (held-refused refl (eqb-false (refusalOn p b k m (length w) g) 0 z))
+
+  -- R1 to R3 have no higher number
+  pub held-few : (calledOn p b k m w g) .refusal ≤ 3
+  held-few = rw told-refusal (refusal-few p b k m (length w) g)
 
   pub refused : {o : code.Outcome} {r : Stepped} → r ≡ (record { board = b; outcome = o }) → o ≡ refusedAs (refusalOn p b k m (length w) g) Still
       → isRefusal o ≡ true → Steps p b k m w g r k m w

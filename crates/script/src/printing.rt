@@ -4,7 +4,7 @@ pub fn say(text: &[u8]) {
 }
 
 // The last hexadecimal digit.
-pub fn digit(value: u8) -> u8 {
+fn digit(value: u8) -> u8 {
     let low = value % 16;
     if low < 10 {
         return 0x30 + low;

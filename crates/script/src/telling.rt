@@ -1,5 +1,4 @@
 // What came of a word, printed.
-use crate::printing::digit;
 use crate::printing::say;
 use crate::printing::show;
 use crate::printing::show_byte;
@@ -11,10 +10,9 @@ pub fn tell(sign: u8, outcome: Outcome, room: &[u8]) {
         return;
     }
     match outcome {
-        Outcome::Refused(number) => {
-            let text = [0x20, 0x52, digit(number)];
-            say(&text);
-        }
+        Outcome::R1 => say(b" R1"),
+        Outcome::R2 => say(b" R2"),
+        Outcome::R3 => say(b" R3"),
         Outcome::Still => match sign {
             b'?' | b'.' => say(b" still"),
             _ => {}
