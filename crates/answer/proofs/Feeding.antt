@@ -8,7 +8,7 @@ use types.Run.{OneOf, miss}
 use denote.Enum.Declared.{tagOf}
 use Rattle.tape.specs.Text.{firstLine}
 use Rattle.tape.specs.Reader.{Printed}
-use Rattle.tape.proofs.Texts.{same-room}
+use Rattle.tape.proofs.Texts.{same-size}
 use Rattle.passes.specs.declared.session.Phase.{Phase}
 use Rattle.passes.specs.declared.session.Phase.the-variants.{Ended}
 use Rattle.passes.specs.declared.session.Session.{Session}
@@ -41,13 +41,13 @@ module _ (s : Session) (kept m w out : List ℕ) (used : ℕ) (ready : Ready s [
       → Leaves (record { session = r .session; at = at + r .read; used = r .used }) window kept′ m′ w′ out′
   eaten-leaves window part at r kept′ m′ w′ out′ h l i e k₁ k₂ k₃ = record {
     inside = omega (arith, e .inside);
-    space = omega (arith, e .printed .within, same-room (e .printed));
+    space = omega (arith, e .printed .within, same-size (e .printed));
     ready = λ n. record {
       steady = e .steady n;
       lent = k₁ ∙ ready .lent;
       size = k₂ ∙ ready .size;
       room = omega (arith, k₃, ready .room);
-      space = omega (arith, e .printed .within, same-room (e .printed));
+      space = omega (arith, e .printed .within, same-size (e .printed));
       place = omega (arith, e .place, e .read, e .inside);
     };
   }
@@ -63,6 +63,6 @@ ready-first s window kept m w out out′ used b t p = record {
   lent = b .kept-size;
   size = ap length (b .blank) ∙ length-replicate {A = ℕ} largestImage 0;
   room = b .reply-size;
-  space = omega (arith, p .within, same-room p);
+  space = omega (arith, p .within, same-size p);
   place = rw (t .place) (omega arith);
 }

@@ -10,7 +10,7 @@ use lib.Seq.{take-suc, take-at, getD-drop, length-take-le}
 use Rattle.meaning.specs.Bytes.{part, put}
 use Rattle.meaning.proofs.Puts.{put-after}
 use Rattle.tape.proofs.Bytes.{length-part}
-use Rattle.tape.proofs.Rooms.{put-nil, put-last}
+use Rattle.tape.proofs.Outputs.{put-nil, put-last}
 
 -- no byte has gone to the front yet
 pub none-shifted : (w : List ℕ) (from : ℕ) → w ≡ put w 0 (part w from 0)

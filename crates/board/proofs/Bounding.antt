@@ -2,9 +2,9 @@
 use Prim.Native.Nat.{ℕ, _≤_, _<_}
 use native.Mathlib.Omega.{arith}
 use mathlib.Core.Path.{_≡_, refl, sym, ap, _∙_}
-use mathlib.Core.Bool.{Bool, true, false, not, _&&_}
+use mathlib.Core.Bool.{Bool, true, false, not, _&&_, false≢true}
 use mathlib.Core.List.{List}
-use borrow.Author.Tests.{le-leb, lt-leb, eq-eqb, leb-true, eqb-true, ltb-false}
+use borrow.Author.Tests.{le-leb, lt-leb, eq-eqb, ne-eqb, leb-true, eqb-true, eqb-false, ltb-false}
 use lib.Dec.{eqb, leb, ltb}
 use lib.ListN.{length, take, length-take}
 use Rattle.meaning.specs.Bytes.{pick, both, either}
@@ -15,7 +15,9 @@ use Rattle.line.specs.declared.plate.Plate as line
 use Rattle.line.specs.Line.{plateOf}
 use Rattle.board.specs.declared.limits.Board.{Board}
 use Rattle.board.specs.Work.{Ready}
-use Rattle.board.specs.Board.{stateOf, fitsIn, within, refusalOn}
+use Rattle.board.specs.declared.limits.Outcome.{Outcome}
+use Rattle.board.specs.declared.limits.Outcome.the-variants.{R1, R2, R3, Still}
+use Rattle.board.specs.Board.{stateOf, fitsIn, within, refusalOn, refusedAs, refusalNumber, isRefusal}
 use Rattle.meaning.proofs.Choices.{both-left, both-true, both-false, and-both}
 
 pub lends-poll : (t : ℕ) → lends (poll t) ≡ true
@@ -72,6 +74,55 @@ module _ (p : Plate) (b : Board) (k : List ℕ) where
   in-order m r g {w} h e f l i j o =
       rw (l, ← i, ← j, ← o, ← e, ← f)
       (sym (limit-told _ h ∙ ap (λ (n : ℕ). pick (w && eqb (length k) 135) n 1) (other-way (eqb (length m) (memoryLength (p .total))) _)))
+
+-- R1 to R3 have no higher number
+pub refusal-few : (p : Plate) (b : Board) (kept m : List ℕ) (r : ℕ) (g : Call) → refusalOn p b kept m r g ≤ 3
+unfolding refusalOn refusedBy
+refusal-few p b kept m r g =
+    go (fitsIn b kept) (either (not (plateOk p)) (not (stateOk p (stateOf b kept)))) (lends g) (not (eqb (length m) (memoryLength (p .total)))) (ltb r 134)
+  where
+    go : (x y z u v : Bool) → pick x (pick y 1 (pick z (pick u 2 (pick v 3 0)) 0)) 1 ≤ 3
+    go false y z u v = omega arith
+    go true true z u v = omega arith
+    go true false false u v = omega arith
+    go true false true true v = omega arith
+    go true false true false true = omega arith
+    go true false true false false = omega arith
+
+-- ---- refusals by number and by case
+
+pub as-told : {n k : ℕ} → n ≡ k → refusedAs n Still ≡ refusedAs k Still
+as-told e = ap (λ (x : ℕ). refusedAs x Still) e
+
+-- a refusal is the same, whatever else would have come of the call
+pub refused-alike : (n : ℕ) (x y : Outcome) → (n ≡ 0 → ⊥) → refusedAs n x ≡ refusedAs n y
+unfolding refusedAs
+refused-alike n x y h = rw (ne-eqb n 0 h)
+
+pub none-refused : (n : ℕ) (o : Outcome) → isRefusal (refusedAs n o) ≡ false → n ≡ 0
+unfolding refusedAs
+none-refused n o = go (eqb n 0) (eqb n 1) (eqb n 2) refl
+  where
+    go : (x y z : Bool) → eqb n 0 ≡ x → isRefusal (pick x o (pick y R1 (pick z R2 R3))) ≡ false → n ≡ 0
+    go true y z k e = eqb-true n 0 k
+    go false true z k e = absurd (false≢true (sym e))
+    go false false true k e = absurd (false≢true (sym e))
+    go false false false k e = absurd (false≢true (sym e))
+
+pub some-refused : (n : ℕ) (o : Outcome) → isRefusal o ≡ false → isRefusal (refusedAs n o) ≡ true → n ≡ 0 → ⊥
+unfolding refusedAs
+some-refused n o i e z = false≢true (sym i ∙ rw z at e)
+
+-- 01's number of a refusal comes back
+pub number-back : (n : ℕ) (o : Outcome) → n ≤ 3 → refusalNumber o ≡ 0 → refusalNumber (refusedAs n o) ≡ n
+unfolding refusedAs
+number-back n o h z = go (eqb n 0) (eqb n 1) (eqb n 2) refl refl refl
+  where
+    go : (x y w : Bool) → eqb n 0 ≡ x → eqb n 1 ≡ y → eqb n 2 ≡ w → refusalNumber (pick x o (pick y R1 (pick w R2 R3))) ≡ n
+    go true y w i j k = z ∙ sym (eqb-true n 0 i)
+    go false true w i j k = sym (eqb-true n 1 j)
+    go false false true i j k = sym (eqb-true n 2 k)
+    go false false false i j k = omega (arith, eqb-false n 0 i, eqb-false n 1 j, eqb-false n 2 k)
 
 pub few-kept : (p : Plate) (b : Board) (k : List ℕ) → within p b k ≡ true → b .frame .len ≤ 135
 unfolding within

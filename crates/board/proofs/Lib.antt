@@ -4,4 +4,5 @@ pub mod Stepping
 mod Sending
 pub mod Endings
 mod Dispatch
+pub mod Quickening
 pub mod Promises

@@ -1,13 +1,13 @@
 -- The board does the meaning's step, stays within the limits, and its contracts leave no choice. Assumes nothing.
-use Prim.Native.Nat.{ℕ, zero, suc, _≤_}
+use Prim.Native.Nat.{ℕ, _≤_}
 use native.Mathlib.Omega.{arith}
 use native.Mathlib.Decide.{ℕ-discrete}
 use mathlib.Core.Path.{_≡_, refl, sym, ap, _∙_}
-use mathlib.Core.Bool.{Bool, true, false}
-use mathlib.Core.List.{List, [], _∷_}
+use mathlib.Core.Bool.{Bool, true, false, false≢true}
+use mathlib.Core.List.{List, []}
 use borrow.Author.Tests.{le-leb, eq-eqb, le-ltb, eqb-true}
 use lib.Dec.{eqb, leb}
-use lib.ListN.{length, take, length-take, length-replicate}
+use lib.ListN.{length, take, drop, length-take, length-replicate}
 use Rattle.meaning.specs.Bytes.{pick, put, both, zeros}
 use Rattle.meaning.specs.State as meaning
 use Rattle.meaning.specs.State.{Plate, Line, stateOk, fresh}
@@ -25,16 +25,20 @@ use Rattle.state.proofs.Same.{same-state}
 use Rattle.board.specs.declared.limits.Board.{Board}
 use Rattle.board.specs.declared.limits.Outcome as code
 use Rattle.board.specs.declared.limits.Stepped.{Stepped}
-use Rattle.board.specs.Board.{stateOf, fitsIn, refusalOn, calledOn, outcomeOf, Steps}
+use Rattle.board.specs.Board.{stateOf, fitsIn, refusalOn, refusedAs, calledOn, outcomeOf, ReadsOldest, Steps}
 use Rattle.board.specs.Promises.{DoesStep, Within, Reached, start, next}
 use Rattle.meaning.proofs.Choices.{told-true, true-told, pick-same}
 use Rattle.board.proofs.Bounding.{lends-poll}
-use Rattle.board.proofs.Stepping.{held-on}
+use Rattle.board.specs.declared.faults.Oldest.{Oldest}
+use Rattle.board.specs.declared.quick.Quick.{Quick}
+use Rattle.board.specs.Quick.{ClosesNone, ClosesOne, QuicklyBy, Quickly}
+use Rattle.board.proofs.Stepping.{held-on, same-len}
+use Rattle.board.proofs.Quickening.{fits-told, told-fits}
 
 -- where nothing is refused, the call does the meaning's step
 module _ (p : Plate) (b : Board) (k m w : List ℕ) {r : Stepped} {k′ m′ w′ : List ℕ} where
   pub does-step : (g : Call) → refusalOn p b k m (length w) g ≡ 0 → Steps p b k m w g r k′ m′ w′ → DoesStep p b k m w g r k′ m′ w′
-  unfolding outcomeOf
+  unfolding outcomeOf refusedAs
   does-step g e s =
       let h = held-on p b k m w g e in
       record { state = rw h at (s .state); memory = rw h at (s .memory); room = rw h at (s .room); outcome = rw h at (s .outcome) }
@@ -139,9 +143,9 @@ calls-tight p b k m w g {r} {t} {k′} {k″} x y =
         same-state-same-board (r .board) (t .board) k′ (x .few e) (y .few e) long (x .state ∙ sym (ap (stateOf (t .board)) kk ∙ y .state))
     go (no h) = x .refused h ∙ sym (y .refused h)
 
-pub refusal-tight : (p : Plate) (b : Board) (k m n : ℕ) (x y : ℕ)
-    → ((kept mem : List ℕ) (g : Call) → length kept ≡ k → length mem ≡ m → lends g ≡ true → x ≡ refusalOn p b kept mem n g)
-    → ((kept mem : List ℕ) (g : Call) → length kept ≡ k → length mem ≡ m → lends g ≡ true → y ≡ refusalOn p b kept mem n g) → x ≡ y
+pub refusal-tight : (p : Plate) (b : Board) (k m n : ℕ) (x y : code.Outcome)
+    → ((kept mem : List ℕ) (g : Call) → length kept ≡ k → length mem ≡ m → lends g ≡ true → x ≡ refusedAs (refusalOn p b kept mem n g) code.the-variants.Still)
+    → ((kept mem : List ℕ) (g : Call) → length kept ≡ k → length mem ≡ m → lends g ≡ true → y ≡ refusedAs (refusalOn p b kept mem n g) code.the-variants.Still) → x ≡ y
 refusal-tight p b k m n x y h i =
     h (zeros k) (zeros m) (run.poll 0) (length-replicate {A = ℕ} k 0) (length-replicate {A = ℕ} m 0) (lends-poll 0)
     ∙ sym (i (zeros k) (zeros m) (run.poll 0) (length-replicate {A = ℕ} k 0) (length-replicate {A = ℕ} m 0) (lends-poll 0))
@@ -152,16 +156,64 @@ pub alone-tight : (p : Plate) (b : Board) (g : Call) (r t : Stepped) → ((kept 
 alone-tight p b g r t h i =
     (calls-tight p b (zeros 135) [] [] g (h (zeros 135) [] [] (length-replicate {A = ℕ} 135 0)) (i (zeros 135) [] [] (length-replicate {A = ℕ} 135 0))) .stepped
 
--- a fresh board keeps no byte
-pub fresh-empty : (p : Plate) (b : Board) → ((kept : List ℕ) → stateOf b kept ≡ fresh p) → b .frame .len ≡ 0
-unfolding fresh meaning.none
-fresh-empty p b h = go (b .frame .len) (ap (λ (x : meaning.State). x .line .kept) (h (0 ∷ [])))
-  where
-    go : (n : ℕ) → take {A = ℕ} n (0 ∷ []) ≡ [] → n ≡ 0
-    go zero e = refl
-    go (suc n) e = absurd (omega (arith, ap length e))
+-- ---- what a board says of any places, it says of itself
+
+frames : {b c : Bool} {l l′ n n′ x x′ : ℕ} {o o′ q q′ : Bool} → b ≡ c → l ≡ l′ → n ≡ n′ → x ≡ x′ → o ≡ o′ → q ≡ q′
+    → _≡_ {A = OpenFrame} (record { begun = b; last = l; len = n; sum = x; longer = o; parity = q }) (record { begun = c; last = l′; len = n′; sum = x′; longer = o′; parity = q′ })
+frames e f g h i j = rw (e, f, g, h, i, j)
+
+pub board-tight : (a b : Board) (x : List ℕ → meaning.State) → ((kept : List ℕ) → stateOf a kept ≡ x kept) → ((kept : List ℕ) → stateOf b kept ≡ x kept) → a ≡ b
+board-tight a b x h i =
+    let e : (kept : List ℕ) → stateOf a kept ≡ stateOf b kept = λ kept. h kept ∙ sym (i kept) in
+    let l : lineOf (a .frame) [] ≡ lineOf (b .frame) [] = ap (λ (s : meaning.State). s .line) (e []) in
+    boards (same-state (a .state) (b .state) (lineOf (a .frame) []) (lineOf (b .frame) []) (e []))
+    (frames (ap (λ (y : Line). y .begun) l) (ap (λ (y : Line). y .last) l) (same-len a b (λ kept. ap (λ (s : meaning.State). s .line .kept) (e kept)))
+    (ap (λ (y : Line). y .sum) l) (ap (λ (y : Line). y .longer) l) (ap (λ (y : Line). y .parity) l))
 
 pub fresh-tight : (p : Plate) (a b : Board) → ((kept : List ℕ) → stateOf a kept ≡ fresh p) → ((kept : List ℕ) → stateOf b kept ≡ fresh p) → a ≡ b
-fresh-tight p a b h i =
-    same-state-same-board a b (zeros 135) (omega (arith, fresh-empty p a h)) (omega (arith, fresh-empty p b i)) (omega (arith, length-replicate {A = ℕ} 135 0))
-    (h (zeros 135) ∙ sym (i (zeros 135)))
+fresh-tight p a b = board-tight a b (λ kept. fresh p)
+
+pub note-tight : (b : Board) (c : ℕ) (x y : Board) → ((kept : List ℕ) → stateOf x kept ≡ meaning.noted (stateOf b kept) c)
+    → ((kept : List ℕ) → stateOf y kept ≡ meaning.noted (stateOf b kept) c) → x ≡ y
+note-tight b c x y = board-tight x y (λ kept. meaning.noted (stateOf b kept) c)
+
+pub power-on-tight : (b x y : Board) → ((kept : List ℕ) → stateOf x kept ≡ meaning.poweredOn (stateOf b kept))
+    → ((kept : List ℕ) → stateOf y kept ≡ meaning.poweredOn (stateOf b kept)) → x ≡ y
+power-on-tight b x y = board-tight x y (λ kept. meaning.poweredOn (stateOf b kept))
+
+oldests : {c e : ℕ} {a b : Board} → c ≡ e → a ≡ b → _≡_ {A = Oldest} (record { code = c; board = a }) (record { code = e; board = b })
+oldests i j = rw (i, j)
+
+pub read-tight : (b : Board) (x y : Oldest) → ReadsOldest b x → ReadsOldest b y → x ≡ y
+read-tight b x y h i =
+    oldests (h .code [] ∙ sym (i .code []))
+    (board-tight (x .board) (y .board) (λ kept. meaning.withQueue (stateOf b kept) (drop 1 ((stateOf b kept) .queue))) (h .board) (i .board))
+
+pub is-open-tight : (b : Board) (x y : Bool) → ((kept : List ℕ) → x ≡ (stateOf b kept) .line .begun) → ((kept : List ℕ) → y ≡ (stateOf b kept) .line .begun) → x ≡ y
+is-open-tight b x y h i = h [] ∙ sym (i [])
+
+-- ---- the quick way
+
+quicks : {a b : Board} {x y : Bool} → a ≡ b → x ≡ y → _≡_ {A = Quick} (record { board = a; went = x }) (record { board = b; went = y })
+quicks i j = rw (i, j)
+
+pub quick-tight : (p : Plate) (b : Board) (kept : List ℕ) (g : Call) (x y : Quick) (k l : List ℕ) → Quickly p b kept g x k → Quickly p b kept g y l → (x ≡ y) × (k ≡ l)
+quick-tight p b kept g x y k l = go (x .went) (y .went) refl refl
+  where
+    go : (u v : Bool) → x .went ≡ u → y .went ≡ v → QuicklyBy u p b kept g (x .board) k → QuicklyBy v p b kept g (y .board) l → (x ≡ y) × (k ≡ l)
+    go true true i j h e =
+        let s : stateOf (x .board) k ≡ stateOf (y .board) l = h .state [] ∙ sym (e .state []) in
+        let same : k ≡ l = h .bytes ∙ ap (λ (z : meaning.State). put kept 0 (z .line .kept)) s ∙ sym (e .bytes) in
+        let f = fits-told (x .board) k (h .fits) in
+        let f′ = fits-told (y .board) l (e .fits) in
+        (quicks (same-state-same-board (x .board) (y .board) k (f .few) (f′ .few) (omega (arith, f .all)) (s ∙ ap (stateOf (y .board)) (sym same))) (i ∙ sym j), same)
+    go false false i j h e = (quicks (h .board ∙ sym (e .board)) (i ∙ sym j), h .bytes ∙ sym (e .bytes))
+    go true false i j h e = absurd (false≢true (sym (h .none) ∙ e .one))
+    go false true i j h e = absurd (false≢true (sym (e .none) ∙ h .one))
+
+-- with the places unlent
+pub quick-poll-tight : (p : Plate) (b : Board) (g : Call) (x y : Quick) → b .frame .len ≤ 135
+    → ((kept : List ℕ) → fitsIn b kept ≡ true → Quickly p b kept g x kept) → ((kept : List ℕ) → fitsIn b kept ≡ true → Quickly p b kept g y kept) → x ≡ y
+quick-poll-tight p b g x y few h i =
+    let e = told-fits b (zeros 135) few (length-replicate {A = ℕ} 135 0) in
+    quick-tight p b (zeros 135) g x y (zeros 135) (zeros 135) (h (zeros 135) e) (i (zeros 135) e) .0

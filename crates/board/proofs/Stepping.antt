@@ -7,12 +7,10 @@ use mathlib.Core.Path.{_≡_, refl, sym, ap, _∙_}
 use mathlib.Core.Bool.{Bool, true, false}
 use mathlib.Core.List.{List, [], _∷_, _++_, append-nil}
 use borrow.Author.Tests.{eq-eqb, ne-eqb, eqb-true, eqb-false}
-use types.Run.{OneOf, miss}
-use denote.Enum.Declared.{tagOf}
 use lib.Dec.{eqb}
-use lib.ListN.{length, take, drop, take-append-drop, length-take, drop-of-length-le}
+use lib.ListN.{length, take, drop, take-append-drop, length-take, length-replicate, drop-of-length-le}
 use lib.Seq.{take-all}
-use Rattle.meaning.specs.Bytes.{pick, put}
+use Rattle.meaning.specs.Bytes.{pick, put, zeros}
 use Rattle.meaning.specs.State as meaning
 use Rattle.meaning.specs.State.{Plate, none, withLine}
 use Rattle.meaning.specs.Characters.{over, more, taken, closed}
@@ -25,19 +23,20 @@ use Rattle.line.specs.Line.{lineOf, noFrame, Fits, Extends}
 use Rattle.state.specs.declared.state.State.{State}
 use Rattle.state.specs.State.{stateWith}
 use Rattle.meaning.proofs.Rests.{work-rests}
+use Rattle.state.specs.declared.faults.Faults.{Faults}
+use Rattle.state.specs.Queue.{holding, Queues}
 use Rattle.state.proofs.Answering.{put-nothing}
 use Rattle.board.specs.declared.limits.Board.{Board}
 use Rattle.board.specs.declared.limits.Outcome as code
-use Rattle.board.proofs.limits.Outcome.{the-type}
-use Rattle.board.specs.declared.limits.Outcome.the-variants.{Refused, Still, Over}
+use Rattle.board.specs.declared.limits.Outcome.the-variants.{R1, Still, Over}
 use Rattle.board.specs.declared.limits.Stepped.{Stepped}
 use Rattle.board.specs.declared.closing.Closed.{Closed}
-use Rattle.board.specs.Board.{stateOf, fitsIn, within, toldBy, refusalOn, calledOn, outcomeOf, Steps}
+use Rattle.board.specs.Board.{stateOf, fitsIn, within, takenIf, refusalOn, refusedAs, isRefusal, calledOn, outcomeOf, Steps}
 use Rattle.board.specs.Work.{Closes}
-use Rattle.board.proofs.Bounding.{lends-poll, alone-by, few-kept, facts}
+use Rattle.board.proofs.Bounding.{lends-poll, alone-by, few-kept, facts, refusal-few, as-told, refused-alike, none-refused, some-refused}
 
 -- bytes put where they stand already
-put-own : (kept : List ℕ) (n : ℕ) → kept ≡ put kept 0 (take n kept)
+pub put-own : (kept : List ℕ) (n : ℕ) → kept ≡ put kept 0 (take n kept)
 unfolding put
 put-own kept n = go (ℕ-discrete (length (take n kept)) n)
   where
@@ -81,18 +80,24 @@ module _ (p : Plate) (b : Board) (k m w : List ℕ) (g : Call) where
       go true z = let e = eqb-true (refusalOn p b k m (length w) g) 0 z in ap (λ (h : Held). h .refusal) (held-on e) ∙ sym e
       go false z = ap (λ (h : Held). h .refusal) (held-refused refl (eqb-false (refusalOn p b k m (length w) g) 0 z))
 
-  pub refused : {n : ℕ} {r : Stepped} → r ≡ (record { board = b; outcome = Refused n }) → n ≡ refusalOn p b k m (length w) g → (n ≡ 0 → ⊥)
-      → Steps p b k m w g r k m w
+  -- R1 to R3 have no higher number
+  pub held-few : (calledOn p b k m w g) .refusal ≤ 3
+  held-few = rw told-refusal (refusal-few p b k m (length w) g)
+
+  pub refused : {o : code.Outcome} {r : Stepped} → r ≡ (record { board = b; outcome = o }) → o ≡ refusedAs (refusalOn p b k m (length w) g) Still
+      → isRefusal o ≡ true → Steps p b k m w g r k m w
   unfolding outcomeOf
-  refused {n} q e h =
-      let z : eqb n 0 ≡ false = ne-eqb n 0 h in
+  refused {o} q e i =
+      let n : ℕ = refusalOn p b k m (length w) g in
+      let h : n ≡ 0 → ⊥ = some-refused n Still refl (rw e at i) in
+      let held = held-refused refl h in
       record {
-        outcome = rw (q, held-refused e h, z);
-        state = rw (q, held-refused e h);
-        bytes = rw (held-refused e h) (put-own k (b .frame .len));
-        memory = rw (held-refused e h);
-        room = rw (held-refused e h);
-        few = λ y. absurd (h (ap (λ (x : Held). x .refusal) (sym (held-refused e h)) ∙ y));
+        outcome = rw (q, held) (e ∙ refused-alike n Still _ h);
+        state = rw (q, held);
+        bytes = rw held (put-own k (b .frame .len));
+        memory = rw held;
+        room = rw held;
+        few = λ y. absurd (h (ap (λ (x : Held). x .refusal) (sym held) ∙ y));
         refused = λ y. rw q;
       }
 
@@ -100,7 +105,7 @@ module _ (p : Plate) (b : Board) (k m w : List ℕ) (g : Call) where
       → r .outcome ≡ pick (closes p (stateOf b k) g) (Over (length (told .reply))) Still → stateOf (r .board) k′ ≡ told .state
       → k′ ≡ put k 0 (told .state .line .kept) → m′ ≡ told .memory → w′ ≡ put w 0 (told .reply) → r .board .frame .len ≤ 135
       → Steps p b k m w g r k′ m′ w′
-  unfolding outcomeOf
+  unfolding outcomeOf refusedAs
   stepped e o s kk mm ww few =
       record {
         outcome = rw (held-on e) o;
@@ -112,9 +117,13 @@ module _ (p : Plate) (b : Board) (k m w : List ℕ) (g : Call) where
         refused = λ y. absurd (y (ap (λ (x : Held). x .refusal) (held-on e)));
       }
 
+one-is-r1 : R1 ≡ refusedAs 1 Still
+unfolding refusedAs
+one-is-r1 = refl
+
 -- the calls that lend nothing, by what the board is told to be
-pub told-by : (p : Plate) (b next : Board) (k : List ℕ) {t u : Bool} → t ≡ within p b k → t ≡ u → toldBy u b next ≡ toldBy (within p b k) b next
-told-by p b next k e i = ap (λ (x : Bool). toldBy x b next) (sym i ∙ e)
+pub told-by : (p : Plate) (b next : Board) (k : List ℕ) {t u : Bool} → t ≡ within p b k → t ≡ u → takenIf u b next ≡ takenIf (within p b k) b next
+told-by p b next k e i = ap (λ (x : Bool). takenIf x b next) (sym i ∙ e)
 
 module _ (p : Plate) (b next : Board) (k m w : List ℕ) (g : Call) (all : length k ≡ 135) (l : lends g ≡ false) {r : Stepped} where
   alone : refusalOn p b k m (length w) g ≡ 0 → r ≡ (record { board = next; outcome = Still }) → closes p (stateOf b k) g ≡ false
@@ -125,13 +134,13 @@ module _ (p : Plate) (b next : Board) (k m w : List ℕ) (g : Call) (all : lengt
       stepped p b k m w g e (rw (q, c)) (rw q h) (put-own k (next .frame .len) ∙ ap (λ (x : meaning.State). put k 0 (x .line .kept)) h) (ap (λ (x : Outcome). x .memory) i)
       (rw (← i) (put-nothing w 0)) (rw q few)
 
-  pub tells : r ≡ toldBy (within p b k) b next → closes p (stateOf b k) g ≡ false → stateOf next k ≡ (step p (stateOf b k) m g) .state
+  pub tells : r ≡ takenIf (within p b k) b next → closes p (stateOf b k) g ≡ false → stateOf next k ≡ (step p (stateOf b k) m g) .state
       → still ((step p (stateOf b k) m g) .state) m ≡ step p (stateOf b k) m g → (b .frame .len ≤ 135 → next .frame .len ≤ 135) → Steps p b k m w g r k m w
   tells q c h i few = go (within p b k) refl
     where
       go : (t : Bool) → within p b k ≡ t → Steps p b k m w g r k m w
       go true e = alone (alone-by p b k m (length w) g all l ∙ rw e) (q ∙ rw e) c h i (few (few-kept p b k e))
-      go false e = refused p b k m w g (q ∙ rw e) (sym (alone-by p b k m (length w) g all l ∙ rw e)) (eqb-false 1 0 refl)
+      go false e = refused p b k m w g (q ∙ rw e) (one-is-r1 ∙ as-told (sym (alone-by p b k m (length w) g all l ∙ rw e))) refl
 
 -- the calls that may close a frame
 module _ (p : Plate) (b : Board) (k m w : List ℕ) (t : ℕ) where
@@ -161,19 +170,19 @@ module _ (p : Plate) (b : Board) (k m w : List ℕ) (t : ℕ) where
         stepped p b k m w (run.poll t) e (rw (q, o, closed-now o, h .sent)) (rw (q, i, closed-now o) (h .state))
         (rw (closed-now o, ← h .state) (put-nothing k 0)) (rw (closed-now o) (h .memory)) (rw (closed-now o) (h .room)) (rw (q, i) (omega arith))
 
--- an outcome by its case: refused or not
-served : (h : Held) (c : Bool) (o : code.Outcome) → OneOf (1 ∷ 2 ∷ []) (tagOf the-type o) → o ≡ outcomeOf h c → h .refusal ≡ 0
-unfolding outcomeOf
-served h c o i e = go (eqb (h .refusal) 0) refl
-  where
-    go : (t : Bool) → eqb (h .refusal) 0 ≡ t → h .refusal ≡ 0
-    go true z = eqb-true (h .refusal) 0 z
-    go false z = absurd (miss (1 ∷ 2 ∷ []) 0 tt (rw (e, z) at i))
+-- what a call closes or not is no refusal
+closed-or-not : (c : Bool) (n : ℕ) → isRefusal (pick c (Over n) Still) ≡ false
+closed-or-not true n = refl
+closed-or-not false n = refl
 
-unserved : (h : Held) (c : Bool) (o : code.Outcome) → tagOf the-type o ≡ 0 → o ≡ outcomeOf h c → h .refusal ≡ 0 → ⊥
+-- an outcome by its case: refused or not
+served : (h : Held) (c : Bool) (o : code.Outcome) → isRefusal o ≡ false → o ≡ outcomeOf h c → h .refusal ≡ 0
 unfolding outcomeOf
-unserved h true o i e z = eqb-false 2 0 refl (rw (e, z) at i)
-unserved h false o i e z = eqb-false 1 0 refl (rw (e, z) at i)
+served h c o i e = none-refused (h .refusal) (pick c (Over (h .count)) Still) (rw e at i)
+
+unserved : (h : Held) (c : Bool) (o : code.Outcome) → isRefusal o ≡ true → o ≡ outcomeOf h c → h .refusal ≡ 0 → ⊥
+unfolding outcomeOf
+unserved h c o i e = some-refused (h .refusal) (pick c (Over (h .count)) Still) (closed-or-not c (h .count)) (rw e at i)
 
 -- a character, by the poll before it
 module _ (p : Plate) (b : Board) (k m w : List ℕ) (t : ℕ) {r : Stepped} {k′ m′ w′ : List ℕ} (s : Steps p b k m w (run.poll t) r k′ m′ w′) where
@@ -182,7 +191,7 @@ module _ (p : Plate) (b : Board) (k m w : List ℕ) (t : ℕ) {r : Stepped} {k�
   unfolding refusalOn refusedBy lends
   same-refusal v bad = refl
 
-  pub character-refused : (v : ℕ) (bad : Bool) → tagOf the-type (r .outcome) ≡ 0 → Steps p b k m w (run.character t v bad) r k′ m′ w′
+  pub character-refused : (v : ℕ) (bad : Bool) → isRefusal (r .outcome) ≡ true → Steps p b k m w (run.character t v bad) r k′ m′ w′
   unfolding closes
   character-refused v bad i =
       let g = run.character t v bad in
@@ -201,7 +210,7 @@ module _ (p : Plate) (b : Board) (k m w : List ℕ) (t : ℕ) {r : Stepped} {k�
       }
 
   -- the frame that a poll leaves takes it in
-  module _ (i : OneOf (1 ∷ 2 ∷ []) (tagOf the-type (r .outcome))) where
+  module _ (i : isRefusal (r .outcome) ≡ false) where
     abbrev after : Outcome
     after = step p (stateOf b k) m (run.poll t)
 
@@ -232,7 +241,7 @@ module _ (p : Plate) (b : Board) (k m w : List ℕ) (t : ℕ) {r : Stepped} {k�
 
     pub character-taken : {v : ℕ} {bad : Bool} {f : OpenFrame} {q : Stepped} {k″ : List ℕ} → q ≡ (record { board = record { state = r .board .state; frame = f }; outcome = r .outcome })
         → Extends (more (pick (r .board .frame .begun) (lineOf (r .board .frame) k′) none) t v bad) k′ f k″ → Steps p b k m w (run.character t v bad) q k″ m′ w′
-    unfolding step closes taken withLine outcomeOf
+    unfolding step closes taken withLine outcomeOf refusedAs
     character-taken {v} {bad} {f} {q} {k″} e x =
         let u : stateOf (r .board) k′ ≡ after .state = s .state ∙ ap (λ (h : Held). h .state) on in
         stepped p b k m w (run.character t v bad) (sym (same-refusal v bad) ∙ willing) (rw e (s .outcome ∙ ap (λ (h : Held). outcomeOf h (closes p (stateOf b k) (run.poll t))) on)) (rw (e, ← u) (ap (stateWith (r .board .state)) (x .line)))
@@ -242,3 +251,38 @@ module _ (p : Plate) (b : Board) (k m w : List ℕ) (t : ℕ) {r : Stepped} {k�
 pub no-line : (k : List ℕ) (s : State) {f : OpenFrame} {x : meaning.State} → stateWith s none ≡ x → f ≡ noFrame → stateWith s (lineOf f k) ≡ x
 unfolding none
 no-line k s e h = rw h e
+
+-- ---- the fault queue's methods
+
+-- boards that keep the same bytes of any places keep as many
+pub same-len : (a b : Board) → ((kept : List ℕ) → (stateOf a kept) .line .kept ≡ (stateOf b kept) .line .kept) → a .frame .len ≡ b .frame .len
+same-len a b h =
+    let n : ℕ = a .frame .len + b .frame .len in
+    omega (arith, ap length (h (zeros n)), length-take (a .frame .len) (zeros n), length-take (b .frame .len) (zeros n), length-replicate {A = ℕ} n 0)
+
+-- a noted code leaves the open frame
+noted-line : (s : meaning.State) (c : ℕ) → (meaning.noted s c) .line ≡ s .line
+unfolding meaning.noted meaning.withLock meaning.withQueue
+noted-line s c = go (eqb c 0) (meaning.locks c)
+  where
+    go : (x y : Bool) → (pick x s (pick y (meaning.withLock s true) (meaning.withQueue s (meaning.queued (s .queue) c)))) .line ≡ s .line
+    go true y = refl
+    go false true = refl
+    go false false = refl
+
+pub noted-few : (b next : Board) (c : ℕ) → ((kept : List ℕ) → stateOf next kept ≡ meaning.noted (stateOf b kept) c) → b .frame .len ≤ 135 → next .frame .len ≤ 135
+noted-few b next c e h =
+    rw (same-len next b (λ kept. ap (λ (s : meaning.State). s .line .kept) (e kept) ∙ ap (λ (l : meaning.Line). l .kept) (noted-line (stateOf b kept) c))) h
+
+-- power-on leaves none
+pub dropped-few : (b next : Board) → ((kept : List ℕ) → stateOf next kept ≡ meaning.poweredOn (stateOf b kept)) → next .frame .len ≤ 135
+unfolding meaning.poweredOn withLine none
+dropped-few b next e =
+    let kept : List ℕ = zeros (next .frame .len) in
+    let z : take (next .frame .len) kept ≡ [] = ap (λ (s : meaning.State). s .line .kept) (e kept) in
+    omega (arith, ap length z, length-take (next .frame .len) kept, length-replicate {A = ℕ} (next .frame .len) 0)
+
+-- the queue without its oldest code
+pub without-oldest : (s : State) (l : meaning.Line) (q : List ℕ) {f : Faults} → Queues (s .faults) q f → holding (stateWith s l) f ≡ meaning.withQueue (stateWith s l) q
+unfolding holding meaning.withLock meaning.withQueue
+without-oldest s l q h = rw (h .queue, h .lock)

@@ -1,4 +1,5 @@
 -- The definitions of `board`, file by file.
 pub mod Board
 pub mod Work
+pub mod Quick
 pub mod Promises

@@ -6,7 +6,7 @@ ghost use lib.ListN.{length};
 ghost use Rattle.meaning.specs.State as meaning;
 ghost use Rattle.meaning.specs.Run as run;
 ghost use Rattle.line.specs.Line.{plateOf};
-ghost use Rattle.board.specs.Board.{stateOf, within, toldBy, Steps};
+ghost use Rattle.board.specs.Board.{stateOf, within, takenIf, Steps};
 use crate::closing::close;
 use crate::limits::Board;
 use crate::limits::Outcome;
@@ -48,8 +48,8 @@ pub fn poll(
     let refused = refusal(plate, board, kept.len(), memory.len(), room.len());
     let state = board.state;
     let frame = board.frame;
-    if refused != 0 {
-        return stepped(state, frame, Outcome::Refused(refused));
+    if refused.is_refusal() {
+        return stepped(state, frame, refused);
     }
     if frame.is_over(plate, tick) {
         let closed = close(plate, state, frame, kept, memory, room);
@@ -75,7 +75,7 @@ pub fn character(
     let polled = poll(plate, board, tick, kept, memory, room);
     let outcome = polled.outcome;
     let after = polled.board;
-    if let Outcome::Refused(_) = outcome {
+    if outcome.is_refusal() {
         return polled;
     }
     let state = after.state;
@@ -85,10 +85,10 @@ pub fn character(
 
 // What lends nothing meets R1 alone; else the board is then as told.
 fn told(plate: Plate, board: Board, next: Board) -> Stepped
-    ensures { λ r. ⌜ ((kept : List ℕ) → length kept ≡ 135 → r ≡ toldBy (within (plateOf plate) board kept) board next) ⌝ }
+    ensures { λ r. ⌜ ((kept : List ℕ) → length kept ≡ 135 → r ≡ takenIf (within (plateOf plate) board kept) board next) ⌝ }
 {
     if !within_limits(plate, board) {
-        let outcome = Outcome::Refused(1);
+        let outcome = Outcome::R1;
         return Stepped { board, outcome };
     }
     let outcome = Outcome::Still;
@@ -111,16 +111,12 @@ pub fn measured(plate: Plate, board: Board, position: u32) -> Stepped
 pub fn fault(plate: Plate, board: Board, code: u8) -> Stepped
     ensures { λ r. ⌜ ((kept m w : List ℕ) → length kept ≡ 135 → Steps (plateOf plate) board kept m w (run.fault code) r kept m w) ⌝ }
 {
-    let frame = board.frame;
-    let state = board.state.note(code);
-    told(plate, board, Board { state, frame })
+    told(plate, board, board.note(code))
 }
 
 // 01, "Power-on empties the queue, drops an open frame and unlocks; all else stays".
 pub fn power_on(plate: Plate, board: Board) -> Stepped
     ensures { λ r. ⌜ ((kept m w : List ℕ) → length kept ≡ 135 → Steps (plateOf plate) board kept m w run.power-on r kept m w) ⌝ }
 {
-    let frame = OpenFrame::none();
-    let state = board.state.power_on();
-    told(plate, board, Board { state, frame })
+    told(plate, board, board.power_on())
 }

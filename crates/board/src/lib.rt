@@ -1,7 +1,9 @@
 // The board: characters and times in, reply bytes out (01, "What belongs to the board and to the bench").
 mod calls;
 mod closing;
+mod faults;
 mod limits;
+mod quick;
 mod reply;
 mod rows;
 
@@ -15,8 +17,10 @@ pub use closing::Closed;
 pub use closing::ask;
 pub use closing::order;
 pub use closing::refuse;
+pub use faults::Oldest;
 pub use limits::Board;
 pub use limits::Outcome;
 pub use limits::Stepped;
 pub use limits::refusal;
+pub use quick::Quick;
 pub use rows::leaves_state;

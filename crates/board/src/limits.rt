@@ -6,7 +6,7 @@ ghost use Prim.Native.Nat.{ℕ};
 ghost use lib.ListN.{length};
 ghost use Rattle.meaning.specs.Run.{Call, lends};
 ghost use Rattle.line.specs.Line.{plateOf};
-ghost use Rattle.board.specs.Board.{within, refusalOn};
+ghost use Rattle.board.specs.Board.{within, isRefusal, replyLength, refusalOn, refusedAs};
 use line::OpenFrame;
 use line::Plate;
 use state::State;
@@ -17,11 +17,41 @@ pub struct Board {
     pub frame: OpenFrame,
 }
 
-// Refused, R1 to R3, and nothing is changed; no frame closed; a frame closed, and so many reply bytes at the room's front, 0 being silence.
+// 01, "Named refusals": R1 to R3, and nothing is changed; no frame closed; a frame closed, and so many reply bytes at the room's front, 0 being
+// silence.
 pub enum Outcome {
-    Refused(u8),
+    R1,
+    R2,
+    R3,
     Still,
     Over(usize),
+}
+
+impl Outcome {
+    pub(crate) fn is_refusal(self) -> bool
+        ensures { λ r. ⌜ r ≡ isRefusal self ⌝ }
+    {
+        match self {
+            Outcome::R1 => true,
+            Outcome::R2 => true,
+            Outcome::R3 => true,
+            Outcome::Still => false,
+            Outcome::Over(_) => false,
+        }
+    }
+
+    // How many reply bytes stand at the room's front.
+    pub fn reply_length(self) -> usize
+        ensures { λ r. ⌜ r ≡ replyLength self ⌝ }
+    {
+        match self {
+            Outcome::R1 => 0,
+            Outcome::R2 => 0,
+            Outcome::R3 => 0,
+            Outcome::Still => 0,
+            Outcome::Over(n) => n,
+        }
+    }
 }
 
 pub struct Stepped {
@@ -30,7 +60,7 @@ pub struct Stepped {
 }
 
 // R1 for the calls that lend nothing, and the first of the three for the others.
-pub fn within_limits(plate: Plate, board: Board) -> bool
+pub(crate) fn within_limits(plate: Plate, board: Board) -> bool
     ensures { λ r. ⌜ ((kept : List ℕ) → length kept ≡ 135 → r ≡ within (plateOf plate) board kept) ⌝ }
 {
     let state = board.state;
@@ -44,22 +74,22 @@ pub fn within_limits(plate: Plate, board: Board) -> bool
     state.is_ok(plate.bits)
 }
 
-// 0, or the number of the first refusal that applies; the sizes are those of the lent places, of memory and of the reply room.
-pub fn refusal(plate: Plate, board: Board, kept: usize, memory: usize, room: usize) -> u8
-    ensures { λ r. ⌜ ((k m : List ℕ) (g : Call) → length k ≡ kept → length m ≡ memory → lends g ≡ true → r ≡ refusalOn (plateOf plate) board k m room g) ⌝ }
+// The first refusal that applies, or Still; the sizes are those of the lent places, of memory and of the reply room.
+pub fn refusal(plate: Plate, board: Board, kept: usize, memory: usize, room: usize) -> Outcome
+    ensures { λ r. ⌜ ((k m : List ℕ) (g : Call) → length k ≡ kept → length m ≡ memory → lends g ≡ true → r ≡ refusedAs (refusalOn (plateOf plate) board k m room g) Outcome.Still) ⌝ }
 {
     let possible = within_limits(plate, board) & (kept == 135);
     // 17T: 16T of data, then T status bytes.
     let total = plate.total as u64;
     let sized = memory as u64 == 16 * total + total;
     if !possible {
-        return 1;
+        return Outcome::R1;
     }
     if !sized {
-        return 2;
+        return Outcome::R2;
     }
     if room < 134 {
-        return 3;
+        return Outcome::R3;
     }
-    0
+    Outcome::Still
 }

@@ -25,7 +25,7 @@ use Rattle.state.proofs.Answering.{put-nothing}
 use Rattle.board.specs.declared.limits.Board.{Board}
 use Rattle.board.specs.declared.limits.Outcome.the-variants.{Still, Over}
 use Rattle.board.specs.declared.limits.Stepped.{Stepped}
-use Rattle.board.specs.Board.{stateOf, Steps}
+use Rattle.board.specs.Board.{stateOf, replyLength, Steps}
 use Rattle.board.specs.Promises.{DoesStep}
 use Rattle.board.proofs.Promises.{does-step, unrefused, stays-within}
 use Rattle.bench.specs.declared.reply.Verdict.{Verdict}
@@ -33,8 +33,8 @@ use Rattle.bench.specs.Outcomes.{verdictOf, withoutData}
 use Rattle.exchange.specs.declared.sending.Sent.{Sent}
 use Rattle.exchange.specs.declared.asking.Ended.the-variants.{Heard}
 use Rattle.exchange.specs.declared.asking.Exchanged.{Exchanged}
-use Rattle.exchange.specs.Calls.{stampOf, sending, Clear, Sends}
-use Rattle.exchange.specs.Passing.{reached, answerTo, verdictOn, Asks, Converses, countOf}
+use Rattle.exchange.specs.Calls.{stampOf, sending, Clear, SendsRequest}
+use Rattle.exchange.specs.Passing.{reached, answerTo, verdictOn, Asks, Converses}
 use Rattle.exchange.proofs.Stepping.{kept-bytes}
 use Rattle.exchange.proofs.Closing.{over-now, poll-answers, verdict-answers}
 use Rattle.meaning.proofs.Choices.{both-left, both-right}
@@ -88,7 +88,7 @@ module _ (p : Plate) (b : Board) (tick spacing : ℕ) (q kept m w : List ℕ) (c
   pub clear-pause : p .pause * p .ticks < 2 ^ 32
   clear-pause = pause-fits p (clear .within .plate)
 
-  module _ {e : Sent} {k₁ m₁ w₁ : List ℕ} (sent : Sends p b tick spacing q kept m w e k₁ m₁ w₁) (t : ℕ) {r : Stepped} {k₂ m₂ w₂ : List ℕ}
+  module _ {e : Sent} {k₁ m₁ w₁ : List ℕ} (sent : SendsRequest p b tick spacing q kept m w e k₁ m₁ w₁) (t : ℕ) {r : Stepped} {k₂ m₂ w₂ : List ℕ}
       (s : Steps p (e .board) k₁ m₁ w₁ (poll t) r k₂ m₂ w₂) where
     room-wide : 134 ≤ length w₁
     room-wide = rw (sent .taken .room) (clear .wide)
@@ -97,7 +97,7 @@ module _ (p : Plate) (b : Board) (tick spacing : ℕ) (q kept m w : List ℕ) (c
     polled = does-step p (e .board) k₁ m₁ w₁ (poll t) (unrefused p (e .board) k₁ m₁ (length w₁) (poll t) (sent .taken .within) room-wide) s
 
     -- the reply lies within its room
-    pub reply-fits : countOf (r .outcome) ≤ length w₂
+    pub reply-fits : replyLength (r .outcome) ≤ length w₂
     reply-fits = rw (polled .outcome) (go (closes p (stateOf (e .board) k₁) (poll t)))
       where
         o : Outcome
@@ -106,7 +106,7 @@ module _ (p : Plate) (b : Board) (tick spacing : ℕ) (q kept m w : List ℕ) (c
         long : length w₂ ≡ length w₁
         long = rw (polled .room) (length-put w₁ 0 (o .reply) (omega (arith, room-wide, replies-fit p (stateOf (e .board) k₁) m₁ (poll t))))
 
-        go : (c : Bool) → countOf (pick c (Over (length (o .reply))) Still) ≤ length w₂
+        go : (c : Bool) → replyLength (pick c (Over (length (o .reply))) Still) ≤ length w₂
         go true = omega (arith, long, room-wide, replies-fit p (stateOf (e .board) k₁) m₁ (poll t))
         go false = omega arith
 
@@ -142,14 +142,14 @@ module _ (p : Plate) (b : Board) (tick spacing : ℕ) (q kept m w : List ℕ) (c
           ap₂ (λ (x : State) (y : ℕ). over p x y) state-is tick-is
           ∙ over-now p (stateOf b kept) m tick spacing a c d (clear .idle) low (clear .close) clear-pause short (low-address p (clear .within .plate)) (clear .within .size) (asks .may)
 
-      count-is : countOf (r .outcome) ≡ length (answer .reply)
+      count-is : replyLength (r .outcome) ≡ length (answer .reply)
       count-is = rw (polled .outcome, closed-now, answered)
 
       emptied : (k : List ℕ) → put k 0 (s₀ .line .kept) ≡ k
       unfolding resting withLine none
       emptied k = sym (put-nothing k 0)
 
-      pub converses : {k : ℕ} {v : Verdict} {x : Exchanged} → k ≡ countOf (r .outcome) → verdictOf v ≡ withoutData (judge q (take k w₂))
+      pub converses : {k : ℕ} {v : Verdict} {x : Exchanged} → k ≡ replyLength (r .outcome) → verdictOf v ≡ withoutData (judge q (take k w₂))
           → x ≡ (record { board = r .board; ended = Heard (length q) k v }) → Converses p b n c d kept m w x k₂ m₂ w₂
       converses {k} {v} {x} kk vv xx =
           let room : w₂ ≡ put w 0 (answer .reply) = polled .room ∙ ap₂ (λ (l : List ℕ) (o : Outcome). put l 0 (o .reply)) (sent .taken .room) answered in

@@ -2,45 +2,47 @@
 use Prim.Native.Nat.{ℕ, _*_, _<_, _≤_}
 use mathlib.Core.Path.{_≡_, refl, sym, ap, _∙_}
 use mathlib.Core.Bool.{Bool, true, false, not}
-use mathlib.Core.List.{List}
+use mathlib.Core.List.{List, [], _∷_}
 use native.Mathlib.Omega.{arith}
 use lib.Dec.{T, eqb, ltb}
 use lib.ListN.{length, take, drop, length-append}
 use lib.Seq.{take-append-seam}
 use borrow.Author.Tests.{ne-eqb, le-leb, lt-leb, eqb-false}
-use Rattle.meaning.specs.Bytes.{pick, both, either, put}
-use Rattle.meaning.specs.State.{Plate, plateOk, stateOk}
-use Rattle.meaning.specs.Fields.{memoryLength}
+use Rattle.meaning.specs.Bytes.{pick, both, put}
+use Rattle.meaning.specs.State.{Plate}
 use Rattle.meaning.specs.Commands.{commandOf}
-use Rattle.meaning.specs.Run.{Call, poll, lends, refusedBy}
+use Rattle.meaning.specs.Run.{poll}
 use Rattle.meaning.specs.Bench.{addressOk, addressFor, allowed, request, writes}
 use Rattle.meaning.specs.Bench as meaning
 use Rattle.meaning.proofs.Steps.{both-0, both-1}
 use Rattle.meaning.proofs.Wire.{writes-well}
 use Rattle.board.specs.declared.limits.Board.{Board}
-use Rattle.board.specs.Board.{stateOf, fitsIn, refusalOn}
+use Rattle.board.specs.declared.limits.Outcome.{Outcome}
+use Rattle.board.specs.declared.limits.Outcome.the-variants.{R1, R2, R3, Still, Over}
+use Rattle.board.proofs.limits.Outcome.{the-type}
+use Rattle.board.specs.Board.{stateOf, refusalOn, refusedAs, refusalNumber, isRefusal}
+use Rattle.board.proofs.Bounding.{refusal-few, none-refused, some-refused, number-back}
+use types.Run.{OneOf, miss}
+use denote.Enum.Declared.{tagOf}
 use Rattle.bench.specs.declared.request.Written.the-variants.{Request}
 use Rattle.bench.specs.declared.request.Written.the-variants as written
 use Rattle.bench.specs.Outcomes.{writtenOf}
 use Rattle.exchange.specs.declared.asking.Refusal.{Refusal}
 use Rattle.exchange.specs.declared.asking.Ended.the-variants.{Refused}
 use Rattle.exchange.specs.declared.asking.Exchanged.{Exchanged}
-use Rattle.exchange.specs.Passing.{numberOf, refusalFor, Asks, Converses, passed, Passes}
+use Rattle.exchange.specs.Passing.{unsentNumber, refusalFor, Asks, Converses, passed, Passes}
 use Rattle.meaning.proofs.Puts.{put-front}
 
--- R1 to R3 have no higher number
-pub refusal-few : (p : Plate) (b : Board) (kept m : List ℕ) (r : ℕ) (g : Call) → refusalOn p b kept m r g ≤ 3
-unfolding refusalOn refusedBy
-refusal-few p b kept m r g =
-    go (fitsIn b kept) (either (not (plateOk p)) (not (stateOk p (stateOf b kept)))) (lends g) (not (eqb (length m) (memoryLength (p .total)))) (ltb r 134)
-  where
-    go : (x y z u v : Bool) → pick x (pick y 1 (pick z (pick u 2 (pick v 3 0)) 0)) 1 ≤ 3
-    go false y z u v = omega arith
-    go true true z u v = omega arith
-    go true false false u v = omega arith
-    go true false true true v = omega arith
-    go true false true false true = omega arith
-    go true false true false false = omega arith
+-- the board's refusals by their cases
+none-refuses : (o : Outcome) → OneOf (3 ∷ 4 ∷ []) (tagOf the-type o) → isRefusal o ≡ false
+none-refuses R1 i = absurd (miss (3 ∷ 4 ∷ []) 0 tt i)
+none-refuses R2 i = absurd (miss (3 ∷ 4 ∷ []) 1 tt i)
+none-refuses R3 i = absurd (miss (3 ∷ 4 ∷ []) 2 tt i)
+none-refuses Still i = refl
+none-refuses (Over n) i = refl
+
+pub none-applies : (n : ℕ) (o : Outcome) → o ≡ refusedAs n Still → OneOf (3 ∷ 4 ∷ []) (tagOf the-type o) → n ≡ 0
+none-applies n o e i = none-refused n Still (ap isRefusal (sym e) ∙ none-refuses o i)
 
 -- ---- what writing leaves
 
@@ -99,7 +101,7 @@ module _ (n c : ℕ) (d q q′ : List ℕ) where
 
 module _ (p : Plate) (b : Board) (n c : ℕ) (d : List ℕ) (spacing : ℕ) (q kept m w : List ℕ) where
   -- a refusal leaves all as it was
-  pub passes-refused : {k : ℕ} {x : Refusal} {r : Exchanged} → refusalFor p b n c d spacing q kept m w ≡ k → (k ≡ 0 → ⊥) → numberOf x ≡ k
+  pub passes-refused : {k : ℕ} {x : Refusal} {r : Exchanged} → refusalFor p b n c d spacing q kept m w ≡ k → (k ≡ 0 → ⊥) → unsentNumber x ≡ k
       → r ≡ (record { board = b; ended = Refused x }) → Passes p b n c d spacing q kept m w r q kept m w
   unfolding passed
   passes-refused {k} {x} e h i j =
@@ -115,16 +117,24 @@ module _ (p : Plate) (b : Board) (n c : ℕ) (d : List ℕ) (spacing : ℕ) (q k
         untouched = λ y. rw j;
       }
 
-  pub refused-board : {k : ℕ} → k ≡ refusalOn p b kept m (length w) (poll 0) → (k ≡ 0 → ⊥) → refusalFor p b n c d spacing q kept m w ≡ k
+  refused-board : (refusalOn p b kept m (length w) (poll 0) ≡ 0 → ⊥) → refusalFor p b n c d spacing q kept m w ≡ refusalOn p b kept m (length w) (poll 0)
   unfolding refusalFor
-  refused-board {k} e h = rw (← e, ne-eqb k 0 h)
+  refused-board h = rw (ne-eqb (refusalOn p b kept m (length w) (poll 0)) 0 h)
+
+  -- R1 to R3
+  pub passes-unsent : {o : Outcome} {x : Refusal} {r : Exchanged} → o ≡ refusedAs (refusalOn p b kept m (length w) (poll 0)) Still → isRefusal o ≡ true
+      → unsentNumber x ≡ refusalNumber o → r ≡ (record { board = b; ended = Refused x }) → Passes p b n c d spacing q kept m w r q kept m w
+  passes-unsent e i k j =
+      let h = some-refused (refusalOn p b kept m (length w) (poll 0)) Still refl (rw e at i) in
+      let told = ap refusalNumber e ∙ number-back (refusalOn p b kept m (length w) (poll 0)) Still (refusal-few p b kept m (length w) (poll 0)) refl in
+      passes-refused (refused-board h) h (k ∙ told) j
 
   module _ (e : refusalOn p b kept m (length w) (poll 0) ≡ 0) where
-    pub refused-open : b .frame .begun ≡ true → refusalFor p b n c d spacing q kept m w ≡ 6
+    pub refused-open : (stateOf b kept) .line .begun ≡ true → refusalFor p b n c d spacing q kept m w ≡ 6
     unfolding refusalFor
     refused-open o = rw (e, o)
 
-    module _ (i : b .frame .begun ≡ false) where
+    module _ (i : (stateOf b kept) .line .begun ≡ false) where
       pub refused-slow : p .pause * p .ticks ≤ spacing → refusalFor p b n c d spacing q kept m w ≡ 7
       unfolding refusalFor
       refused-slow h = rw (e, i, le-leb (p .pause * p .ticks) spacing h)
@@ -135,7 +145,7 @@ module _ (p : Plate) (b : Board) (n c : ℕ) (d : List ℕ) (spacing : ℕ) (q k
 
       -- R4 and R5: the request's room too is as it was
       pub passes-unwritten : spacing < p .pause * p .ticks → {k : ℕ} {q′ : List ℕ} {x : Refusal} {r : Exchanged} → (k ≡ 0 → ⊥)
-          → (record { refusal = k; count = 0; room = q′ }) ≡ writes n c d q → numberOf x ≡ k → r ≡ (record { board = b; ended = Refused x })
+          → (record { refusal = k; count = 0; room = q′ }) ≡ writes n c d q → unsentNumber x ≡ k → r ≡ (record { board = b; ended = Refused x })
           → Passes p b n c d spacing q kept m w r q′ kept m w
       passes-unwritten near {k} h y z j =
           rw (same-room n c d q _ k h y) (passes-refused (refused-bench near ∙ sym (ap (λ (u : meaning.Written). u .refusal) y)) h z j)

@@ -18,7 +18,7 @@ use Rattle.board.specs.declared.limits.Board.{Board}
 use Rattle.board.specs.declared.limits.Stepped.{Stepped}
 use Rattle.board.specs.Board.{stateOf, Steps}
 use Rattle.board.proofs.Promises.{does-step, unrefused, stays-within}
-use Rattle.exchange.specs.Calls.{stampOf, sending, Clear, Taken, Sends}
+use Rattle.exchange.specs.Calls.{stampOf, sending, Clear, Taken, SendsRequest}
 use Rattle.exchange.proofs.Running.{kept-begun, Runs, runs, begun-then, character-waits}
 use Rattle.exchange.proofs.Stepping.{kept-bytes}
 
@@ -91,7 +91,7 @@ module _ (p : Plate) (b : Board) (tick spacing : ℕ) (q kept m w : List ℕ) (c
 
 pub all-sent : (p : Plate) (b : Board) (tick spacing : ℕ) (q kept m w : List ℕ) (i : ℕ) {b′ : Board} {last : ℕ} {kept′ m′ w′ : List ℕ} → i ≤ length q
     → length q ≤ i → last ≡ stampOf tick spacing (i - 1) → Taken p b tick spacing q kept m w i b′ kept′ m′ w′
-    → Sends p b tick spacing q kept m w (record { board = b′; last = last }) kept′ m′ w′
+    → SendsRequest p b tick spacing q kept m w (record { board = b′; last = last }) kept′ m′ w′
 all-sent p b tick spacing q kept m w i h k e t =
     let n : i ≡ length q = omega arith in
     record { taken = rw n at t; last = rw n at e }

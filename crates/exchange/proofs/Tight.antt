@@ -24,14 +24,14 @@ use Rattle.exchange.specs.declared.asking.Refusal.the-variants.{R1, R2, 
 use Rattle.exchange.specs.declared.asking.Ended as code
 use Rattle.exchange.specs.declared.asking.Ended.the-variants.{Refused, Heard}
 use Rattle.exchange.specs.declared.asking.Exchanged.{Exchanged}
-use Rattle.exchange.specs.Passing.{numberOf, Ended, refused, heard, endedOf, refusalFor, passed, Passes}
+use Rattle.exchange.specs.Passing.{unsentNumber, Ended, refused, heard, endedOf, refusalFor, passed, Passes}
 use Rattle.exchange.proofs.Stepping.{within}
 
 -- the numbers and words lead back to the code's answer
 abbrev refusalAt : ℕ → Refusal
 refusalAt n = pick (eqb n 1) R1 (pick (eqb n 2) R2 (pick (eqb n 3) R3 (pick (eqb n 4) R4 (pick (eqb n 5) R5 (pick (eqb n 6) FrameOpen TooSlow)))))
 
-number-back : (x : Refusal) → refusalAt (numberOf x) ≡ x
+number-back : (x : Refusal) → refusalAt (unsentNumber x) ≡ x
 number-back R1 = refl
 number-back R2 = refl
 number-back R3 = refl

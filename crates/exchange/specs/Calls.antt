@@ -26,7 +26,7 @@ sending tick spacing q (suc i) = character (stampOf tick spacing i) (arg q i) fa
 pub record Clear (p : Plate) (b : Board) (spacing : ℕ) (q kept m w : List ℕ) : Type 0 where
   pub within : Within p b kept m
   pub wide : 134 ≤ length w
-  pub idle : b .frame .begun ≡ false
+  pub idle : (stateOf b kept) .line .begun ≡ false
   pub close : spacing < p .pause * p .ticks
   pub short : length q ≤ 135
 
@@ -39,6 +39,6 @@ pub record Taken (p : Plate) (b : Board) (tick spacing : ℕ) (q kept m w : List
   pub room : w′ ≡ w
 
 -- .. all of them, and when the last one ended
-pub record Sends (p : Plate) (b : Board) (tick spacing : ℕ) (q kept m w : List ℕ) (r : Sent) (kept′ m′ w′ : List ℕ) : Type 0 where
+pub record SendsRequest (p : Plate) (b : Board) (tick spacing : ℕ) (q kept m w : List ℕ) (r : Sent) (kept′ m′ w′ : List ℕ) : Type 0 where
   pub taken : Taken p b tick spacing q kept m w (length q) (r .board) kept′ m′ w′
   pub last : r .last ≡ stampOf tick spacing (length q - 1)

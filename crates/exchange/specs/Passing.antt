@@ -13,8 +13,6 @@ use Rattle.meaning.specs.Run.{poll}
 use Rattle.meaning.specs.Bench.{Verdict, refusal, addressOk, addressFor, allowed, request, writes}
 use Rattle.meaning.specs.Demands.{meant, concluded}
 use Rattle.board.specs.declared.limits.Board.{Board}
-use Rattle.board.specs.declared.limits.Outcome as board
-use Rattle.board.specs.declared.limits.Outcome.the-variants.{Refused, Still, Over}
 use Rattle.board.specs.Board.{stateOf, refusalOn}
 use Rattle.bench.specs.Outcomes.{verdictOf, withoutData}
 use Rattle.exchange.specs.declared.asking.Refusal.{Refusal}
@@ -25,14 +23,14 @@ use Rattle.exchange.specs.declared.asking.Ended.the-variants as ended
 use Rattle.exchange.specs.declared.asking.Exchanged.{Exchanged}
 
 -- 01, "Named refusals", by their numbers; 6 and 7 for the two that the paper does not number
-abbrev pub numberOf : Refusal → ℕ
-numberOf R1 = 1
-numberOf R2 = 2
-numberOf R3 = 3
-numberOf R4 = 4
-numberOf R5 = 5
-numberOf FrameOpen = 6
-numberOf TooSlow = 7
+abbrev pub unsentNumber : Refusal → ℕ
+unsentNumber R1 = 1
+unsentNumber R2 = 2
+unsentNumber R3 = 3
+unsentNumber R4 = 4
+unsentNumber R5 = 5
+unsentNumber FrameOpen = 6
+unsentNumber TooSlow = 7
 
 -- how an exchange ends: refused by its number; or the lengths of request and reply, and the verdict without the data
 pub data Ended : Type 0 where
@@ -40,14 +38,14 @@ pub data Ended : Type 0 where
   heard : ℕ → ℕ → Verdict → Ended
 
 abbrev pub endedOf : code.Ended → Ended
-endedOf (ended.Refused x) = refused (numberOf x)
+endedOf (ended.Refused x) = refused (unsentNumber x)
 endedOf (Heard n k v) = heard n k (verdictOf v)
 
 -- R1, R2, R3; a frame open already; a spacing not below the pause; R4, R5. 0 where none applies
 unfoldable pub refusalFor : Plate → Board → ℕ → ℕ → List ℕ → ℕ → List ℕ → List ℕ → List ℕ → List ℕ → ℕ
 refusalFor p b n c d spacing q kept m w =
     pick (not (eqb (refusalOn p b kept m (length w) (poll 0)) 0)) (refusalOn p b kept m (length w) (poll 0))
-    (pick (b .frame .begun) 6
+    (pick ((stateOf b kept) .line .begun) 6
     (pick (leb (p .pause * p .ticks) spacing) 7
     ((writes n c d q) .refusal)))
 
@@ -79,12 +77,6 @@ pub record Converses (p : Plate) (b : Board) (n c : ℕ) (d kept m w : List ℕ)
   pub memory : m′ ≡ (answerTo p (resting (stateOf b kept)) m (addressFor n) c d) .memory
   pub room : w′ ≡ put w 0 ((answerTo p (resting (stateOf b kept)) m (addressFor n) c d) .reply)
   pub few : r .board .frame .len ≤ 135
-
--- how many reply bytes the board's outcome tells
-abbrev pub countOf : board.Outcome → ℕ
-countOf (Refused n) = 0
-countOf Still = 0
-countOf (Over n) = n
 
 -- what the caller holds afterwards
 pub record Passed : Type 0 where

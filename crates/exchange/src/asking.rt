@@ -1,10 +1,10 @@
 // One request and its reply (01, "The bench", "Named refusals").
 ghost use mathlib.Core.Path.{_≡_};
 ghost use mathlib.Core.List.{List};
-ghost use Prim.Native.Nat.{ℕ, _≤_};
+ghost use Prim.Native.Nat.{ℕ};
 ghost use Rattle.line.specs.Line.{plateOf};
 ghost use Rattle.exchange.specs.Calls.{Clear};
-ghost use Rattle.exchange.specs.Passing.{numberOf, countOf, Asks, Converses, Passes};
+ghost use Rattle.exchange.specs.Passing.{Asks, Converses, Passes};
 use crate::sending::pause_of;
 use crate::sending::send;
 use bench::Verdict;
@@ -49,30 +49,6 @@ fn unsent(board: Board, why: Refusal) -> Exchanged
     }
 }
 
-// The board's refusals by name.
-fn named(number: u8) -> Refusal
-    requires { ⌜ (1 ≤ number) × (number ≤ 3) ⌝ }
-    ensures { λ r. ⌜ numberOf r ≡ number ⌝ }
-{
-    if number == 1 {
-        return Refusal::R1;
-    }
-    if number == 2 {
-        return Refusal::R2;
-    }
-    Refusal::R3
-}
-
-fn reply_length(outcome: Outcome) -> usize
-    ensures { λ r. ⌜ r ≡ countOf outcome ⌝ }
-{
-    match outcome {
-        Outcome::Over(sent) => sent,
-        Outcome::Still => 0,
-        Outcome::Refused(_) => 0,
-    }
-}
-
 // On a clear line: the characters, a poll one pause after the last, and the bench's verdict on what came back.
 fn converse(
     plate: Plate,
@@ -93,7 +69,7 @@ fn converse(
     let closed = board::poll(plate, waiting, over, kept, memory, room);
     let next = closed.board;
     let outcome = closed.outcome;
-    let reply = reply_length(outcome);
+    let reply = outcome.reply_length();
     let verdict = bench::judge(request, &room[..reply]);
     Exchanged {
         board: next,
@@ -122,11 +98,13 @@ pub fn exchange(
 ) -> Exchanged
     ensures { λ r. ⌜ Passes (plateOf plate) board address command (now (body .entry)) spacing (now (request .entry)) (now (kept .entry)) (now (memory .entry)) (now (room .entry)) r (now (request .exit)) (now (kept .exit)) (now (memory .exit)) (now (room .exit)) ⌝ }
 {
-    let refused = board::refusal(plate, board, kept.len(), memory.len(), room.len());
-    if refused != 0 {
-        return unsent(board, named(refused));
+    match board::refusal(plate, board, kept.len(), memory.len(), room.len()) {
+        Outcome::R1 => return unsent(board, Refusal::R1),
+        Outcome::R2 => return unsent(board, Refusal::R2),
+        Outcome::R3 => return unsent(board, Refusal::R3),
+        _ => {}
     }
-    if board.frame.begun {
+    if board.is_open() {
         return unsent(board, Refusal::FrameOpen);
     }
     if pause_of(plate) <= spacing {

@@ -4,7 +4,7 @@ ghost use Prim.Native.Nat.{_+_, _-_, _*_};
 ghost use mathlib.Core.Bool.{true};
 ghost use Rattle.meaning.specs.State.{plateOk};
 ghost use Rattle.line.specs.Line.{plateOf};
-ghost use Rattle.exchange.specs.Calls.{Clear, Sends};
+ghost use Rattle.exchange.specs.Calls.{Clear, SendsRequest};
 use board::Board;
 use line::Plate;
 
@@ -34,7 +34,7 @@ pub fn send(
     room: &mut [u8],
 ) -> Sent
     requires { ⌜ Clear (plateOf plate) board spacing (now request) (now kept) (now memory) (now room) ⌝ }
-    ensures { λ r. ⌜ Sends (plateOf plate) board tick spacing (now (request .entry)) (now (kept .entry)) (now (memory .entry)) (now (room .entry)) r (now (kept .exit)) (now (memory .exit)) (now (room .exit)) ⌝ }
+    ensures { λ r. ⌜ SendsRequest (plateOf plate) board tick spacing (now (request .entry)) (now (kept .entry)) (now (memory .entry)) (now (room .entry)) r (now (kept .exit)) (now (memory .exit)) (now (room .exit)) ⌝ }
 {
     let mut taken = board;
     let mut last = tick;

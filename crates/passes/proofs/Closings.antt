@@ -13,7 +13,7 @@ use Rattle.board.specs.declared.limits.Board.{Board}
 use Rattle.tape.specs.Text.{badLine}
 use Rattle.tape.specs.Passes.{closing}
 use Rattle.tape.specs.Reader.{Printed}
-use Rattle.tape.proofs.Rooms.{put-nil}
+use Rattle.tape.proofs.Outputs.{put-nil}
 use Rattle.passes.specs.Sessions.{stageFrom, stageOf}
 use Rattle.passes.specs.declared.session.Session.{Session}
 use Rattle.passes.specs.declared.session.Phase.{Phase}

@@ -20,10 +20,10 @@ use Rattle.board.specs.Board.{stateOf}
 use Rattle.tape.specs.Records.{wholeLength}
 use Rattle.tape.specs.Kinds.{Said}
 use Rattle.tape.specs.Text.{badLine}
-use Rattle.tape.specs.Answers.{Stage, opening, running, ended, Turn, bad, turn}
+use Rattle.tape.specs.Answers.{Stage, opening, running, ended, Turn, badRecord, turn}
 use Rattle.tape.specs.Passes as passes
 use Rattle.tape.specs.Passes.{Pass, pass, stopped, after, heard, nothing, said, longestLine}
-use Rattle.tape.proofs.Rooms.{put-nil}
+use Rattle.tape.proofs.Outputs.{put-nil}
 use Rattle.tape.proofs.Streams.{pass-enough}
 use Rattle.turns.specs.Turns.{keptIn, isEnded, lastOf}
 use Rattle.passes.specs.Beginnings.{Working, goes-on, begins, Idle}
@@ -168,7 +168,7 @@ module _ (s : Session) (window kept m w out : List ℕ) (used : ℕ) (ready : Re
       begin-pass x e = rw first (pass-turn (length window) (length out - used) opening (s .place) window x space e)
 
       eats-bad : (r : Eaten) (out′ : List ℕ) → (x : Said) × Fails window x → Refuses s out used r out′ → Eats s window kept m w out used r kept m w out′
-      unfolding after bad
+      unfolding after badRecord
       eats-bad r out′ (x, f) g =
           let q : passOver s window kept m out used ≡ record { stage = ended; read = 0; printed = badLine (s .place); stop = passes.over }
           = begin-pass x (f .heard) ∙ rw (f .turned (s .place)) in

@@ -18,12 +18,12 @@ use Rattle.state.specs.State.{stateWith}
 use Rattle.board.specs.declared.limits.Board.{Board}
 use Rattle.tape.specs.Records.{wholeLength}
 use Rattle.tape.specs.Kinds.{Said, unfit}
-use Rattle.tape.specs.Answers.{Stage, opening, running, ended, Turn, bad, turn}
+use Rattle.tape.specs.Answers.{Stage, opening, running, ended, Turn, badRecord, turn}
 use Rattle.tape.specs.Passes as passes
-use Rattle.tape.specs.Passes.{Pass, pass, stopped, after, hearing, heard, nothing, said, longestLine}
+use Rattle.tape.specs.Passes.{Pass, pass, stopped, after, onFront, heard, nothing, said, longestLine}
 use Rattle.tape.specs.Reader.{Printed}
-use Rattle.tape.proofs.Rooms.{put-nil}
-use Rattle.tape.proofs.Texts.{same-room, joined}
+use Rattle.tape.proofs.Outputs.{put-nil}
+use Rattle.tape.proofs.Texts.{same-size, joined}
 use Rattle.turns.specs.Hearing.{Past}
 use Rattle.turns.specs.Turns.{Sound, runs, keptIn, isEnded, lastOf, quickly, Quiet, Waits, Quickens, Turns}
 use Rattle.turns.proofs.Tight.{not-both}
@@ -46,13 +46,13 @@ module _ (n space : ℕ) (w : Stage) (at : ℕ) (t : List ℕ) where
   pass-full h = rw (lt-ltb space longestLine h)
 
   pub pass-more : longestLine ≤ space → heard t ≡ nothing → pass (suc n) space w at t ≡ stopped w passes.more
-  unfolding pass hearing
+  unfolding pass onFront
   pass-more h e = rw (le-ltb space longestLine h, e)
 
   pub pass-turn : (x : Said) → longestLine ≤ space → heard t ≡ said x
       → pass (suc n) space w at t
       ≡ after ((turn w at x) .stage) ((turn w at x) .printed) (wholeLength t) (pass n (space - length ((turn w at x) .printed)) ((turn w at x) .stage) (at + wholeLength t) (drop (wholeLength t) t))
-  unfolding pass hearing
+  unfolding pass onFront
   pass-turn x h e = rw (le-ltb space longestLine h, e)
 
 -- a pass that so much was read and printed before
@@ -194,7 +194,7 @@ module _ {p : Plate} {place : ℕ} {window : List ℕ} {from : ℕ} {kept₀ m�
       let t = drop at window in
       let a : place + at + wholeLength t ≡ place + next = omega (arith, past .whole) in
       let b : drop (wholeLength t) t ≡ drop next window = drop-drop (wholeLength t) at window ∙ ap (λ (i : ℕ). drop i window) (sym (past .whole)) in
-      let c : length out - used - length ((done x) .printed) ≡ length out′ - used′ = omega (arith, same-room pr, pr .next) in
+      let c : length out - used - length ((done x) .printed) ≡ length out′ - used′ = omega (arith, same-size pr, pr .next) in
       let q : pass (suc n) (length out - used - length ((done x) .printed)) ((done x) .stage) (place + at + wholeLength t) (drop (wholeLength t) t)
       ≡ pass (suc n) (length out′ - used′) (runs p s′ f′ kept′ m′) (place + next) (drop next window) = rw (a, b, c, k) in
       record {
@@ -230,13 +230,13 @@ module _ {p : Plate} {place : ℕ} {window : List ℕ} {from : ℕ} {kept₀ m�
       → Going p place window from kept₀ m₀ w₀ out₀ start s₀ f₀ kept′ m w out s f′ next used
   quiet-goes x next h e q past =
       let t = q .turned s m (place + at) in
-      goes-on x next used h e (ap (λ (y : Turn). y .stage) t) (no-text out used (ap (λ (y : Turn). y .printed) t) (omega (arith, g .printed .within, same-room (g .printed))))
+      goes-on x next used h e (ap (λ (y : Turn). y .stage) t) (no-text out used (ap (λ (y : Turn). y .printed) t) (omega (arith, g .printed .within, same-size (g .printed))))
       (record { within = q .within s m (g .sound .within); room = g .sound .room })
       (held-parts (sym (ap (λ (y : Turn). lastOf here (y .stage)) t)) (q .bytes ∙ sym (ap (λ (y : Turn). put kept 0 (keptIn (y .stage))) t)) (sym (ap (put w 0) (q .silent s m) ∙ put-nil w 0)))
       (quiet-past x next q past)
 
   unfit-ends : (x : Said) → x ≡ unfit → isEnded ((done x) .stage) ≡ true
-  unfolding turn bad
+  unfolding turn badRecord
   unfit-ends x u = rw u
 
   -- any other record: a bad one, a good one

@@ -7,7 +7,7 @@ use Rattle.meaning.specs.Bytes.{pick, put}
 use Rattle.tape.specs.Records.{wholeLength}
 use Rattle.tape.specs.Kinds.{Said}
 use Rattle.tape.specs.Answers.{Stage, turn}
-use Rattle.tape.specs.Passes.{heard, hearing, longestLine}
+use Rattle.tape.specs.Passes.{heard, onFront, longestLine}
 use Rattle.turns.specs.Turns.{replyTo, keptIn, isEnded, lastOf}
 
 -- the last stage before a bad record, the lent places, the room
@@ -29,7 +29,7 @@ unfoldable pub heldBy : ℕ → ℕ → ℕ → List ℕ → Held → Held
 heldBy zero space at t h = h
 heldBy (suc n) space at t h =
     pick (ltb space longestLine) h
-    (hearing (heard t) h
+    (onFront (heard t) h
     (λ x.
     let k = turn (h .stage) at x in
     pick (isEnded (k .stage)) (heldAfter h at x) (heldBy n (space - length (k .printed)) (at + wholeLength t) (drop (wholeLength t) t) (heldAfter h at x))))

@@ -4,7 +4,7 @@ use native.Mathlib.Omega.{arith}
 use mathlib.Core.Path.{_≡_, refl, sym, ap, _∙_, subst}
 use mathlib.Core.Bool.{Bool, true, false, false≢true}
 use mathlib.Core.List.{List, [], _++_}
-use borrow.Author.Tests.{eq-eqb, le-leb, eqb-true}
+use borrow.Author.Tests.{eq-eqb, le-leb, eqb-true, eqb-false}
 use lib.Dec.{eqb}
 use lib.ListN.{length, take, drop, length-take}
 use lib.Seq.{take-at, drop-at, length-take-le}
@@ -21,9 +21,10 @@ use Rattle.state.specs.declared.state.State.{State}
 use Rattle.state.specs.State.{stateWith}
 use Rattle.board.specs.declared.limits.Board.{Board}
 use Rattle.board.specs.declared.limits.Outcome as code
-use Rattle.board.specs.declared.limits.Outcome.the-variants.{Refused, Still, Over}
+use Rattle.board.specs.declared.limits.Outcome.the-variants.{R1, R2, R3, Still, Over}
 use Rattle.board.specs.declared.limits.Stepped.{Stepped}
-use Rattle.board.specs.Board.{fitsIn, calledOn, outcomeOf, Steps}
+use Rattle.board.specs.Board.{fitsIn, refusedAs, calledOn, outcomeOf, Steps}
+use Rattle.board.proofs.Stepping.{held-few}
 use Rattle.image.specs.Image.{isImage, frameIn, keptIn, heldIn, stateBytes, lineBytes, frameBytes, imageOf, PutsBoard}
 use Rattle.image.proofs.Standing.{line-row}
 use Rattle.image.proofs.Parts.{kept-length}
@@ -60,6 +61,25 @@ pick-state n s x y a b c = go (eqb n 0)
 refused-state : (p : Plate) (s : meaning.State) (m w : List ℕ) (g : Call) → eqb ((called p s m w g) .refusal) 0 ≡ false → (called p s m w g) .state ≡ s
 unfolding called
 refused-state p s m w g = pick-state (refusedBy p s m (length w) g) s _ _ refl refl refl
+
+-- a refusal's number for C, and the image that it leaves
+number-of-refusal : (n : ℕ) (o : code.Outcome) → eqb n 0 ≡ false → n ≤ 3 → outcomeNumber (refusedAs n o) ≡ 256 + n
+unfolding refusedAs
+number-of-refusal n o i few = rw i (go (eqb n 1) (eqb n 2) refl refl)
+  where
+    go : (x y : Bool) → eqb n 1 ≡ x → eqb n 2 ≡ y → outcomeNumber (pick x R1 (pick y R2 R3)) ≡ 256 + n
+    go true y j k = omega (arith, eqb-true n 1 j)
+    go false true j k = omega (arith, eqb-true n 2 k)
+    go false false j k = omega (arith, eqb-false n 0 i, eqb-false n 1 j, eqb-false n 2 k)
+
+left-by-refusal : (n : ℕ) (o : code.Outcome) (b : Board) (img img′ : List ℕ) → eqb n 0 ≡ false → LeftBy (refusedAs n o) b img img′ → img′ ≡ img
+unfolding refusedAs
+left-by-refusal n o b img img′ i h = go (eqb n 1) (eqb n 2) (rw i at h)
+  where
+    go : (x y : Bool) → LeftBy (pick x R1 (pick y R2 R3)) b img img′ → img′ ≡ img
+    go true y h = h
+    go false true h = h
+    go false false h = h
 
 module _ (p : Plate) (img m w : List ℕ) (g : Call) where
   -- R1 for what is no image
@@ -140,10 +160,12 @@ module _ (p : Plate) (img m w : List ℕ) (g : Call) where
           }
 
       finish-by : (q c : Bool) → eqb (h .refusal) 0 ≡ q → closes p (heldIn img) g ≡ c → Finishes t back r img′ → Called p img m w g r img′ m′ w′
-      unfolding outcomeOf
+      unfolding outcomeOf refusedAs
       finish-by false c i j f =
-          let o : outcomeOf h (closes p (heldIn img) g) ≡ Refused (h .refusal) = rw i in
-          refused-call i (f .answer ∙ ap outcomeNumber (told ∙ o)) (subst (λ (x : code.Outcome). LeftBy x (t .board) back img′) (told ∙ o) (f .left))
+          let few : h .refusal ≤ 3 = rw on-board at (held-few p (boardIn img) (keptIn img) m w g) in
+          let x : code.Outcome = pick (closes p (heldIn img) g) (Over (h .count)) Still in
+          refused-call i (f .answer ∙ ap outcomeNumber told ∙ number-of-refusal (h .refusal) x i few)
+          (left-by-refusal (h .refusal) x (t .board) back img′ i (subst (λ (y : code.Outcome). LeftBy y (t .board) back img′) told (f .left)))
       finish-by true true i j f =
           let o : outcomeOf h (closes p (heldIn img) g) ≡ Over (h .count) = rw (i, j) in
           served-call i (f .answer ∙ ap outcomeNumber (told ∙ o)) (subst (λ (x : code.Outcome). LeftBy x (t .board) back img′) (told ∙ o) (f .left))

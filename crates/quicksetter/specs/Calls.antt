@@ -12,7 +12,7 @@ use Rattle.meaning.specs.Run.{Call, poll, measured, fault, power-on, Held, call
 use Rattle.line.specs.declared.plate.Plate.{Plate}
 use Rattle.board.specs.declared.limits.Board.{Board}
 use Rattle.board.specs.declared.limits.Outcome.{Outcome}
-use Rattle.board.specs.declared.limits.Outcome.the-variants.{Refused, Still, Over}
+use Rattle.board.specs.declared.limits.Outcome.the-variants.{R1, R2, R3, Still, Over}
 use Rattle.board.specs.declared.limits.Stepped.{Stepped}
 use Rattle.board.specs.Work.{Workable, Serves, Closes}
 use Rattle.quicksetter.specs.declared.notes.Note.{Note}
@@ -100,12 +100,16 @@ pub record Polls (p : meaning.Plate) (img m w : List ℕ) (tick r : ℕ) (img′
 
 -- the outcome of the board's call as the number for C, and the board written back where it was not refused
 abbrev pub outcomeNumber : Outcome → ℕ
-outcomeNumber (Refused n) = 256 + n
+outcomeNumber R1 = 257
+outcomeNumber R2 = 258
+outcomeNumber R3 = 259
 outcomeNumber Still = 0
 outcomeNumber (Over n) = n
 
 abbrev pub LeftBy : Outcome → Board → List ℕ → List ℕ → Type 0
-LeftBy (Refused n) b img img′ = img′ ≡ img
+LeftBy R1 b img img′ = img′ ≡ img
+LeftBy R2 b img img′ = img′ ≡ img
+LeftBy R3 b img img′ = img′ ≡ img
 LeftBy Still b img img′ = PutsBoard (b .state) (b .frame) img img′
 LeftBy (Over n) b img img′ = PutsBoard (b .state) (b .frame) img img′
 

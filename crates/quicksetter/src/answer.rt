@@ -18,7 +18,9 @@ pub fn finish(stepped: Stepped, image: &mut [u8]) -> usize
     let state = after.state;
     let frame = after.frame;
     match outcome {
-        Outcome::Refused(n) => REFUSED + n as usize,
+        Outcome::R1 => REFUSED + 1,
+        Outcome::R2 => REFUSED + 2,
+        Outcome::R3 => REFUSED + 3,
         Outcome::Still => {
             image::put_board(state, frame, image);
             0

@@ -12,7 +12,7 @@ use borrow.Author.Tests.{lt-ltb, le-ltb}
 use Rattle.io.specs.Digits.{glyph, digits, Fewest}
 use Rattle.meaning.specs.Bytes.{put}
 use Rattle.tape.specs.Text.{decimalIn, decimalOf}
-use Rattle.tape.proofs.Rooms.{put-back}
+use Rattle.tape.proofs.Outputs.{put-back}
 
 pub length-digits : (k n : ℕ) → length (digits 10 k n) ≡ k
 length-digits zero n = refl
@@ -44,14 +44,14 @@ same-digits zero n h f = absurd (omega arith)
 same-digits (suc k) n h f = sym (same-in 19 k n h (f .1) (λ l. simp unary-clauses at (f .2 l)))
 
 -- the last of the digits that are left is stored behind the place where the others will stand
-pub digit-less : (room : List ℕ) (at i n : ℕ) → 0 < i → at + i ≤ length room
-    → put (set room (at + (i - 1)) (48 + n % 10)) at (digits 10 (i - 1) (n / 10)) ≡ put room at (digits 10 i n)
-digit-less room at zero n h k = absurd (omega arith)
-digit-less room at (suc i) n h k =
+pub digit-less : (out : List ℕ) (at i n : ℕ) → 0 < i → at + i ≤ length out
+    → put (set out (at + (i - 1)) (48 + n % 10)) at (digits 10 (i - 1) (n / 10)) ≡ put out at (digits 10 i n)
+digit-less out at zero n h k = absurd (omega arith)
+digit-less out at (suc i) n h k =
     let e : suc i - 1 ≡ i = omega arith in
     let l : length (digits 10 i (n / 10)) ≡ i = length-digits i (n / 10) in
-    let q : put (set room (at + length (digits 10 i (n / 10))) (48 + n % 10)) at (digits 10 i (n / 10)) ≡ put room at (digits 10 i (n / 10) ++ ((48 + n % 10) ∷ []))
-    = put-back room at (48 + n % 10) (digits 10 i (n / 10)) (omega arith) in
+    let q : put (set out (at + length (digits 10 i (n / 10))) (48 + n % 10)) at (digits 10 i (n / 10)) ≡ put out at (digits 10 i (n / 10) ++ ((48 + n % 10) ∷ []))
+    = put-back out at (48 + n % 10) (digits 10 i (n / 10)) (omega arith) in
     rw (e, last-digit n) (rw l at q)
 
 -- the place of a record has at most 20 digits

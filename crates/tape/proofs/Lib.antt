@@ -1,6 +1,6 @@
 -- The laws of `tape`, file by file.
 pub mod Bytes
-pub mod Rooms
+pub mod Outputs
 pub mod Decimal
 pub mod Events
 pub mod Windows

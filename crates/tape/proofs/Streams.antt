@@ -13,9 +13,9 @@ use Rattle.meaning.specs.Bytes.{pick, both, part, little}
 use Rattle.tape.specs.Records.{lengthAt, wholeLength, whole, cut, recordAt}
 use Rattle.tape.specs.Kinds.{Said, unfit, sized, callOf, saidBy}
 use Rattle.tape.specs.Text.{firstLine}
-use Rattle.tape.specs.Answers.{Stage, opening, running, ended, bad, turn, answersFrom, answersOf}
+use Rattle.tape.specs.Answers.{Stage, opening, running, ended, badRecord, turn, answersFrom, answersOf}
 use Rattle.tape.specs.Reader.{readAt}
-use Rattle.tape.specs.Passes.{longest, longestLine, Heard, nothing, said, heardBy, heard, Stop, more, full, Pass, stopped, after, hearing, pass, closing, Feed, fed, tapeOf, Settled, read-all, was-bad, AnyParts}
+use Rattle.tape.specs.Passes.{longestRecord, longestLine, NextRecord, incomplete, says, nextRecordBy, nextRecord, Stop, more, full, Pass, stopped, after, onNextRecord, pass, closing, Feed, fed, tapeOf, Settled, read-all, was-bad, AnyParts}
 use Rattle.tape.specs.declared.record.Read.the-variants.{Record, More, Bad}
 use Rattle.tape.proofs.Bytes.{length-part}
 
@@ -67,12 +67,12 @@ long-unfit k b h =
     go false false false false false false = refl
 
 -- what stands first in the bytes at hand, and what that says of them with anything behind
-pub data Front (t : List ℕ) : Heard → Type 0 where
-  cut-off : recordAt t ≡ cut → Front t nothing
-  stands : (x : Said) → 2 ≤ lengthAt t → wholeLength t ≤ length t → ((u : List ℕ) → saidBy (recordAt (t ++ u)) ≡ x) → Front t (said x)
-  broken : 4 ≤ length t → ((u : List ℕ) → saidBy (recordAt (t ++ u)) ≡ unfit) → Front t (said unfit)
+pub data Front (t : List ℕ) : NextRecord → Type 0 where
+  cut-off : recordAt t ≡ cut → Front t incomplete
+  stands : (x : Said) → 2 ≤ lengthAt t → wholeLength t ≤ length t → ((u : List ℕ) → saidBy (recordAt (t ++ u)) ≡ x) → Front t (says x)
+  broken : 4 ≤ length t → ((u : List ℕ) → saidBy (recordAt (t ++ u)) ≡ unfit) → Front t (says unfit)
 
-overlong : (t u : List ℕ) → 4 ≤ length t → longest < lengthAt t → saidBy (recordAt (t ++ u)) ≡ unfit
+overlong : (t u : List ℕ) → 4 ≤ length t → longestRecord < lengthAt t → saidBy (recordAt (t ++ u)) ≡ unfit
 unfolding saidBy
 overlong t u h l = go (leb (wholeLength (t ++ u)) (length (t ++ u))) refl
   where
@@ -94,13 +94,13 @@ stands-on t u h l =
     ap saidBy (record-whole (t ++ u) (omega arith) (omega arith))
     ∙ rw (e, part-stays t u 2 2 (omega arith), part-stays t u 4 (lengthAt t - 2) (omega arith))
 
-pub front : (t : List ℕ) → Front t (heard t)
-unfolding readAt heardBy saidBy
+pub front : (t : List ℕ) → Front t (nextRecord t)
+unfolding readAt nextRecordBy saidBy
 front t =
-    go (ltb (length t) 4) (ltb (lengthAt t) 2) (ltb longest (lengthAt t)) (ltb (length t) (wholeLength t)) refl refl refl refl
+    go (ltb (length t) 4) (ltb (lengthAt t) 2) (ltb longestRecord (lengthAt t)) (ltb (length t) (wholeLength t)) refl refl refl refl
   where
-    go : (a b c d : Bool) → ltb (length t) 4 ≡ a → ltb (lengthAt t) 2 ≡ b → ltb longest (lengthAt t) ≡ c → ltb (length t) (wholeLength t) ≡ d
-        → Front t (heardBy t (pick a More (pick b Bad (pick c Bad (pick d More (Record (little (part t 2 2)) (0 + 4) (lengthAt t - 2) (record { at = 0 + wholeLength t })))))))
+    go : (a b c d : Bool) → ltb (length t) 4 ≡ a → ltb (lengthAt t) 2 ≡ b → ltb longestRecord (lengthAt t) ≡ c → ltb (length t) (wholeLength t) ≡ d
+        → Front t (nextRecordBy t (pick a More (pick b Bad (pick c Bad (pick d More (Record (little (part t 2 2)) (0 + 4) (lengthAt t - 2) (record { at = 0 + wholeLength t })))))))
     go true b c d e f g h = cut-off (record-cut t (λ q. omega (arith, ltb-true (length t) 4 e)))
     go false true c d e f g h =
         let l : 4 ≤ length t = ltb-false (length t) 4 e in
@@ -109,7 +109,7 @@ front t =
         ap saidBy (record-cut (t ++ u) (λ q. absurd (omega (arith, ltb-true (lengthAt t) 2 f)))))
     go false false true d e f g h =
         let l : 4 ≤ length t = ltb-false (length t) 4 e in
-        broken l (λ u. overlong t u l (ltb-true longest (lengthAt t) g))
+        broken l (λ u. overlong t u l (ltb-true longestRecord (lengthAt t) g))
     go false false false true e f g h = cut-off (record-cut t (λ q. ltb-true (length t) (wholeLength t) h))
     go false false false false e f g h =
         let l : 2 ≤ lengthAt t = ltb-false (lengthAt t) 2 f in
@@ -153,7 +153,7 @@ one-record w at (b ∷ t) x h e =
 
 -- a record that fits nothing ends the tape
 unfit-ends : (w : Stage) (at : ℕ) → (turn w at unfit) .stage ≡ ended
-unfolding turn bad
+unfolding turn badRecord
 unfit-ends opening at = refl
 unfit-ends (running p s m) at = refl
 unfit-ends ended at = refl
@@ -214,9 +214,9 @@ module _ (n space : ℕ) (w : Stage) (at : ℕ) (t u : List ℕ) (h : length t <
       = ap (λ (s : Stage). after s ((turn w at unfit) .printed) (wholeLength t) (next unfit)) (unfit-ends w at) in
       rw k (ends-here w at (t ++ u) z f ∙ ended-splits at t u ((turn w at unfit) .printed) (wholeLength t) (next unfit))
 
-  heard-splits : (r : Heard) → Front t r → ((x : Said) → Later x)
-      → Splits at t u (answers w at (t ++ u)) (hearing r (stopped w more) (λ x. after ((turn w at x) .stage) ((turn w at x) .printed) (wholeLength t) (next x)))
-  unfolding hearing
+  heard-splits : (r : NextRecord) → Front t r → ((x : Said) → Later x)
+      → Splits at t u (answers w at (t ++ u)) (onNextRecord r (stopped w more) (λ x. after ((turn w at x) .stage) ((turn w at x) .printed) (wholeLength t) (next x)))
+  unfolding onNextRecord
   heard-splits r (cut-off e) later = stopped-splits at t u w more
   heard-splits r (stands x l m f) later = stands-splits x l m (f u) (later x)
   heard-splits r (broken l f) later = broken-splits l (f u)
@@ -230,9 +230,9 @@ pass-splits (suc n) space w at t u h =
   where
     spaced : (b : Bool) → ((x : Said) → Later n space w at t u h x)
         → Splits at t u (answers w at (t ++ u))
-        (pick b (stopped w full) (hearing (heard t) (stopped w more) (λ x. after ((turn w at x) .stage) ((turn w at x) .printed) (wholeLength t) (next n space w at t u h x))))
+        (pick b (stopped w full) (onNextRecord (nextRecord t) (stopped w more) (λ x. after ((turn w at x) .stage) ((turn w at x) .printed) (wholeLength t) (next n space w at t u h x))))
     spaced true later = stopped-splits at t u w full
-    spaced false later = heard-splits n space w at t u h (heard t) (front t) later
+    spaced false later = heard-splits n space w at t u h (nextRecord t) (front t) later
 
 -- ---- any number of passes
 
@@ -251,21 +251,21 @@ fed-splits w at t (f ∷ fs) =
 
 -- at the end of the tape what is left is cut short
 last-splits : (w : Stage) (at : ℕ) (t : List ℕ) → recordAt t ≡ cut → answers w at t ≡ closing w at t
-unfolding closing answersFrom saidBy turn bad
+unfolding closing answersFrom saidBy turn badRecord
 last-splits ended at t e = after-end (length t) at t
 last-splits opening at [] e = refl
 last-splits opening at (b ∷ t) e = ends-here opening at (b ∷ t) (omega arith) (ap saidBy e)
 last-splits (running p s m) at [] e = refl
 last-splits (running p s m) at (b ∷ t) e = ends-here (running p s m) at (b ∷ t) (omega arith) (ap saidBy e)
 
-nothing-cut : (t : List ℕ) (r : Heard) → Front t r → r ≡ nothing → recordAt t ≡ cut
+nothing-cut : (t : List ℕ) (r : NextRecord) → Front t r → r ≡ incomplete → recordAt t ≡ cut
 nothing-cut t r (cut-off e) h = e
 nothing-cut t r (stands x l m f) h = let z : _≡_ {A = ℕ} 0 1 = cc in absurd (omega arith)
 nothing-cut t r (broken l f) h = let z : _≡_ {A = ℕ} 0 1 = cc in absurd (omega arith)
 
 pub settled-splits : (w : Stage) (at : ℕ) (t : List ℕ) → Settled w t → answers w at t ≡ closing w at t
 unfolding closing
-settled-splits w at t (read-all e) = last-splits w at t (nothing-cut t (heard t) (front t) e)
+settled-splits w at t (read-all e) = last-splits w at t (nothing-cut t (nextRecord t) (front t) e)
 settled-splits w at t was-bad = after-end (length t) at t
 
 pub any-parts : AnyParts
@@ -280,11 +280,11 @@ any-parts fs s =
 abbrev goes : ℕ → ℕ → Stage → ℕ → List ℕ → Said → Pass
 goes k space w at t x = pass k (space - length ((turn w at x) .printed)) ((turn w at x) .stage) (at + wholeLength t) (drop (wholeLength t) t)
 
-alike : (n m space : ℕ) (w : Stage) (at : ℕ) (t : List ℕ) (r : Heard) → Front t r → length t < suc n → length t < suc m
+alike : (n m space : ℕ) (w : Stage) (at : ℕ) (t : List ℕ) (r : NextRecord) → Front t r → length t < suc n → length t < suc m
     → ((x : Said) → length (drop (wholeLength t) t) < n → length (drop (wholeLength t) t) < m → goes n space w at t x ≡ goes m space w at t x)
-    → hearing r (stopped w more) (λ x. after ((turn w at x) .stage) ((turn w at x) .printed) (wholeLength t) (goes n space w at t x))
-    ≡ hearing r (stopped w more) (λ x. after ((turn w at x) .stage) ((turn w at x) .printed) (wholeLength t) (goes m space w at t x))
-unfolding hearing after
+    → onNextRecord r (stopped w more) (λ x. after ((turn w at x) .stage) ((turn w at x) .printed) (wholeLength t) (goes n space w at t x))
+    ≡ onNextRecord r (stopped w more) (λ x. after ((turn w at x) .stage) ((turn w at x) .printed) (wholeLength t) (goes m space w at t x))
+unfolding onNextRecord after
 alike n m space w at t r (cut-off e) h k same = refl
 alike n m space w at t r (stands x l i f) h k same =
     let g : length (drop (wholeLength t) t) ≡ length t - wholeLength t = length-drop (wholeLength t) t in
@@ -296,6 +296,6 @@ unfolding pass
 pass-enough zero m space w at t h k = absurd (omega arith)
 pass-enough (suc n) zero space w at t h k = absurd (omega arith)
 pass-enough (suc n) (suc m) space w at t h k =
-    let same = alike n m space w at t (heard t) (front t) h k
+    let same = alike n m space w at t (nextRecord t) (front t) h k
     (λ x i j. pass-enough n m (space - length ((turn w at x) .printed)) ((turn w at x) .stage) (at + wholeLength t) (drop (wholeLength t) t) i j) in
     ap (λ (p : Pass). pick (ltb space longestLine) (stopped w full) p) same

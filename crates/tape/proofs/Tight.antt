@@ -34,6 +34,6 @@ event-of-tight k b d e p q = sym (event-back d) ∙ ap eventBack (p ∙ sym q) �
 pub read-tight : (longest at : ℕ) (t : List ℕ) (a b : Read) → a ≡ readAt longest at t → b ≡ readAt longest at t → a ≡ b
 read-tight longest at t a b p q = p ∙ sym q
 
--- the three lines: the place past the text, and every byte of the room
-pub printed-tight : {text room room′ room″ : List ℕ} {at r q : ℕ} → Printed text room at r room′ → Printed text room at q room″ → (r ≡ q) × (room′ ≡ room″)
+-- the three lines: the place past the text, and every byte of the output
+pub printed-tight : {text out out′ out″ : List ℕ} {at r q : ℕ} → Printed text out at r out′ → Printed text out at q out″ → (r ≡ q) × (out′ ≡ out″)
 printed-tight a b = (a .next ∙ sym (b .next), a .bytes ∙ sym (b .bytes))

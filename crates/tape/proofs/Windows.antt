@@ -10,7 +10,7 @@ use borrow.Author.Tests.{lt-ltb, le-ltb, ltb-false}
 use Rattle.meaning.specs.Bytes.{pick, part, little}
 use Rattle.tape.specs.Records.{lengthAt, wholeLength}
 use Rattle.tape.specs.Reader.{readAt}
-use Rattle.tape.specs.Passes.{longest, heardBy, heard}
+use Rattle.tape.specs.Passes.{longestRecord, nextRecordBy, nextRecord}
 use Rattle.tape.specs.declared.record.Cursor.{Cursor}
 use Rattle.tape.specs.declared.record.Read.{Read}
 use Rattle.tape.specs.declared.record.Read.the-variants.{Record, More, Bad}
@@ -79,16 +79,16 @@ record-read longest at t kind start n next =
       inside = ltb-false (length t) (wholeLength t) h;
     }
 
--- what is heard does not depend on the place
-pub heard-at : (at : ℕ) (t : List ℕ) → heardBy t (readAt longest at t) ≡ heard t
-unfolding readAt heardBy
-heard-at at t = go (ltb (length t) 4) (ltb (lengthAt t) 2) (ltb longest (lengthAt t)) (ltb (length t) (wholeLength t))
+-- what stands next does not depend on the place
+pub next-record-at : (at : ℕ) (t : List ℕ) → nextRecordBy t (readAt longestRecord at t) ≡ nextRecord t
+unfolding readAt nextRecordBy
+next-record-at at t = go (ltb (length t) 4) (ltb (lengthAt t) 2) (ltb longestRecord (lengthAt t)) (ltb (length t) (wholeLength t))
   where
     made : ℕ → Read
     made k = Record (little (part t 2 2)) (k + 4) (lengthAt t - 2) (record { at = k + wholeLength t })
 
     go : (a b c d : Bool)
-        → heardBy t (pick a More (pick b Bad (pick c Bad (pick d More (made at))))) ≡ heardBy t (pick a More (pick b Bad (pick c Bad (pick d More (made 0)))))
+        → nextRecordBy t (pick a More (pick b Bad (pick c Bad (pick d More (made at))))) ≡ nextRecordBy t (pick a More (pick b Bad (pick c Bad (pick d More (made 0)))))
     go true b c d = refl
     go false true c d = refl
     go false false true d = refl

@@ -12,8 +12,8 @@ use Rattle.meaning.specs.Frames.{resting, close, upTo, commandByte, dataOf, our
 use Rattle.meaning.specs.Run.{step}
 use Rattle.tape.specs.Records.{lengthAt, recordAt}
 use Rattle.tape.specs.Kinds.{sized, characterIn, callOf, saidBy}
-use Rattle.tape.specs.Text.{decimalIn, decimalOf, digitOf, hexOf, lineOf, firstLine, badLine}
-use Rattle.tape.specs.Answers.{printedOf, bad, begun, stepped, turn, answersFrom, answersOf}
+use Rattle.tape.specs.Text.{decimalIn, decimalOf, digitOf, hexOf, replyLine, firstLine, badLine}
+use Rattle.tape.specs.Answers.{printedOf, badRecord, begun, stepped, turn, answersFrom, answersOf}
 
 -- 01, "Tape:"
 abbrev tape : List ℕ
@@ -28,15 +28,15 @@ answer =
     51 ∷ 48 ∷ 56 ∷ 32 ∷ 52 ∷ 48 ∷ 32 ∷ 52 ∷ 69 ∷ 32 ∷ 55 ∷ 48 ∷ 32 ∷ 48 ∷ 48 ∷ 32 ∷ 55 ∷ 69 ∷ 10 ∷ []
 
 pub prints : T (same (answersOf tape) (firstLine ++ answer))
-unfolding same part put blank xorFrom xorAll among plateOk fresh none withLine ownByte blocks exists table fieldCount used sound freeBlocks statusAt survey commandOf row lengthFits asked error freeByte memoryStatus worked gap over more taken closed resting close upTo commandByte dataOf ours judged ending sealed warned message still outcome leaves work step little lengthAt recordAt sized characterIn callOf saidBy decimalIn decimalOf digitOf hexOf lineOf firstLine badLine printedOf bad begun stepped turn answersFrom answersOf
+unfolding same part put blank xorFrom xorAll among plateOk fresh none withLine ownByte blocks exists table fieldCount used sound freeBlocks statusAt survey commandOf row lengthFits asked error freeByte memoryStatus worked gap over more taken closed resting close upTo commandByte dataOf ours judged ending sealed warned message still outcome leaves work step little lengthAt recordAt sized characterIn callOf saidBy decimalIn decimalOf digitOf hexOf replyLine firstLine badLine printedOf badRecord begun stepped turn answersFrom answersOf
 prints = tt
 
 -- the poll's record, cut by a byte: its place is 39
 pub cut-short : T (same (answersOf (take 46 tape)) (firstLine ++ (98 ∷ 97 ∷ 100 ∷ 32 ∷ 51 ∷ 57 ∷ 10 ∷ [])))
-unfolding same part put blank xorFrom xorAll among plateOk fresh none withLine ownByte gap over more taken upTo still step little lengthAt recordAt sized characterIn callOf saidBy decimalIn decimalOf firstLine badLine printedOf bad begun stepped turn answersFrom answersOf
+unfolding same part put blank xorFrom xorAll among plateOk fresh none withLine ownByte gap over more taken upTo still step little lengthAt recordAt sized characterIn callOf saidBy decimalIn decimalOf firstLine badLine printedOf badRecord begun stepped turn answersFrom answersOf
 cut-short = tt
 
 -- 01, "first and once": a second plate is bad, at place 9
 pub plate-once : T (same (answersOf (take 9 tape ++ take 9 tape)) (firstLine ++ (98 ∷ 97 ∷ 100 ∷ 32 ∷ 57 ∷ 10 ∷ [])))
-unfolding same part among plateOk fresh none little lengthAt recordAt sized callOf saidBy decimalIn decimalOf firstLine badLine bad begun turn answersFrom answersOf
+unfolding same part among plateOk fresh none little lengthAt recordAt sized callOf saidBy decimalIn decimalOf firstLine badLine badRecord begun turn answersFrom answersOf
 plate-once = tt

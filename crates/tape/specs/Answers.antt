@@ -8,7 +8,7 @@ use Rattle.meaning.specs.Fields.{memoryLength}
 use Rattle.meaning.specs.Run.{Call, character, poll, measured, fault, power-on, step}
 use Rattle.tape.specs.Records.{wholeLength, recordAt}
 use Rattle.tape.specs.Kinds.{Said, plate, call, unfit, saidBy}
-use Rattle.tape.specs.Text.{lineOf, firstLine, badLine}
+use Rattle.tape.specs.Text.{replyLine, firstLine, badLine}
 
 -- 01, "first and once": no plate yet; a board with its plate, state and memory; ended by a bad record
 pub data Stage : Type 0 where
@@ -23,18 +23,18 @@ pub record Turn : Type 0 where
 -- 01, "per reply": no reply, no line. Only a character and a poll bring one
 unfoldable pub printedOf : Call → List ℕ → List ℕ
 printedOf g [] = []
-printedOf (character now v bad) (b ∷ bs) = lineOf now (b ∷ bs)
-printedOf (poll now) (b ∷ bs) = lineOf now (b ∷ bs)
+printedOf (character now v bad) (b ∷ bs) = replyLine now (b ∷ bs)
+printedOf (poll now) (b ∷ bs) = replyLine now (b ∷ bs)
 printedOf (measured n) (b ∷ bs) = []
 printedOf (fault c) (b ∷ bs) = []
 printedOf power-on (b ∷ bs) = []
 
-unfoldable pub bad : ℕ → Turn  -- 01, "prints the line `bad N`, .. and ends"
-bad at = record { stage = ended; printed = badLine at }
+unfoldable pub badRecord : ℕ → Turn  -- 01, "prints the line `bad N`, .. and ends"
+badRecord at = record { stage = ended; printed = badLine at }
 
 -- 01, "a refused plate"; a board starts fresh, with blank memory
 unfoldable pub begun : ℕ → Plate → Turn
-begun at p = pick (plateOk p) (record { stage = running p (fresh p) (zeros (memoryLength (p .total))); printed = [] }) (bad at)
+begun at p = pick (plateOk p) (record { stage = running p (fresh p) (zeros (memoryLength (p .total))); printed = [] }) (badRecord at)
 
 unfoldable pub stepped : Plate → State → List ℕ → Call → Turn
 stepped p s m g =
@@ -44,11 +44,11 @@ stepped p s m g =
 -- 01, "plate .., first and once": what the record at a place brings about
 unfoldable pub turn : Stage → ℕ → Said → Turn
 turn opening at (plate p) = begun at p
-turn opening at (call g) = bad at
-turn opening at unfit = bad at
-turn (running p s m) at (plate q) = bad at
+turn opening at (call g) = badRecord at
+turn opening at unfit = badRecord at
+turn (running p s m) at (plate q) = badRecord at
 turn (running p s m) at (call g) = stepped p s m g
-turn (running p s m) at unfit = bad at
+turn (running p s m) at unfit = badRecord at
 turn ended at x = record { stage = ended; printed = [] }
 
 -- the records from a place on, where t is left of the tape; n is at least their number

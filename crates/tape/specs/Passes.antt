@@ -14,25 +14,25 @@ use Rattle.tape.specs.declared.record.Read.{Read}
 use Rattle.tape.specs.declared.record.Read.the-variants.{Record, More, Bad}
 
 -- the longest record of the answer program's kinds: kind, tick, value and parity of a character
-abbrev pub longest : ℕ
-longest = 8
+abbrev pub longestRecord : ℕ
+longestRecord = 8
 
 -- the longest line: a tick of ten digits, 134 bytes of a reply, and the line's end
 abbrev pub longestLine : ℕ
 longestLine = 413
 
 -- what the bytes at hand say first; nothing yet where they end before the record does
-pub data Heard : Type 0 where
-  nothing : Heard
-  said : Said → Heard
+pub data NextRecord : Type 0 where
+  incomplete : NextRecord
+  says : Said → NextRecord
 
-unfoldable pub heardBy : List ℕ → Read → Heard
-heardBy t (Record k from n c) = said (callOf k (part t 4 n))
-heardBy t More = nothing
-heardBy t Bad = said unfit
+unfoldable pub nextRecordBy : List ℕ → Read → NextRecord
+nextRecordBy t (Record k from n c) = says (callOf k (part t 4 n))
+nextRecordBy t More = incomplete
+nextRecordBy t Bad = says unfit
 
-abbrev pub heard : List ℕ → Heard
-heard t = heardBy t (readAt longest 0 t)
+abbrev pub nextRecord : List ℕ → NextRecord
+nextRecord t = nextRecordBy t (readAt longestRecord 0 t)
 
 -- why a pass stopped: no whole record is left, no space for a line is left, or a record was bad
 pub data Stop : Type 0 where
@@ -54,17 +54,17 @@ after opening x n p = record { stage = p .stage; read = n + p .read; printed = x
 after (running q s m) x n p = record { stage = p .stage; read = n + p .read; printed = x ++ p .printed; stop = p .stop }
 after ended x n p = record { stage = ended; read = 0; printed = x; stop = over }
 
--- what is not yet heard leaves p; else f says what follows
-unfoldable pub hearing : {A : Type 0} → Heard → A → (Said → A) → A
-hearing nothing p f = p
-hearing (said x) p f = f x
+-- where no whole record stands next, p; else f says what follows
+unfoldable pub onNextRecord : {A : Type 0} → NextRecord → A → (Said → A) → A
+onNextRecord incomplete p f = p
+onNextRecord (says x) p f = f x
 
 -- record after record of t, which begins at a place of the tape, while there is space for a line; n bounds the records
 unfoldable pub pass : ℕ → ℕ → Stage → ℕ → List ℕ → Pass
 pass zero space w at t = stopped w more
 pass (suc n) space w at t =
     pick (ltb space longestLine) (stopped w full)
-    (hearing (heard t) (stopped w more)
+    (onNextRecord (nextRecord t) (stopped w more)
     (λ x.
     let k = turn w at x in
     after (k .stage) (k .printed) (wholeLength t) (pass n (space - length (k .printed)) (k .stage) (at + wholeLength t) (drop (wholeLength t) t))))
@@ -102,7 +102,7 @@ tapeOf (f ∷ fs) = f .bytes ++ tapeOf fs
 
 -- no whole record is left, or a record was bad: what a pass shows that does not stop for want of space
 pub data Settled : Stage → List ℕ → Type 0 where
-  read-all : {w : Stage} {t : List ℕ} → heard t ≡ nothing → Settled w t
+  read-all : {w : Stage} {t : List ℕ} → nextRecord t ≡ incomplete → Settled w t
   was-bad : {t : List ℕ} → Settled ended t
 
 -- in whatever parts the tape is fed, and with whatever space, what is printed is what the whole tape prints

@@ -14,7 +14,7 @@ use Rattle.tape.specs.declared.kinds.Event.{Event}
 use Rattle.tape.specs.declared.kinds.Event.the-variants as event
 
 -- what stands at the front of t, which begins at a place of the window: More where the window ends before the record does, Bad where
--- no record begins so: its length has no room for a kind, or is over the longest that the reader's kinds have
+-- no record begins so: its length is too short for a kind, or is over the longest that the reader's kinds have
 unfoldable pub readAt : ℕ → ℕ → List ℕ → Read
 readAt longest at t =
     pick (ltb (length t) 4) More
@@ -32,8 +32,8 @@ saidOf (event.Fault c) = call (fault c)
 saidOf event.PowerOn = call power-on
 saidOf event.Unfit = unfit
 
--- a text is written into a room from a place on: r is the place past it, and the rest of the room is untouched
-pub record Printed (text room : List ℕ) (at r : ℕ) (room′ : List ℕ) : Type 0 where
+-- a text is written into an output from a place on: r is the place past it, and the rest is untouched
+pub record Printed (text out : List ℕ) (at r : ℕ) (out′ : List ℕ) : Type 0 where
   pub next : r ≡ at + length text
-  pub bytes : room′ ≡ put room at text
-  pub within : r ≤ length room
+  pub bytes : out′ ≡ put out at text
+  pub within : r ≤ length out

@@ -12,7 +12,7 @@ lengthAt t = little (take 2 t)
 abbrev pub wholeLength : List ℕ → ℕ
 wholeLength t = 2 + lengthAt t
 
--- 01, "cut short": the tape ends before the record does, or its length has no room for a kind
+-- 01, "cut short": the tape ends before the record does, or its length is too short for a kind
 pub data Found : Type 0 where
   whole : ℕ → List ℕ → Found
   cut : Found

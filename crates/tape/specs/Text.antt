@@ -4,6 +4,16 @@ use mathlib.Core.List.{List, [], _∷_, _++_}
 use lib.Dec.{ltb}
 use Rattle.meaning.specs.Bytes.{pick}
 
+-- how long lines are: without a reply's bytes, a tick of ten digits and the line's end; the first line; `bad `, a place of twenty digits, the end
+abbrev pub bareLine : ℕ
+bareLine = 11
+
+abbrev pub firstLength : ℕ
+firstLength = 11
+
+abbrev pub longestBadLine : ℕ
+longestBadLine = 25
+
 -- 01, "in decimal": the digits of a number below 10 to the power k + 1, no 0 in front
 unfoldable pub decimalIn : ℕ → ℕ → List ℕ
 decimalIn zero n = (48 + n % 10) ∷ []
@@ -22,8 +32,8 @@ hexOf [] = []
 hexOf (b ∷ bs) = 32 ∷ digitOf (b / 16) ∷ digitOf (b % 16) ∷ hexOf bs
 
 -- 01, "the event's tick in decimal and the bytes in hex"
-unfoldable pub lineOf : ℕ → List ℕ → List ℕ
-lineOf tick reply = decimalOf tick ++ (hexOf reply ++ (10 ∷ []))
+unfoldable pub replyLine : ℕ → List ℕ → List ℕ
+replyLine tick reply = decimalOf tick ++ (hexOf reply ++ (10 ∷ []))
 
 unfoldable pub firstLine : List ℕ  -- `tick reply`
 firstLine = 116 ∷ 105 ∷ 99 ∷ 107 ∷ 32 ∷ 114 ∷ 101 ∷ 112 ∷ 108 ∷ 121 ∷ 10 ∷ []

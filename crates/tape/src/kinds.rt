@@ -1,12 +1,12 @@
 // The kinds of the answer program's records (01, "Kinds").
 ghost use mathlib.Core.Path.{_≡_};
-ghost use Prim.Native.Nat.{_+_, _≤_};
-ghost use lib.ListN.{length};
-ghost use lib.Dec.{eqb};
-ghost use Rattle.meaning.specs.Bytes.{pick, part, arg, little};
+ghost use Rattle.meaning.specs.Bytes.{arg, little};
 ghost use Rattle.meaning.specs.Run as run;
-ghost use Rattle.tape.specs.Kinds.{plate, call, unfit, plateIn, characterIn, sized, callOf};
+ghost use Rattle.tape.specs.Kinds.{plate, call, plateIn, characterIn, sized, callOf};
 ghost use Rattle.tape.specs.Reader.{saidOf};
+
+// The longest record of the kinds, a character's: kind, tick, value and parity, as its length counts.
+pub const LONGEST_RECORD: u16 = 8;
 
 // What a record says; Unfit where it fits no kind.
 pub enum Event {
@@ -36,33 +36,31 @@ pub enum Event {
 }
 
 // 01, "plate (T, P, a, ticks per bit, pause, a byte each)".
-fn plate_in(s: &[u8], start: usize, n: usize) -> Event
-    requires { ⌜ start + n ≤ length (now s) ⌝ }
-    ensures { λ r. ⌜ saidOf r ≡ sized 5 (part (now (s .entry)) start n) (plate (plateIn (part (now (s .entry)) start n))) ⌝ }
+fn plate_in(body: &[u8]) -> Event
+    ensures { λ r. ⌜ saidOf r ≡ sized 5 (now (body .entry)) (plate (plateIn (now (body .entry)))) ⌝ }
 {
-    if n != 5 {
+    if body.len() != 5 {
         return Event::Unfit;
     }
     Event::Plate {
-        total: s[start],
-        bits: s[start + 1],
-        address: s[start + 2],
-        ticks: s[start + 3],
-        pause: s[start + 4],
+        total: body[0],
+        bits: body[1],
+        address: body[2],
+        ticks: body[3],
+        pause: body[4],
     }
 }
 
 // 01, "character (tick 4, value, parity fault 0 or 1)".
-fn character_in(s: &[u8], start: usize, n: usize) -> Event
-    requires { ⌜ start + n ≤ length (now s) ⌝ }
-    ensures { λ r. ⌜ saidOf r ≡ sized 6 (part (now (s .entry)) start n) (characterIn (part (now (s .entry)) start n)) ⌝ }
+fn character_in(body: &[u8]) -> Event
+    ensures { λ r. ⌜ saidOf r ≡ sized 6 (now (body .entry)) (characterIn (now (body .entry))) ⌝ }
 {
-    if n != 6 {
+    if body.len() != 6 {
         return Event::Unfit;
     }
-    let tick = wire::number_at(s, start);
-    let value = s[start + 4];
-    let fault = s[start + 5];
+    let tick = wire::number_at(body, 0);
+    let value = body[4];
+    let fault = body[5];
     if 1 < fault {
         return Event::Unfit;
     }
@@ -73,61 +71,57 @@ fn character_in(s: &[u8], start: usize, n: usize) -> Event
     }
 }
 
-fn poll_in(s: &[u8], start: usize, n: usize) -> Event
-    requires { ⌜ start + n ≤ length (now s) ⌝ }
-    ensures { λ r. ⌜ saidOf r ≡ sized 4 (part (now (s .entry)) start n) (call (run.poll (little (part (now (s .entry)) start n)))) ⌝ }
+fn poll_in(body: &[u8]) -> Event
+    ensures { λ r. ⌜ saidOf r ≡ sized 4 (now (body .entry)) (call (run.poll (little (now (body .entry))))) ⌝ }
 {
-    if n != 4 {
+    if body.len() != 4 {
         return Event::Unfit;
     }
     Event::Poll {
-        tick: wire::number_at(s, start),
+        tick: wire::number_at(body, 0),
     }
 }
 
-fn measured_in(s: &[u8], start: usize, n: usize) -> Event
-    requires { ⌜ start + n ≤ length (now s) ⌝ }
-    ensures { λ r. ⌜ saidOf r ≡ sized 4 (part (now (s .entry)) start n) (call (run.measured (little (part (now (s .entry)) start n)))) ⌝ }
+fn measured_in(body: &[u8]) -> Event
+    ensures { λ r. ⌜ saidOf r ≡ sized 4 (now (body .entry)) (call (run.measured (little (now (body .entry))))) ⌝ }
 {
-    if n != 4 {
+    if body.len() != 4 {
         return Event::Unfit;
     }
     Event::Measured {
-        position: wire::number_at(s, start),
+        position: wire::number_at(body, 0),
     }
 }
 
-fn fault_in(s: &[u8], start: usize, n: usize) -> Event
-    requires { ⌜ start + n ≤ length (now s) ⌝ }
-    ensures { λ r. ⌜ saidOf r ≡ sized 1 (part (now (s .entry)) start n) (call (run.fault (arg (part (now (s .entry)) start n) 0))) ⌝ }
+fn fault_in(body: &[u8]) -> Event
+    ensures { λ r. ⌜ saidOf r ≡ sized 1 (now (body .entry)) (call (run.fault (arg (now (body .entry)) 0))) ⌝ }
 {
-    if n != 1 {
+    if body.len() != 1 {
         return Event::Unfit;
     }
-    Event::Fault { code: s[start] }
+    Event::Fault { code: body[0] }
 }
 
-fn power_on_in(n: usize) -> Event
-    ensures { λ r. ⌜ saidOf r ≡ pick (eqb n 0) (call run.power-on) unfit ⌝ }
+fn power_on_in(body: &[u8]) -> Event
+    ensures { λ r. ⌜ saidOf r ≡ sized 0 (now (body .entry)) (call run.power-on) ⌝ }
 {
-    if n != 0 {
+    if body.len() != 0 {
         return Event::Unfit;
     }
     Event::PowerOn
 }
 
-// What a record of that kind says, whose body is the n bytes from start on.
-pub fn event_of(kind: u16, s: &[u8], start: usize, n: usize) -> Event
-    requires { ⌜ start + n ≤ length (now s) ⌝ }
-    ensures { λ r. ⌜ saidOf r ≡ callOf kind (part (now (s .entry)) start n) ⌝ }
+// What a record of that kind says. Any kind and any body are taken: 01, "fits none of this", is Unfit.
+pub fn event_of(kind: u16, body: &[u8]) -> Event
+    ensures { λ r. ⌜ saidOf r ≡ callOf kind (now (body .entry)) ⌝ }
 {
     match kind {
-        1 => plate_in(s, start, n),
-        2 => character_in(s, start, n),
-        3 => poll_in(s, start, n),
-        4 => measured_in(s, start, n),
-        5 => fault_in(s, start, n),
-        6 => power_on_in(n),
+        1 => plate_in(body),
+        2 => character_in(body),
+        3 => poll_in(body),
+        4 => measured_in(body),
+        5 => fault_in(body),
+        6 => power_on_in(body),
         _ => Event::Unfit,
     }
 }

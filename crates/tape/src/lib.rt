@@ -4,9 +4,12 @@ mod record;
 mod text;
 
 pub use kinds::Event;
+pub use kinds::LONGEST_RECORD;
 pub use kinds::event_of;
 pub use record::Cursor;
 pub use record::Read;
+pub use text::LONGEST_BAD_LINE;
+pub use text::LONGEST_LINE;
 pub use text::bad_line;
 pub use text::first_line;
 pub use text::reply_line;

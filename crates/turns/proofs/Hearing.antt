@@ -7,7 +7,7 @@ use lib.ListN.{length, drop, length-drop}
 use Rattle.meaning.specs.Bytes.{part}
 use Rattle.tape.specs.Kinds.{Said, callOf}
 use Rattle.tape.specs.Reader.{readAt}
-use Rattle.tape.specs.Passes.{longest, heardBy, said}
+use Rattle.tape.specs.Passes.{longest, frontBy, said}
 use Rattle.tape.specs.declared.record.Cursor.{Cursor}
 use Rattle.tape.specs.declared.record.Read.{Read}
 use Rattle.tape.specs.declared.record.Read.the-variants.{Record, More, Bad}
@@ -39,8 +39,8 @@ module _ (at : ℕ) (s : List ℕ) where
     same-body = ap (λ (i : ℕ). part s i n) (whole .body-at) ∙ sym (part-drop s at 4 n)
 
   -- what is told, in the words of a pass
-  by-read : (v : Read) → readAt longest at (drop at s) ≡ v → heardIn (toldBy at s v) ≡ heardBy (drop at s) v
-  unfolding toldBy heardBy
+  by-read : (v : Read) → readAt longest at (drop at s) ≡ v → heardIn (toldBy at s v) ≡ frontBy (drop at s) v
+  unfolding toldBy frontBy
   by-read (Record kind start n next) e = ap (λ (b : List ℕ). said (callOf kind b)) (same-body kind start n next e)
   by-read More e = refl
   by-read Bad e = refl

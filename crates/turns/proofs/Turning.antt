@@ -39,7 +39,7 @@ use Rattle.tape.specs.Answers as answers
 use Rattle.tape.specs.Answers.{running, turn, stepped, printedOf}
 use Rattle.tape.specs.Reader.{saidOf, Printed}
 use Rattle.tape.specs.Passes.{longestLine}
-use Rattle.tape.proofs.Rooms.{put-nil}
+use Rattle.tape.proofs.Outputs.{put-nil}
 use Rattle.tape.proofs.kinds.Event.{the-type}
 use Rattle.turns.specs.Turns.{Sound, quickly, Quiet, Steps, Refuses, Turns, sentOf, Fitting, Answered}
 use Rattle.turns.specs.declared.answering.Turned.{Turned}
@@ -107,7 +107,7 @@ other-kind (event.Fault c) p s k = refl
 other-kind event.PowerOn p s k = refl
 other-kind event.Unfit p s k = refl
 
-printed-line : (tick : ℕ) (l : List ℕ) → 0 < length l → printedOf (poll tick) l ≡ text.lineOf tick l
+printed-line : (tick : ℕ) (l : List ℕ) → 0 < length l → printedOf (poll tick) l ≡ text.replyLine tick l
 unfolding printedOf
 printed-line tick [] h = absurd (omega arith)
 printed-line tick (b ∷ l) h = refl
@@ -125,9 +125,9 @@ module _ (tick : ℕ) (st : Stepped) (w out : List ℕ) (used n : ℕ) (r : Turn
       }
 
   pub a-line : (end : ℕ) (out′ : List ℕ) → r ≡ record { board = st .board; used = end; over = false } → (n ≡ 0 → ⊥) → n ≤ length w
-      → Printed (text.lineOf tick (take n w)) out used end out′ → Answered tick st w out used r out′
+      → Printed (text.replyLine tick (take n w)) out used end out′ → Answered tick st w out used r out′
   a-line end out′ e z h p =
-      let k : printedOf (poll tick) (take (sentOf (st .outcome)) w) ≡ text.lineOf tick (take n w) = rw (← same) (printed-line tick (take n w) (simp length-take-le (omega arith))) in
+      let k : printedOf (poll tick) (take (sentOf (st .outcome)) w) ≡ text.replyLine tick (take n w) = rw (← same) (printed-line tick (take n w) (simp length-take-le (omega arith))) in
       record {
         board = ap (λ (x : Turned). x .board) e;
         over = ap (λ (x : Turned). x .over) e;
@@ -252,7 +252,7 @@ module _ (p : Plate) (b : Board) (x : Said) (kept m w : List ℕ) (tick : ℕ) (
 pub turns-bad : (p : Plate) (b : Board) (x : Said) (kept m w kept′ m′ w′ out out′ : List ℕ) (used end place : ℕ) (q : Turned) → Sound p b kept m w → Refuses x kept m w kept′ m′ w′
     → Printed (badLine place) out used end out′ → q ≡ record { board = b; used = end; over = true }
     → Turns p (running (plateOf p) (stateOf b kept) m) place x kept w out used q kept′ m′ w′ out′
-unfolding answers.bad
+unfolding answers.badRecord
 turns-bad p b x kept m w kept′ m′ w′ out out′ used end place q sound none printed d =
     let t = none .bad p (stateOf b kept) m place in
     rw (none .bytes, none .memory, none .room, d)

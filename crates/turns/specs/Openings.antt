@@ -12,7 +12,7 @@ use Rattle.line.specs.declared.plate.Plate.{Plate}
 use Rattle.line.specs.Line.{plateOf}
 use Rattle.tape.specs.Records.{wholeLength}
 use Rattle.tape.specs.Kinds.{Said, plate, call, unfit}
-use Rattle.tape.specs.Answers.{opening, running, bad, turn}
+use Rattle.tape.specs.Answers.{opening, running, badRecord, turn}
 use Rattle.tape.specs.Passes as passes
 use Rattle.turns.specs.Hearing.{Told, not-yet, tells}
 use Rattle.turns.specs.declared.opening.Opened.{Opened}
@@ -42,7 +42,7 @@ pub record Begins (window : List ℕ) (p : Plate) (next : ℕ) (x : Said) : Type
 -- or with a record that is bad there
 pub record Fails (window : List ℕ) (x : Said) : Type 0 where
   pub heard : passes.heard window ≡ passes.said x
-  pub turned : (place : ℕ) → turn opening place x ≡ bad place
+  pub turned : (place : ℕ) → turn opening place x ≡ badRecord place
 
 abbrev pub Opens : List ℕ → Opened → Type 0
 Opens window (opened.Plate p next) = (x : Said) × Begins window p next x

@@ -110,7 +110,7 @@ pub record Steps (p : Plate) (b : Board) (x : Said) (kept m w : List ℕ) (tick 
 
 -- no call: the record is bad
 pub record Refuses (x : Said) (kept m w kept′ m′ w′ : List ℕ) : Type 0 where
-  pub bad : (v : Plate) (s : meaning.State) (n : List ℕ) (place : ℕ) → turn (running (plateOf v) s n) place x ≡ answers.bad place
+  pub bad : (v : Plate) (s : meaning.State) (n : List ℕ) (place : ℕ) → turn (running (plateOf v) s n) place x ≡ answers.badRecord place
   pub silent : (v : Plate) (s : meaning.State) (n : List ℕ) → replyTo (running (plateOf v) s n) x ≡ []
   pub bytes : kept′ ≡ kept
   pub memory : m′ ≡ m

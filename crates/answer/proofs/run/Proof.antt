@@ -5,7 +5,7 @@ use mathlib.Core.List.{[]}
 use native.Mathlib.Omega.{arith}
 use lib.ListN.{length, length-take}
 use lib.Seq.{length-take-le}
-use Rattle.tape.proofs.Texts.{same-room}
+use Rattle.tape.proofs.Texts.{same-size}
 use Rattle.passes.specs.Sessions.{Ready}
 use Rattle.answer.proofs.Feeding.{not-ended, ready-first}
 use borrow.Author.Needs.{needs}
@@ -94,7 +94,7 @@ same-length-4 c =
 
 same-length-5 : tie.Need-same-length-5 Inv-loop μ-loop
 same-length-5 c =
-    c .before .before .before .before .before .before .before .before .before .before .before .before .before .feed .kept .1 .1 .1 .1 .1 .0 ∙ c .before .before .before .before .before .before .before .before .before .before .before .before .before .before .before .before .before .before .before .before .before .before .before .before .loop .inv .4 ∙ same-room (c .before .before .before .before .before .before .before .before .before .before .before .before .before .before .before .before .before .before .before .before .before .before .before .before .before .before .before .first-line .ensures)
+    c .before .before .before .before .before .before .before .before .before .before .before .before .before .feed .kept .1 .1 .1 .1 .1 .0 ∙ c .before .before .before .before .before .before .before .before .before .before .before .before .before .before .before .before .before .before .before .before .before .before .before .before .loop .inv .4 ∙ same-size (c .before .before .before .before .before .before .before .before .before .before .before .before .before .before .before .before .before .before .before .before .before .before .before .before .before .before .before .first-line .ensures)
 
 returns : tie.Need-returns Inv-loop μ-loop
 returns c = search needs
@@ -114,7 +114,7 @@ part-end-end c =
 end-requires : tie.Need-end-requires Inv-loop μ-loop
 end-requires c κs =
     let f = c .before .before .before .before .before .before .before .before .before .before .before .before .before .before in
-    (f .feed .ensures .space, omega (arith, f .feed .kept .1 .1 .1 .1 .1 .0, f .before .before .before .before .before .before .before .before .before .before .before .loop .inv .4, same-room (f .before .before .before .before .before .before .before .before .before .before .before .before .before .before .first-line .ensures), f .before .before .before .before .before .before .before .before .before .before .before .before .before .before .before .before .before .before .before .before .before .before .pre .room-size))
+    (f .feed .ensures .space, omega (arith, f .feed .kept .1 .1 .1 .1 .1 .0, f .before .before .before .before .before .before .before .before .before .before .before .loop .inv .4, same-size (f .before .before .before .before .before .before .before .before .before .before .before .before .before .before .first-line .ensures), f .before .before .before .before .before .before .before .before .before .before .before .before .before .before .before .before .before .before .before .before .before .before .pre .room-size))
 
 same-length-6 : tie.Need-same-length-6 Inv-loop μ-loop
 same-length-6 c =
@@ -134,7 +134,7 @@ same-length-9 c =
 
 same-length-10 : tie.Need-same-length-10 Inv-loop μ-loop
 same-length-10 c =
-    c .before .before .end .kept .1 .1 .0 ∙ c .before .before .before .before .before .before .before .before .before .before .before .before .before .before .before .before .before .feed .kept .1 .1 .1 .1 .1 .0 ∙ c .before .before .before .before .before .before .before .before .before .before .before .before .before .before .before .before .before .before .before .before .before .before .before .before .before .before .before .before .loop .inv .4 ∙ same-room (c .before .before .before .before .before .before .before .before .before .before .before .before .before .before .before .before .before .before .before .before .before .before .before .before .before .before .before .before .before .before .before .first-line .ensures)
+    c .before .before .end .kept .1 .1 .0 ∙ c .before .before .before .before .before .before .before .before .before .before .before .before .before .before .before .before .before .feed .kept .1 .1 .1 .1 .1 .0 ∙ c .before .before .before .before .before .before .before .before .before .before .before .before .before .before .before .before .before .before .before .before .before .before .before .before .before .before .before .before .loop .inv .4 ∙ same-size (c .before .before .before .before .before .before .before .before .before .before .before .before .before .before .before .before .before .before .before .before .before .before .before .before .before .before .before .before .before .before .before .first-line .ensures)
 
 returns-2 : tie.Need-returns-2 Inv-loop μ-loop
 returns-2 c = search needs
@@ -180,7 +180,7 @@ same-length-14 c =
 
 same-length-15 : tie.Need-same-length-15 Inv-loop μ-loop
 same-length-15 c =
-    c .before .loop .inv .4 ∙ same-room (c .before .before .before .before .first-line .ensures)
+    c .before .loop .inv .4 ∙ same-size (c .before .before .before .before .first-line .ensures)
 
 returns-3 : tie.Need-returns-3 Inv-loop μ-loop
 returns-3 c = search needs

@@ -1,19 +1,24 @@
 -- `board::calls::character` meets its contract. Assumes nothing.
 use Rattle.board.proofs.Stepping.{character-refused, character-fits, character-taken}
+use mathlib.Core.Path.{sym, _∙_}
 use borrow.Author.Needs.{needs}
 use Rattle.board.proofs.calls.character.Statement.{statement}
 use Rattle.board.proofs.calls.character.Tie as tie
 use Rattle.board.proofs.calls.character.Reads as reads
 use Rattle.board.proofs.calls.character.Lts as lts
 use Rattle.board.proofs.calls.poll.Reads as poll-reads
+use Rattle.board.proofs.limits.Outcome.is_refusal.Reads as is-refusal-reads
 use Rattle.board.proofs.calls.stepped.Reads as stepped-reads
 use Rattle.line.proofs.characters.OpenFrame.with_character.Reads as with-character-reads
+
+abbrev polled : tie.After-is-refusal → tie.After-poll
+polled c = c .before .before .before .before .before .before .before .before
 
 poll-requires : tie.Need-poll-requires
 poll-requires c κs = search needs
 
-enum-told : tie.Need-enum-told
-enum-told c = search needs
+is-refusal-requires : tie.Need-is-refusal-requires
+is-refusal-requires c κs = search needs
 
 same-length : tie.Need-same-length
 same-length c = search needs
@@ -25,10 +30,12 @@ same-length-3 : tie.Need-same-length-3
 same-length-3 c = search needs
 
 returns : tie.Need-returns
-returns c = character-refused _ _ _ _ _ _ (c .before .before .before .before .before .before .before .before .before .poll .ensures) _ _ (c .before .match .keys1)
+returns c = character-refused _ _ _ _ _ _ (polled (c .before) .poll .ensures) _ _ (sym (c .before .is-refusal .ensures) ∙ c .if1 .taken)
 
 with-character-requires : tie.Need-with-character-requires
-with-character-requires c κs = character-fits _ _ _ _ _ _ (c .before .before .before .before .before .before .before .before .before .before .poll .ensures) (c .before .before .match .keys2)
+with-character-requires c κs =
+    let e = c .before .before in
+    character-fits _ _ _ _ _ _ (polled (e .before) .poll .ensures) (sym (e .before .is-refusal .ensures) ∙ e .if1 .left)
 
 stepped-requires : tie.Need-stepped-requires
 stepped-requires c κs = search needs
@@ -43,14 +50,17 @@ same-length-6 : tie.Need-same-length-6
 same-length-6 c = search needs
 
 returns-2 : tie.Need-returns-2
-returns-2 c = character-taken _ _ _ _ _ _ (c .before .before .before .before .before .before .before .before .before .before .before .before .before .before .poll .ensures) (c .before .before .before .before .before .before .match .keys2) (c .stepped .ensures) (c .before .before .before .with-character .ensures)
+returns-2 c =
+    let w = c .before .before .before in
+    let e = w .before .before .before in
+    character-taken _ _ _ _ _ _ (polled (e .before) .poll .ensures) (sym (e .before .is-refusal .ensures) ∙ e .if1 .left) (c .stepped .ensures) (w .with-character .ensures)
 
 pub character-spec : {M : Type 1} → statement M
 character-spec =
     tie.close
     (tie.spec
     poll-requires
-    enum-told
+    is-refusal-requires
     same-length
     same-length-2
     same-length-3

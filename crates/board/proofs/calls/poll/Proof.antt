@@ -1,31 +1,46 @@
 -- `board::calls::poll` meets its contract. Assumes nothing.
 use Rattle.meaning.specs.Run.{poll}
-use Rattle.board.proofs.Bounding.{ready, lends-poll}
-use mathlib.Core.Path.{_≡_, refl, sym, _∙_}
+use Rattle.board.proofs.Bounding.{ready, lends-poll, none-refused}
+use mathlib.Core.Path.{_≡_, refl, sym, ap, _∙_}
 use lib.ListN.{length}
 use Rattle.line.specs.Line.{plateOf}
-use Rattle.board.specs.Board.{refusalOn}
+use Rattle.board.specs.Board.{refusalOn, refusedAs, isRefusal}
+use Rattle.board.specs.declared.limits.Outcome.the-variants.{Still}
 use Rattle.board.specs.Work.{Ready}
 use Rattle.board.proofs.Stepping.{refused, poll-over, poll-still}
 use borrow.Author.Needs.{needs}
 use Rattle.board.proofs.calls.poll.Statement.{statement}
 use Rattle.board.proofs.calls.poll.Tie as tie
 
--- nothing is refused, and what follows from it
-willing : (c : tie.Else1) → let a = c .before .before .before .before .before .before .before .args in refusalOn (plateOf (a .plate)) (a .board) (a .kept .now) (a .memory .now) (length (a .room .now)) (poll (a .tick)) ≡ 0
-willing c = sym (c .before .before .before .refusal .ensures _ _ (poll (c .before .before .before .before .before .before .before .args .tick)) refl refl (lends-poll _)) ∙ c .if1 .left
+abbrev start : tie.After-refusal → tie.Start
+start c = c .before .before .before .before
 
-enough : (c : tie.Else1) → let a = c .before .before .before .before .before .before .before .args in Ready (a .plate) (a .board .state) (a .board .frame) (a .kept .now) (a .memory .now) (a .room .now)
-enough c = ready _ _ _ _ _ (poll (c .before .before .before .before .before .before .before .args .tick)) (lends-poll _) (willing c)
+abbrev tested : tie.Else1 → tie.After-refusal
+tested c = c .before .before .before .before
+
+-- the first refusal that applies, or none
+told : (c : tie.After-refusal) → let a = start c .args in
+    c .refusal .result ≡ refusedAs (refusalOn (plateOf (a .plate)) (a .board) (a .kept .now) (a .memory .now) (length (a .room .now)) (poll (a .tick))) Still
+told c = c .refusal .ensures _ _ (poll (start c .args .tick)) refl refl (lends-poll _)
+
+-- nothing is refused, and what follows from it
+willing : (c : tie.Else1) → let a = start (tested c) .args in refusalOn (plateOf (a .plate)) (a .board) (a .kept .now) (a .memory .now) (length (a .room .now)) (poll (a .tick)) ≡ 0
+willing c = none-refused _ Still (ap isRefusal (sym (told (tested c))) ∙ sym (c .before .is-refusal .ensures) ∙ c .if1 .left)
+
+enough : (c : tie.Else1) → let a = start (tested c) .args in Ready (a .plate) (a .board .state) (a .board .frame) (a .kept .now) (a .memory .now) (a .room .now)
+enough c = ready _ _ _ _ _ (poll (start (tested c) .args .tick)) (lends-poll _) (willing c)
 
 refusal-requires : tie.Need-refusal-requires
 refusal-requires c κs = search needs
+
+is-refusal-requires : tie.Need-is-refusal-requires
+is-refusal-requires c κs = search needs
 
 stepped-requires : tie.Need-stepped-requires
 stepped-requires c κs = search needs
 
 returns : tie.Need-returns
-returns c = refused _ _ _ _ _ _ (c .stepped .ensures) (c .before .before .before .before .refusal .ensures _ _ (poll (c .before .before .before .before .before .before .before .before .args .tick)) refl refl (lends-poll _)) (c .before .if1 .taken)
+returns c = let t = c .before .before in refused _ _ _ _ _ _ (c .stepped .ensures) (told (t .before .before .before)) (sym (t .is-refusal .ensures) ∙ c .before .if1 .taken)
 
 is-over-requires : tie.Need-is-over-requires
 is-over-requires c κs = search needs
@@ -62,6 +77,7 @@ poll-spec =
     tie.close
     (tie.spec
     refusal-requires
+    is-refusal-requires
     stepped-requires
     returns
     is-over-requires

@@ -2,19 +2,14 @@
 use mathlib.Core.Path.{refl}
 use Rattle.meaning.specs.Frames.{still}
 use Rattle.meaning.specs.Run.{step, closes, lends}
-use native.Mathlib.Omega.{arith}
-use Rattle.board.proofs.Stepping.{no-line, tells}
+use Rattle.board.proofs.Stepping.{tells, dropped-few}
 use borrow.Author.Needs.{needs}
 use Rattle.board.proofs.calls.power_on.Statement.{statement}
 use Rattle.board.proofs.calls.power_on.Tie as tie
 use Rattle.board.proofs.calls.power_on.Reads as reads
 use Rattle.board.proofs.calls.power_on.Lts as lts
 use Rattle.board.proofs.calls.told.Reads as told-reads
-use Rattle.state.proofs.state.State.power_on.Reads as power-on-reads
-use Rattle.line.proofs.characters.OpenFrame.none.Reads as none-reads
-
-none-requires : tie.Need-none-requires
-none-requires c κs = search needs
+use Rattle.board.proofs.limits.Board.power_on.Reads as power-on-reads
 
 power-on-requires : tie.Need-power-on-requires
 power-on-requires c κs = search needs
@@ -24,7 +19,7 @@ told-requires c κs = search needs
 
 returns : tie.Need-returns
 unfolding step still closes lends
-returns c = λ k m w h. tells _ _ _ k m w _ h refl (c .told .ensures k h) refl (no-line k _ (c .before .power-on .ensures _) (c .before .before .none .ensures)) refl (λ z. rw (c .before .before .none .ensures) (omega arith))
+returns c = λ k m w h. tells _ _ _ k m w _ h refl (c .told .ensures k h) refl (c .before .power-on .ensures k) refl (λ z. dropped-few (c .before .before .args .board) _ (c .before .power-on .ensures))
 
 pub power-on-spec : {M : Type 1} → statement M
-power-on-spec = tie.close (tie.spec none-requires power-on-requires told-requires returns)
+power-on-spec = tie.close (tie.spec power-on-requires told-requires returns)

@@ -11,7 +11,7 @@ use Rattle.exchange.proofs.asking.converse.Reads as reads
 use Rattle.exchange.proofs.asking.converse.Lts as lts
 use Rattle.bench.proofs.judge.Reads as judge-reads
 use Rattle.board.proofs.poll.Reads as poll-reads
-use Rattle.exchange.proofs.asking.reply_length.Reads as reply-length-reads
+use Rattle.board.proofs.limits.Outcome.reply_length.Reads as reply-length-reads
 use Rattle.exchange.proofs.sending.pause_of.Reads as pause-of-reads
 use Rattle.exchange.proofs.sending.send.Reads as send-reads
 use Rattle.line.proofs.stamp_after.Reads as stamp-after-reads

@@ -1,5 +1,4 @@
 -- `tape::kinds::character_in` meets its contract. Assumes nothing.
-use mathlib.Core.Path.{sym}
 use Rattle.tape.proofs.Events.{unfitted, character-unfit, character-said}
 use borrow.Author.Needs.{needs}
 use Rattle.tape.proofs.kinds.character_in.Statement.{statement}
@@ -9,28 +8,22 @@ use Rattle.tape.proofs.kinds.character_in.Lts as lts
 use Rattle.wire.proofs.number_at.Reads as number-at-reads
 
 returns : tie.Need-returns
-returns c = sym (unfitted _ _ _ (c .before .before .pre) 6 _ (c .if1 .taken))
+returns c = unfitted _ 6 _ (c .if1 .taken)
 
 number-at-requires : tie.Need-number-at-requires
 number-at-requires c κs = search needs
 
-add-value : tie.Need-add-value
-add-value c = search needs
-
 shared-slice-read-value : tie.Need-shared-slice-read-value
 shared-slice-read-value c = search needs
-
-add-fault : tie.Need-add-fault
-add-fault c = search needs
 
 shared-slice-read-fault : tie.Need-shared-slice-read-fault
 shared-slice-read-fault c = search needs
 
 returns-2 : tie.Need-returns-2
-returns-2 c = character-unfit _ _ _ (c .before .before .before .before .before .before .pre) (c .before .before .before .before .if1 .left) (c .if2 .taken)
+returns-2 c = character-unfit _ (c .before .before .before .before .if1 .left) (c .if2 .taken)
 
 returns-3 : tie.Need-returns-3
-returns-3 c = character-said _ _ _ (c .before .before .before .before .before .before .pre) _ (c .before .before .before .before .if1 .left) (c .before .before .before .number-at .ensures) (c .if2 .left)
+returns-3 c = character-said _ _ (c .before .before .before .before .if1 .left) (c .before .before .before .number-at .ensures) (c .if2 .left)
 
 pub character-in-spec : {M : Type 1} → statement M
 character-in-spec =
@@ -38,9 +31,7 @@ character-in-spec =
     (tie.spec
     returns
     number-at-requires
-    add-value
     shared-slice-read-value
-    add-fault
     shared-slice-read-fault
     returns-2
     returns-3)

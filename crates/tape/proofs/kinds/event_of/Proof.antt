@@ -1,8 +1,6 @@
 -- `tape::kinds::event_of` meets its contract. Assumes nothing.
 use borrow.Author.Tests.{ne-eqb}
-use Rattle.tape.proofs.Bytes.{length-part}
-use Rattle.tape.specs.Kinds.{callOf, sized}
--- `tape::kinds::event_of` meets its contract. Assumes nothing.
+use Rattle.tape.specs.Kinds.{callOf}
 use borrow.Author.Needs.{needs}
 use Rattle.tape.proofs.kinds.event_of.Statement.{statement}
 use Rattle.tape.proofs.kinds.event_of.Tie as tie
@@ -54,8 +52,8 @@ unfolding callOf
 returns-5 c = rw (c .before .match .keys5) (c .fault-in .ensures)
 
 returns-6 : tie.Need-returns-6
-unfolding callOf sized
-returns-6 c = rw (c .before .match .keys6, length-part _ _ _ (c .before .before .before .pre)) (c .power-on-in .ensures)
+unfolding callOf
+returns-6 c = rw (c .before .match .keys6) (c .power-on-in .ensures)
 
 returns-7 : tie.Need-returns-7
 unfolding callOf

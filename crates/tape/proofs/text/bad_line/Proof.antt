@@ -2,7 +2,7 @@
 use mathlib.Core.Path.{_∙_}
 use lib.ListN.{length-set}
 use native.Mathlib.Omega.{arith}
-use Rattle.tape.proofs.Texts.{same-room, bad-printed}
+use Rattle.tape.proofs.Texts.{same-size, bad-printed}
 -- `tape::text::bad_line` meets its contract. Assumes nothing.
 use borrow.Author.Needs.{needs}
 use Rattle.tape.proofs.text.bad_line.Statement.{statement}
@@ -21,8 +21,8 @@ copy-requires c κs = search needs
 long-decimal-requires : tie.Need-long-decimal-requires
 long-decimal-requires c κs = search needs
 
-slice-write-room : tie.Need-slice-write-room
-slice-write-room c = search needs
+slice-write-out : tie.Need-slice-write-out
+slice-write-out c = search needs
 
 add-result : tie.Need-add-result
 add-result c = search needs
@@ -30,7 +30,7 @@ add-result c = search needs
 same-length : tie.Need-same-length
 same-length c =
     let h = c .before .before .long-decimal in
-    length-set (h .last .1 .0) (h .result) 10 ∙ same-room (h .ensures .0) ∙ same-room (c .before .before .before .before .before .before .copy .ensures)
+    length-set (h .last .1 .0) (h .result) 10 ∙ same-size (h .ensures .0) ∙ same-size (c .before .before .before .before .before .before .copy .ensures)
 
 returns : tie.Need-returns
 returns c =
@@ -45,7 +45,7 @@ bad-line-spec =
     slice-aggregate-copy
     copy-requires
     long-decimal-requires
-    slice-write-room
+    slice-write-out
     add-result
     same-length
     returns)

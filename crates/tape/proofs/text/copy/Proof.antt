@@ -33,11 +33,11 @@ same-length c = search needs
 returns : tie.Need-returns
 returns c =
     let a = c .before .before .before .before .before .before .args in
-    let room = a .room .now in
+    let out = a .out .now in
     let at = a .at in
     record {
       next = search needs;
-      bytes = ap (putMid at (length room - at) room) (c .before .before .fill .ensures) ∙ tail-filled room (a .s .now) at (omega arith);
+      bytes = ap (putMid at (length out - at) out) (c .before .before .fill .ensures) ∙ tail-filled out (a .s .now) at (omega arith);
       within = omega arith;
     }
 

@@ -15,11 +15,11 @@ use Rattle.tape.proofs.text.decimal.Lts as lts
 use Rattle.tape.proofs.text.places.Reads as places-reads
 
 abbrev Inv-loop : tie.InvT-loop
-Inv-loop n room₀ at k i₀ rest₀ room i rest =
-    (i ≤ k) × (length room ≡ length room₀) × (put room at (digits 10 i rest) ≡ put room₀ at (digits 10 k n))
+Inv-loop n out₀ at k i₀ rest₀ out i rest =
+    (i ≤ k) × (length out ≡ length out₀) × (put out at (digits 10 i rest) ≡ put out₀ at (digits 10 k n))
 
 abbrev μ-loop : tie.MeasureT-loop
-μ-loop n room₀ at k i₀ rest₀ room i rest = i
+μ-loop n out₀ at k i₀ rest₀ out i rest = i
 
 places-requires : tie.Need-places-requires Inv-loop μ-loop
 places-requires c κs = search needs
@@ -30,17 +30,17 @@ loop-holds c = (search needs, refl, refl)
 sub-i : tie.Need-sub-i Inv-loop μ-loop
 sub-i c = search needs
 
-cast-room : tie.Need-cast-room Inv-loop μ-loop
-cast-room c = search needs
+cast-out : tie.Need-cast-out Inv-loop μ-loop
+cast-out c = search needs
 
-add-room : tie.Need-add-room Inv-loop μ-loop
-add-room c = search needs
+add-out : tie.Need-add-out Inv-loop μ-loop
+add-out c = search needs
 
-add-room-2 : tie.Need-add-room-2 Inv-loop μ-loop
-add-room-2 c = search needs
+add-out-2 : tie.Need-add-out-2 Inv-loop μ-loop
+add-out-2 c = search needs
 
-slice-write-room : tie.Need-slice-write-room Inv-loop μ-loop
-slice-write-room c = search needs
+slice-write-out : tie.Need-slice-write-out Inv-loop μ-loop
+slice-write-out c = search needs
 
 loop-less : tie.Need-loop-less Inv-loop μ-loop
 loop-less c = search needs
@@ -50,7 +50,7 @@ loop-again c =
     let u = c .before in
     let a = u .before .before .before .args in
     let v = u .loop .inv in
-    (search needs, simp length-set (v .1), digit-less (u .loop .room) (a .at) (u .loop .i) (u .loop .rest) (omega arith) (omega arith) ∙ v .2)
+    (search needs, simp length-set (v .1), digit-less (u .loop .out) (a .at) (u .loop .i) (u .loop .rest) (omega arith) (omega arith) ∙ v .2)
 
 add-result : tie.Need-add-result Inv-loop μ-loop
 add-result c = search needs
@@ -73,10 +73,10 @@ decimal-spec =
     places-requires
     loop-holds
     sub-i
-    cast-room
-    add-room
-    add-room-2
-    slice-write-room
+    cast-out
+    add-out
+    add-out-2
+    slice-write-out
     loop-less
     loop-again
     add-result

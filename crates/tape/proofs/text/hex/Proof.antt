@@ -5,7 +5,7 @@ use native.Mathlib.Omega.{arith}
 use lib.ListN.{length, drop, length-set}
 use Rattle.meaning.specs.Bytes.{put}
 use Rattle.tape.specs.Text.{hexOf}
-use Rattle.tape.proofs.Rooms.{hex-more, none-left, length-hex}
+use Rattle.tape.proofs.Outputs.{hex-more, none-left, length-hex}
 use borrow.Author.Needs.{needs}
 use Rattle.tape.proofs.text.hex.Statement.{statement}
 use Rattle.tape.proofs.text.hex.Tie as tie
@@ -14,11 +14,11 @@ use Rattle.tape.proofs.text.hex.Lts as lts
 use Rattle.tape.proofs.text.digit.Reads as digit-reads
 
 abbrev Inv-loop : tie.InvT-loop
-Inv-loop s room₀ at i₀ to₀ room i to =
-    (i ≤ length s) × (to ≡ at + 3 * i) × (length room ≡ length room₀) × (put room to (hexOf (drop i s)) ≡ put room₀ at (hexOf s))
+Inv-loop s out₀ at i₀ to₀ out i to =
+    (i ≤ length s) × (to ≡ at + 3 * i) × (length out ≡ length out₀) × (put out to (hexOf (drop i s)) ≡ put out₀ at (hexOf s))
 
 abbrev μ-loop : tie.MeasureT-loop
-μ-loop s room₀ at i₀ to₀ room i to = length s - i
+μ-loop s out₀ at i₀ to₀ out i to = length s - i
 
 loop-holds : tie.Need-loop-holds Inv-loop μ-loop
 loop-holds c = (search needs, search needs, refl, refl)
@@ -26,26 +26,26 @@ loop-holds c = (search needs, search needs, refl, refl)
 shared-slice-read-b : tie.Need-shared-slice-read-b Inv-loop μ-loop
 shared-slice-read-b c = search needs
 
-slice-write-room : tie.Need-slice-write-room Inv-loop μ-loop
-slice-write-room c = search needs
+slice-write-out : tie.Need-slice-write-out Inv-loop μ-loop
+slice-write-out c = search needs
 
 digit-requires : tie.Need-digit-requires Inv-loop μ-loop
 digit-requires c κs = omega (arith, c .shared-slice-known2 .given (c .before .before .loop .i))
 
-add-room : tie.Need-add-room Inv-loop μ-loop
-add-room c = search needs
+add-out : tie.Need-add-out Inv-loop μ-loop
+add-out c = search needs
 
-slice-write-room-2 : tie.Need-slice-write-room-2 Inv-loop μ-loop
-slice-write-room-2 c = simp length-set (omega arith)
+slice-write-out-2 : tie.Need-slice-write-out-2 Inv-loop μ-loop
+slice-write-out-2 c = simp length-set (omega arith)
 
 digit-requires-2 : tie.Need-digit-requires-2 Inv-loop μ-loop
 digit-requires-2 c κs = search needs
 
-add-room-2 : tie.Need-add-room-2 Inv-loop μ-loop
-add-room-2 c = search needs
+add-out-2 : tie.Need-add-out-2 Inv-loop μ-loop
+add-out-2 c = search needs
 
-slice-write-room-3 : tie.Need-slice-write-room-3 Inv-loop μ-loop
-slice-write-room-3 c = simp length-set (omega arith)
+slice-write-out-3 : tie.Need-slice-write-out-3 Inv-loop μ-loop
+slice-write-out-3 c = simp length-set (omega arith)
 
 add-i : tie.Need-add-i Inv-loop μ-loop
 add-i c = search needs
@@ -64,7 +64,7 @@ loop-again c =
       omega arith,
       omega arith,
       simp length-set (v .2),
-      rw (c .digit2 .ensures, c .before .digit .ensures) (hex-more (a .s .now) (u .loop .room) (u .loop .i) (u .loop .to) (omega arith) (omega arith)) ∙ v .3,
+      rw (c .digit2 .ensures, c .before .digit .ensures) (hex-more (a .s .now) (u .loop .out) (u .loop .i) (u .loop .to) (omega arith) (omega arith)) ∙ v .3,
     )
 
 same-length : tie.Need-same-length Inv-loop μ-loop
@@ -85,13 +85,13 @@ hex-spec =
     μ-loop
     loop-holds
     shared-slice-read-b
-    slice-write-room
+    slice-write-out
     digit-requires
-    add-room
-    slice-write-room-2
+    add-out
+    slice-write-out-2
     digit-requires-2
-    add-room-2
-    slice-write-room-3
+    add-out-2
+    slice-write-out-3
     add-i
     add-to
     loop-less

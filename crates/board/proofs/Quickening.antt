@@ -1,0 +1,72 @@
+-- The quick way: what it leaves is what the call leaves, where nothing is refused. Assumes nothing.
+use Prim.Native.Nat.{ℕ, _≤_}
+use native.Mathlib.Omega.{arith}
+use mathlib.Core.Path.{_≡_, refl, sym, ap, _∙_}
+use mathlib.Core.Bool.{Bool, true, false, false≢true}
+use mathlib.Core.List.{List, []}
+use borrow.Author.Tests.{le-leb, eq-eqb, leb-true, eqb-true}
+use lib.Dec.{eqb, leb}
+use lib.ListN.{length, take}
+use Rattle.meaning.specs.Bytes.{pick, put}
+use Rattle.meaning.specs.State as meaning
+use Rattle.meaning.specs.State.{Plate, none, withLine}
+use Rattle.meaning.specs.Characters.{over, more, taken}
+use Rattle.meaning.specs.Frames.{Outcome, still, upTo}
+use Rattle.meaning.specs.Run.{Call, character, poll, measured, fault, power-on, step, closes}
+use Rattle.meaning.proofs.Choices.{both-left, both-right}
+use Rattle.line.specs.declared.characters.OpenFrame.{OpenFrame}
+use Rattle.line.specs.Line.{lineOf, Fits, Extends}
+use Rattle.line.proofs.Tight.{put-long}
+use Rattle.state.proofs.Answering.{put-nothing}
+use Rattle.board.specs.declared.limits.Board.{Board}
+use Rattle.board.specs.declared.limits.Outcome.the-variants.{Still}
+use Rattle.board.specs.declared.quick.Quick.{Quick}
+use Rattle.board.specs.Board.{stateOf, fitsIn, refusalOn, Steps}
+use Rattle.board.specs.Quick.{ClosesNone, ClosesOne, QuicklyBy, Quickly}
+use Rattle.board.proofs.Stepping.{put-own, stepped}
+
+-- what the frame's number and the lent places are within
+pub fits-told : (b : Board) (kept : List ℕ) → fitsIn b kept ≡ true → Fits (b .frame) kept
+unfolding fitsIn
+fits-told b kept e = record {
+  few = leb-true (b .frame .len) 135 (both-left (leb (b .frame .len) 135) (eqb (length kept) 135) e);
+  all = eqb-true (length kept) 135 (both-right (leb (b .frame .len) 135) (eqb (length kept) 135) e);
+}
+
+pub told-fits : (b : Board) (kept : List ℕ) → b .frame .len ≤ 135 → length kept ≡ 135 → fitsIn b kept ≡ true
+unfolding fitsIn
+told-fits b kept few all = rw (le-leb (b .frame .len) 135 few, eq-eqb (length kept) 135 all)
+
+-- a call that closes nothing brings nothing, and memory is as it was
+pub quiet-step : (p : Plate) (s : meaning.State) (m : List ℕ) (g : Call) → closes p s g ≡ false → step p s m g ≡ still ((step p s m g) .state) m
+unfolding step closes upTo still
+quiet-step p s m (character t v bad) e = rw e
+quiet-step p s m (poll t) e = rw e
+quiet-step p s m (measured n) e = refl
+quiet-step p s m (fault c) e = refl
+quiet-step p s m power-on e = refl
+
+module _ (p : Plate) (b : Board) (kept : List ℕ) (t : ℕ) where
+  pub taken-quickly : {v : ℕ} {bad : Bool} {f : OpenFrame} {kept′ : List ℕ} → over p (stateOf b kept) t ≡ false
+      → Extends (more (pick (b .frame .begun) (lineOf (b .frame) kept) none) t v bad) kept f kept′ → length kept′ ≡ 135
+      → ClosesNone p b kept (character t v bad) (record { state = b .state; frame = f }) kept′
+  unfolding step closes upTo still taken withLine
+  taken-quickly {v} {bad} {f} {kept′} o x all = record {
+    none = o;
+    state = λ m. rw (o, x .line);
+    bytes = x .bytes ∙ ap (λ (l : meaning.Line). put kept 0 (l .kept)) (sym (x .line));
+    fits = told-fits (record { state = b .state; frame = f }) kept′ (x .few) all;
+  }
+
+  pub polled-quickly : over p (stateOf b kept) t ≡ false → fitsIn b kept ≡ true → ClosesNone p b kept (poll t) b kept
+  unfolding step closes upTo still
+  polled-quickly o fits = record { none = o; state = λ m. rw o; bytes = put-own kept (b .frame .len); fits = fits }
+
+-- .. so where nothing is refused, the quick way is the call
+pub quick-steps : (p : Plate) (b : Board) (k m w : List ℕ) (g : Call) {b′ : Board} {k′ : List ℕ} → refusalOn p b k m (length w) g ≡ 0
+    → ClosesNone p b k g b′ k′ → Steps p b k m w g (record { board = b′; outcome = Still }) k′ m w
+unfolding still
+quick-steps p b k m w g {b′} {k′} e q =
+    let s = quiet-step p (stateOf b k) m g (q .none) in
+    stepped p b k m w g e (rw (q .none)) (q .state m) (q .bytes ∙ ap (λ (x : meaning.State). put k 0 (x .line .kept)) (q .state m)) (sym (ap (λ (o : Outcome). o .memory) s))
+    (put-nothing w 0 ∙ sym (ap (λ (o : Outcome). put w 0 (o .reply)) s)) (fits-told b′ k′ (q .fits) .few)
