@@ -75,6 +75,10 @@ module _ (p : Plate) (b : Board) (k : List ℕ) where
       rw (l, ← i, ← j, ← o, ← e, ← f)
       (sym (limit-told _ h ∙ ap (λ (n : ℕ). pick (w && eqb (length k) 135) n 1) (other-way (eqb (length m) (memoryLength (p .total))) _)))
 
+-- memory's length by the plate
+pub sized : (a : ℕ) {b c : ℕ} {t : Bool} → b ≡ c → eqb a b ≡ t → eqb a c ≡ t
+sized a e h = rw e at h
+
 -- R1 to R3 have no higher number
 pub refusal-few : (p : Plate) (b : Board) (kept m : List ℕ) (r : ℕ) (g : Call) → refusalOn p b kept m r g ≤ 3
 unfolding refusalOn refusedBy

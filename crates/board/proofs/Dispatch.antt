@@ -36,10 +36,6 @@ module _ (c : ℕ) (d : List ℕ) (h : asked (commandOf c) d ≡ true) where
   unfolding commandOf asked row lengthFits
   five e = exact 5 {k = c43} (rw e) (λ x. refl)
 
-  pub one : c ≡ 0x49 → length d ≡ 1
-  unfolding commandOf asked row lengthFits
-  one e = exact 1 {k = c49} (rw e) (λ x. refl)
-
   pub three : c ≡ 0x4F → length d ≡ 3
   unfolding commandOf asked row lengthFits
   three e = exact 3 {k = c4F} (rw e) (λ x. refl)

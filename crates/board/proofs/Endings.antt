@@ -8,7 +8,7 @@ use borrow.Author.Tests.{ne-eqb, ltb-true, ltb-false}
 use lib.Dec.{eqb, ltb}
 use lib.ListN.{length, take, drop, length-take}
 use lib.Seq.{length-take-le, take-take, take-nil}
-use Rattle.meaning.specs.Bytes.{put, part}
+use Rattle.meaning.specs.Bytes.{longestReply, put, part}
 use Rattle.meaning.specs.State as meaning
 use Rattle.meaning.specs.State.{none, ownByte}
 use Rattle.meaning.specs.Commands as commands
@@ -25,9 +25,9 @@ use Rattle.line.specs.declared.plate.Plate.{Plate}
 use Rattle.line.specs.declared.characters.OpenFrame.{OpenFrame}
 use Rattle.line.specs.declared.judge.Judgement.{Judgement}
 use Rattle.line.specs.declared.judge.Judgement.the-variants.{Short, Elsewhere, Fault, Request}
-use Rattle.line.specs.Line.{plateOf, lineOf}
-use Rattle.line.specs.Judge.{judgementOf, endingBy}
-use Rattle.line.proofs.Judging.{ends-as-judged, request-fits}
+use Rattle.line.specs.Line.{plateOf, lineOf, frameOf}
+use Rattle.line.specs.Judge.{judgementOf, endingBy, codeToAnswer}
+use Rattle.line.proofs.Judging.{ends-as-judged, request-fits, some-fault, asking}
 use Rattle.line.proofs.Limits.{low-address}
 use Rattle.state.specs.declared.state.State.{State}
 use Rattle.state.specs.declared.rows.Worked.{Worked}
@@ -35,54 +35,12 @@ use Rattle.board.specs.declared.closing.Closed.{Closed}
 use Rattle.state.specs.State.{stateWith}
 use Rattle.state.proofs.Answering.{put-nothing}
 use Rattle.state.proofs.Same.{same-state}
-use Rattle.board.specs.Work.{Ready, Workable, WorksOn, replyOf, Brief, Sendable, Sends, Serves, Closes}
+use Rattle.board.specs.Work.{Ready, Workable, WorksOn, replyOf, Brief, Answerable, Sendable, Sends, faultReply, Refused, Serves, Closes}
 use Rattle.board.proofs.Sending.{part-length, sealed-length}
-
-drop-two : (n : ℕ) (k : List ℕ) → drop 2 (take (suc (suc n)) k) ≡ take n (drop 2 k)
-drop-two n [] = sym (take-nil n)
-drop-two n (x ∷ []) = sym (take-nil n)
-drop-two n (x ∷ y ∷ r) = refl
-
--- the data part of the kept bytes, lent on
-pub data-part : (k : List ℕ) (n : ℕ) → 3 ≤ n → n ≤ length k → take (n - 1 - 2) (drop 2 k) ≡ dataOf (take n k)
-unfolding dataOf
-data-part k n low all =
-    let e : n ≡ suc (suc (n - 2)) = omega arith in
-    let d : drop 2 (take n k) ≡ take (n - 2) (drop 2 k) = ap (λ (z : ℕ). drop 2 (take z k)) e ∙ drop-two (n - 2) k in
-    let i : n - 1 - 2 ≡ n - 3 = omega arith in
-    rw (length-take-le n k all, d, take-take (n - 3) (n - 2) (drop 2 k) (omega arith), i)
-
-high-unknown : (c : ℕ) → 128 ≤ c → commandOf c ≡ unknown
-unfolding commandOf
-high-unknown c h =
-    let n : (x : ℕ) → x < 128 → eqb c x ≡ false = λ x l. ne-eqb c x (λ z. omega arith) in
-    rw (
-      n 0x42 (omega arith),
-      n 0x43 (omega arith),
-      n 0x46 (omega arith),
-      n 0x47 (omega arith),
-      n 0x49 (omega arith),
-      n 0x4A (omega arith),
-      n 0x4B (omega arith),
-      n 0x4C (omega arith),
-      n 0x4D (omega arith),
-      n 0x4E (omega arith),
-      n 0x4F (omega arith),
-      n 0x50 (omega arith),
-      n 0x53 (omega arith),
-    )
 
 pub unknown-never : (d : List ℕ) → asked unknown d ≡ false
 unfolding asked row lengthFits
 unknown-never d = refl
-
--- a command that its row allows has bit 7 clear
-pub plain : (c : ℕ) (d : List ℕ) → asked (commandOf c) d ≡ true → c < 128
-plain c d h = go (ltb c 128) refl
-  where
-    go : (t : Bool) → ltb c 128 ≡ t → c < 128
-    go true e = ltb-true c 128 e
-    go false e = absurd (false≢true (sym (unknown-never d) ∙ sym (ap (λ (x : commands.Command). asked x d) (high-unknown c (ltb-false c 128 e))) ∙ h))
 
 -- what an answer leaves, in a room where its data stands already
 record Left (p : meaning.Plate) (s : meaning.State) (c : ℕ) (m w : List ℕ) (a : commands.Answer) (t : State) (n : ℕ) (m′ w′ : List ℕ) : Type 0 where
@@ -97,7 +55,7 @@ Few (commands.accept d s m) = length d ≤ 131
 Few (commands.quiet s m) = Unit
 
 -- a message whose data stands in the room already
-module _ (p : meaning.Plate) (s : meaning.State) (c : ℕ) (d w : List ℕ) (few : length d ≤ 131) (wide : 134 ≤ length w) where
+module _ (p : meaning.Plate) (s : meaning.State) (c : ℕ) (d w : List ℕ) (few : length d ≤ 131) (wide : longestReply ≤ length w) where
   as-long : length (message p s c (part (put w 2 d) 2 (length d))) ≡ length (message p s c d)
   unfolding message
   as-long =
@@ -114,7 +72,7 @@ few-told (commands.refuse e) h = tt
 few-told (commands.accept d s m) h = h
 few-told (commands.quiet s m) h = tt
 
-left : (p : meaning.Plate) (s : meaning.State) (c : ℕ) (m w : List ℕ) (a : commands.Answer) (t : State) (x : Answer) {n : ℕ} {m′ v w′ : List ℕ} → Few a → 134 ≤ length w
+left : (p : meaning.Plate) (s : meaning.State) (c : ℕ) (m w : List ℕ) (a : commands.Answer) (t : State) (x : Answer) {n : ℕ} {m′ v w′ : List ℕ} → Few a → longestReply ≤ length w
     → x ≡ told a → stateWith t none ≡ stateAfter a s → m′ ≡ memoryAfter a m → v ≡ dataIn a w → Sends p t c x v n w′ → Left p s c m w a t n m′ w′
 unfolding outcome replyOf
 left p s c m w (commands.refuse e) t x {n} {m′} {v} {w′} few wide i j k l h =
@@ -138,34 +96,32 @@ left p s c m w (commands.quiet s′ m″) t x {n} {m′} {v} {w′} few wide i j
     record { state = j; sent = y .count; memory = k; room = y .bytes }
 
 module _ (p : meaning.Plate) (s : State) (f : OpenFrame) (k m w : List ℕ) {own : ℕ} (o : own ≡ ownByte p (stateWith s none)) where
-  worked-as : {j : Judgement} → judgementOf own (closed (lineOf f k)) ≡ j
+  worked-as : {j : Judgement} → judgementOf own (frameOf f (take (f .len) k)) ≡ j
       → work p (stateWith s none) m (closed (lineOf f k))
       ≡ leaves p (stateWith s none) m (commandByte (take (f .len) k)) (endingBy p (stateWith s none) m (closed (lineOf f k)) j)
   unfolding work closed
   worked-as e = rw (ends-as-judged p (stateWith s none) m (closed (lineOf f k)), ← o, e)
 
-  pub too-short : judgementOf own (closed (lineOf f k)) ≡ Short → Closes p s f k m w (record { state = s; sent = 0 }) m w
-  unfolding leaves still
-  too-short e = record { state = rw (worked-as e); sent = rw (worked-as e); memory = rw (worked-as e); room = rw (worked-as e) (put-nothing w 0) }
+  -- no request: the error code is answered, and nothing changes
+  pub refused : (j : Judgement) {n : ℕ} {w′ : List ℕ} → judgementOf own (frameOf f (take (f .len) k)) ≡ j → asking j ≡ false
+      → Refused p s (codeToAnswer j) w n w′ → Closes p s f k m w (record { state = s; sent = n }) m w′
+  unfolding leaves still outcome faultReply
+  refused Short e q h = record { state = rw (worked-as e); sent = rw (worked-as e) (h .count); memory = rw (worked-as e); room = rw (worked-as e) (h .bytes) }
+  refused Elsewhere e q h = record { state = rw (worked-as e); sent = rw (worked-as e) (h .count); memory = rw (worked-as e); room = rw (worked-as e) (h .bytes) }
+  refused (Fault x) e q h =
+      let z : eqb x 0 ≡ false = some-fault own (frameOf f (take (f .len) k)) e in
+      record { state = rw (worked-as e); sent = rw (worked-as e) (rw z at (h .count)); memory = rw (worked-as e); room = rw (worked-as e) (rw z at (h .bytes)) }
+  refused (Request c) e q h = absurd (false≢true (sym q))
 
-  pub for-another : judgementOf own (closed (lineOf f k)) ≡ Elsewhere → Closes p s f k m w (record { state = s; sent = 0 }) m w
-  unfolding leaves still
-  for-another e = record { state = rw (worked-as e); sent = rw (worked-as e); memory = rw (worked-as e); room = rw (worked-as e) (put-nothing w 0) }
-
-  pub faulty : {e c n : ℕ} {w′ : List ℕ} → judgementOf own (closed (lineOf f k)) ≡ Fault e → Sends p s c (Refuse e) w n w′
-      → Closes p s f k m w (record { state = s; sent = n }) m w′
-  unfolding leaves outcome replyOf
-  faulty e h = record { state = rw (worked-as e); sent = rw (worked-as e) (h .count); memory = rw (worked-as e); room = rw (worked-as e) (h .bytes) }
-
-  pub requested : {c : ℕ} {r : Closed} {m′ w′ : List ℕ} → judgementOf own (closed (lineOf f k)) ≡ Request c
+  pub requested : {c : ℕ} {r : Closed} {m′ w′ : List ℕ} → judgementOf own (frameOf f (take (f .len) k)) ≡ Request c
       → Serves p s c (dataOf (take (f .len) k)) m w (r .state) (r .sent) m′ w′ → Closes p s f k m w r m′ w′
   unfolding leaves closed
   requested {c} e y =
-      let b : commandByte (take (f .len) k) ≡ c = (request-fits own (closed (lineOf f k)) e) .byte in
+      let b : commandByte (take (f .len) k) ≡ c = (request-fits own (frameOf f (take (f .len) k)) e) .byte in
       record { state = rw (worked-as e, b) (y .state); sent = rw (worked-as e, b) (y .sent); memory = rw (worked-as e, b) (y .memory); room = rw (worked-as e, b) (y .room) }
 
 -- a request, worked and answered
-pub served : (p : meaning.Plate) (s : State) (c : ℕ) (d m w : List ℕ) {r : Worked} {n : ℕ} {m′ v w′ : List ℕ} → 134 ≤ length w
+pub served : (p : meaning.Plate) (s : State) (c : ℕ) (d m w : List ℕ) {r : Worked} {n : ℕ} {m′ v w′ : List ℕ} → longestReply ≤ length w
     → WorksOn (worked (commandOf c) p (stateWith s none) m d) s m w r m′ v → Sends p (r .state) c (r .answer) v n w′ → Serves p s c d m w (r .state) n m′ w′
 served p s c d m w {r} {n} {m′} {v} {w′} wide x h =
     let q : meaning.State = stateWith s none in
@@ -175,14 +131,12 @@ served p s c d m w {r} {n} {m′} {v} {w′} wide x h =
 
 -- what a reply asks, from what a request asks
 pub sendable : (p : Plate) (s : State) (c : ℕ) (d m w : List ℕ) → Workable p s c d m w → {x : Answer} {u : List ℕ}
-    → x ≡ told (worked (commandOf c) (plateOf p) (stateWith s none) m d) → 134 ≤ length u → Sendable p c x u
+    → x ≡ told (worked (commandOf c) (plateOf p) (stateWith s none) m d) → longestReply ≤ length u → Sendable p x u
 sendable p s c d m w h e l =
     let q : meaning.State = stateWith s none in
     record {
-      address = low-address (plateOf p) (h .plate);
-      plain = plain c d (h .fits);
+      ready = record { address = low-address (plateOf p) (h .plate); room = l };
       brief = rw e (few-told (worked (commandOf c) (plateOf p) q m d) (limits.brief (plateOf p) q m d (commandOf c)));
-      room = l;
     }
 
 -- no two differing outcomes satisfy the contract of a request, nor that of an error code
@@ -205,32 +159,20 @@ serves-tight p s c d m w t u x y =
 pub sends-tight : (p : meaning.Plate) (s : State) (c : ℕ) (a : Answer) (w : List ℕ) {n k : ℕ} {w′ w″ : List ℕ} → Sends p s c a w n w′ → Sends p s c a w k w″ → (n ≡ k) × (w′ ≡ w″)
 sends-tight p s c a w x y = (x .count ∙ sym (y .count), x .bytes ∙ sym (y .bytes))
 
--- what `serve` and `reply` ask, from what `close` asks
+-- what `serve` and `refuse` ask, from what `close` asks
 module _ (p : Plate) (s : State) (f : OpenFrame) (k m w : List ℕ) (h : Ready p s f k m w) where
-  within : f .len ≤ length k
-  within = omega (arith, h .fits .few, h .fits .all)
-
   pub own-known : p .address ≤ 31
   own-known = low-address (plateOf p) (h .plate)
 
-  pub error-sendable : (e : ℕ) {v : List ℕ} → 134 ≤ length v → Sendable p 0x50 (Refuse e) v
-  error-sendable e l = record { address = own-known; plain = omega arith; brief = tt; room = l }
+  pub answerable : Answerable p w
+  answerable = record { address = own-known; room = h .room }
 
-  module _ (own : ℕ) {c : ℕ} (e : judgementOf own (closed (lineOf f k)) ≡ Request c) where
-    pub long : 3 ≤ f .len
-    unfolding closed
-    long = omega (arith, ltb-false (length (take (f .len) k)) 3 ((request-fits own (closed (lineOf f k)) e) .long), length-take (f .len) k)
+  module _ (own : ℕ) (b : List ℕ) {c : ℕ} (e : judgementOf own (frameOf f b) ≡ Request c) where
+    pub long : 3 ≤ length b
+    long = ltb-false (length b) 3 ((request-fits own (frameOf f b) e) .long)
 
-    part-of : take (f .len - 1 - 2) (drop 2 k) ≡ dataOf (take (f .len) k)
-    part-of = data-part k (f .len) long within
+    right : asked (commandOf c) (dataOf b) ≡ true
+    right = rw ((request-fits own (frameOf f b) e) .byte) at ((request-fits own (frameOf f b) e) .right)
 
-    right : asked (commandOf c) (dataOf (take (f .len) k)) ≡ true
-    unfolding closed
-    right = rw ((request-fits own (closed (lineOf f k)) e) .byte) at ((request-fits own (closed (lineOf f k)) e) .right)
-
-    pub workable : Workable p s c (take (f .len - 1 - 2) (drop 2 k)) m w
-    workable = record { plate = h .plate; counter = h .counter; size = h .size; room = h .room; fits = rw part-of right }
-
-    pub as-served : {r : Closed} {m′ w′ : List ℕ} → Serves (plateOf p) s c (take (f .len - 1 - 2) (drop 2 k)) m w (r .state) (r .sent) m′ w′
-        → Serves (plateOf p) s c (dataOf (take (f .len) k)) m w (r .state) (r .sent) m′ w′
-    as-served x = rw part-of at x
+    pub workable : {d : List ℕ} → d ≡ dataOf b → Workable p s c d m w
+    workable i = record { plate = h .plate; counter = h .counter; size = h .size; room = h .room; fits = rw i right }

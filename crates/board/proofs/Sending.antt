@@ -2,9 +2,11 @@
 use Prim.Native.Nat.{ℕ, _+_, _≤_}
 use native.Mathlib.Omega.{arith}
 use mathlib.Core.Path.{_≡_, sym, _∙_}
+use mathlib.Core.Bool.{true, false}
+use lib.Dec.{eqb}
 use mathlib.Core.List.{List, [], _∷_}
 use lib.ListN.{length, length-append, length-take, length-drop}
-use Rattle.meaning.specs.Bytes.{put, part}
+use Rattle.meaning.specs.Bytes.{longestReply, put, part}
 use Rattle.meaning.specs.State as meaning
 use Rattle.meaning.specs.State.{none, ownByte}
 use Rattle.meaning.specs.Frames.{sealed, message, warned}
@@ -14,20 +16,20 @@ use Rattle.state.specs.declared.state.State.{State}
 use Rattle.state.specs.Queue.{queueOf}
 use Rattle.state.specs.State.{stateWith}
 use Rattle.state.proofs.Answering.{put-nothing}
-use Rattle.board.specs.Work.{replyOf, Brief, Sends}
+use Rattle.board.specs.Work.{replyOf, Brief, Sends, faultReply, Refused}
 
 pub sealed-length : (a c : ℕ) (d : List ℕ) → length (sealed (a ∷ c ∷ d)) ≡ length d + 3
 unfolding sealed
 sealed-length a c d = simp length-append (omega arith)
 
-pub part-length : (w : List ℕ) (n : ℕ) → n ≤ 131 → 134 ≤ length w → length (part w 2 n) ≡ n
+pub part-length : (w : List ℕ) (n : ℕ) → n ≤ 131 → longestReply ≤ length w → length (part w 2 n) ≡ n
 unfolding part
 part-length w n few wide = simp (length-take, length-drop) (omega arith)
 
 pub brief-data : {x : Answer} {n : ℕ} → Brief x → x ≡ Accept n → n ≤ 131
 brief-data h e = rw e at h
 
-pub enough-room : {n l : ℕ} → n ≤ 131 → 134 ≤ l → n + 3 ≤ l
+pub enough-room : {n l : ℕ} → n ≤ 131 → longestReply ≤ l → n + 3 ≤ l
 enough-room h k = omega arith
 
 module _ (p : meaning.Plate) (s : State) (c : ℕ) (w : List ℕ) {x : Answer} where
@@ -40,7 +42,7 @@ module _ (p : meaning.Plate) (s : State) (c : ℕ) (w : List ℕ) {x : Answer} w
         bytes = rw (q, ← o, ← k) h;
       }
 
-  pub data-sent : {own mark n : ℕ} {w′ : List ℕ} → x ≡ Accept n → n ≤ 131 → 134 ≤ length w → own ≡ ownByte p (stateWith s none)
+  pub data-sent : {own mark n : ℕ} {w′ : List ℕ} → x ≡ Accept n → n ≤ 131 → longestReply ≤ length w → own ≡ ownByte p (stateWith s none)
       → mark ≡ warned c (queueOf (s .faults)) → w′ ≡ put w 0 (sealed (own ∷ mark ∷ part w 2 n)) → Sends p s c x w (n + 3) w′
   unfolding replyOf message
   data-sent {n = n} q few wide o k h =
@@ -53,3 +55,12 @@ module _ (p : meaning.Plate) (s : State) (c : ℕ) (w : List ℕ) {x : Answer} w
   pub none-sent : x ≡ Quiet → Sends p s c x w 0 w
   unfolding replyOf
   none-sent q = record { count = rw q; bytes = rw q (put-nothing w 0) }
+
+-- an error code by itself, and silence
+pub fault-sent : (p : meaning.Plate) (s : State) (w : List ℕ) {e n : ℕ} {w′ : List ℕ} → eqb e 0 ≡ false → Sends p s 0x50 (Refuse e) w n w′ → Refused p s e w n w′
+unfolding faultReply replyOf
+fault-sent p s w q h = record { count = rw q (h .count); bytes = rw q (h .bytes) }
+
+pub fault-silent : (p : meaning.Plate) (s : State) (w : List ℕ) {e : ℕ} → eqb e 0 ≡ true → Refused p s e w 0 w
+unfolding faultReply
+fault-silent p s w q = record { count = rw q; bytes = rw q (put-nothing w 0) }

@@ -281,8 +281,3 @@ dropped-few b next e =
     let kept : List ℕ = zeros (next .frame .len) in
     let z : take (next .frame .len) kept ≡ [] = ap (λ (s : meaning.State). s .line .kept) (e kept) in
     omega (arith, ap length z, length-take (next .frame .len) kept, length-replicate {A = ℕ} (next .frame .len) 0)
-
--- the queue without its oldest code
-pub without-oldest : (s : State) (l : meaning.Line) (q : List ℕ) {f : Faults} → Queues (s .faults) q f → holding (stateWith s l) f ≡ meaning.withQueue (stateWith s l) q
-unfolding holding meaning.withLock meaning.withQueue
-without-oldest s l q h = rw (h .queue, h .lock)

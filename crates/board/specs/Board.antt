@@ -5,7 +5,7 @@ use mathlib.Core.Bool.{Bool, true, false}
 use mathlib.Core.List.{List}
 use lib.Dec.{eqb, leb}
 use lib.ListN.{length, drop}
-use Rattle.meaning.specs.Bytes.{pick, both, put, arg}
+use Rattle.meaning.specs.Bytes.{pick, both, longestRequest, put, arg}
 use Rattle.meaning.specs.State.{Plate, State, plateOk, stateOk, withQueue}
 use Rattle.meaning.specs.Run.{Call, Held, refusedBy, called, closes}
 use Rattle.line.specs.Line.{lineOf}
@@ -21,11 +21,11 @@ stateOf b kept = stateWith (b .state) (lineOf (b .frame) kept)
 
 -- 01, "at most 135 kept bytes", of the frame's number and of the lent places
 unfoldable pub fitsIn : Board → List ℕ → Bool
-fitsIn b kept = both (leb (b .frame .len) 135) (eqb (length kept) 135)
+fitsIn b kept = both (leb (b .frame .len) longestRequest) (eqb (length kept) longestRequest)
 
 -- R1 does not apply, where there are 135 places: the plate, the numbers and the number of kept bytes are possible
 unfoldable pub within : Plate → Board → List ℕ → Bool
-within p b kept = both (leb (b .frame .len) 135) (both (plateOk p) (stateOk p (stateOf b kept)))
+within p b kept = both (leb (b .frame .len) longestRequest) (both (plateOk p) (stateOk p (stateOf b kept)))
 
 -- 01, R1 to R3, 0 where none applies: the meaning's, and R1 also for what the meaning's state cannot hold
 unfoldable pub refusalOn : Plate → Board → List ℕ → List ℕ → ℕ → Call → ℕ
@@ -78,7 +78,7 @@ pub record Steps (p : Plate) (b : Board) (kept m w : List ℕ) (g : Call) (r : S
   pub bytes : kept′ ≡ put kept 0 ((calledOn p b kept m w g) .state .line .kept)
   pub memory : m′ ≡ (calledOn p b kept m w g) .memory
   pub room : w′ ≡ (calledOn p b kept m w g) .room
-  pub few : (calledOn p b kept m w g) .refusal ≡ 0 → r .board .frame .len ≤ 135
+  pub few : (calledOn p b kept m w g) .refusal ≡ 0 → r .board .frame .len ≤ longestRequest
   pub refused : ((calledOn p b kept m w g) .refusal ≡ 0 → ⊥) → r .board ≡ b
 
 -- 01, row 50h, "oldest queued code, or 00h; removes it"

@@ -1,13 +1,13 @@
 -- A frame is closed: what its work, its reply and its close ask and leave (01, "Characters become frames"). Assumes nothing.
-use Prim.Native.Nat.{ℕ, _≤_, _<_}
+use Prim.Native.Nat.{ℕ, _≤_}
 use mathlib.Core.Path.{_≡_}
 use mathlib.Core.Bool.{Bool, true, false}
 use mathlib.Core.List.{List, [], _∷_}
 use lib.Dec.{eqb, leb}
 use lib.ListN.{length}
-use Rattle.meaning.specs.Bytes.{both, either, part, put}
+use Rattle.meaning.specs.Bytes.{pick, both, either, longestReply, part, put}
 use Rattle.meaning.specs.State as meaning
-use Rattle.meaning.specs.State.{none, plateOk}
+use Rattle.meaning.specs.State.{none, lastCount, plateOk}
 use Rattle.meaning.specs.Fields.{memoryLength}
 use Rattle.meaning.specs.Commands.{commandOf, asked, worked}
 use Rattle.meaning.specs.Commands as commands
@@ -28,17 +28,17 @@ use Rattle.board.specs.declared.closing.Closed.{Closed}
 -- within the limits, R1 to R3
 pub record Ready (p : Plate) (s : State) (f : OpenFrame) (kept m w : List ℕ) : Type 0 where
   pub plate : plateOk (plateOf p) ≡ true
-  pub counter : s .counter ≤ 0xFFFFFF
+  pub counter : s .counter ≤ lastCount
   pub fits : Fits f kept
   pub size : length m ≡ memoryLength (p .total)
-  pub room : 134 ≤ length w
+  pub room : longestReply ≤ length w
 
 -- .. and a request whose data d has its row's length
 pub record Workable (p : Plate) (s : State) (c : ℕ) (d m w : List ℕ) : Type 0 where
   pub plate : plateOk (plateOf p) ≡ true
-  pub counter : s .counter ≤ 0xFFFFFF
+  pub counter : s .counter ≤ lastCount
   pub size : length m ≡ memoryLength (p .total)
-  pub room : 134 ≤ length w
+  pub room : longestReply ≤ length w
   pub fits : asked (commandOf c) d ≡ true
 
 -- the answer a of the meaning, worked on state, memory and room
@@ -58,8 +58,8 @@ pub record Tells (a : commands.Answer) (s : meaning.State) (m w : List ℕ) (r :
 -- what the other rows ask
 pub record Changeable (n : ℕ) (s : State) (c : ℕ) (d w : List ℕ) : Type 0 where
   pub bits : n ≤ 32
-  pub counter : s .counter ≤ 0xFFFFFF
-  pub room : 134 ≤ length w
+  pub counter : s .counter ≤ lastCount
+  pub room : longestReply ≤ length w
   pub fits : asked (commandOf c) d ≡ true
   pub changes : leavesState c ≡ false
 
@@ -69,17 +69,28 @@ replyOf p s c (Refuse e) w = message p s 0x50 (e ∷ [])
 replyOf p s c (Accept n) w = message p s c (part w 2 n)
 replyOf p s c Quiet w = []
 
+-- a reply may be written
+pub record Answerable (p : Plate) (w : List ℕ) : Type 0 where
+  pub address : p .address ≤ 31
+  pub room : longestReply ≤ length w
+
+-- 01, "judged in this order", 1 to 6: a frame that is no request, by its error code; 00h is silence
+unfoldable pub faultReply : meaning.Plate → meaning.State → ℕ → List ℕ
+faultReply p s e = pick (eqb e 0) [] (message p s 0x50 (e ∷ []))
+
+pub record Refused (p : meaning.Plate) (s : State) (e : ℕ) (w : List ℕ) (r : ℕ) (w′ : List ℕ) : Type 0 where
+  pub count : r ≡ length (faultReply p (stateWith s none) e)
+  pub bytes : w′ ≡ put w 0 (faultReply p (stateWith s none) e)
+
 -- data that a reply has room for
 abbrev pub Brief : Answer → Type 0
 Brief (Refuse e) = Unit
 Brief (Accept n) = n ≤ 131
 Brief Quiet = Unit
 
-pub record Sendable (p : Plate) (c : ℕ) (x : Answer) (w : List ℕ) : Type 0 where
-  pub address : p .address ≤ 31
-  pub plain : c < 128
+pub record Sendable (p : Plate) (x : Answer) (w : List ℕ) : Type 0 where
+  pub ready : Answerable p w
   pub brief : Brief x
-  pub room : 134 ≤ length w
 
 pub record Sends (p : meaning.Plate) (s : State) (c : ℕ) (x : Answer) (w : List ℕ) (r : ℕ) (w′ : List ℕ) : Type 0 where
   pub count : r ≡ length (replyOf p (stateWith s none) c x w)

@@ -3,6 +3,7 @@ ghost use mathlib.Core.Path.{_≡_};
 ghost use mathlib.Core.List.{List};
 ghost use Prim.Native.Nat.{ℕ};
 ghost use lib.ListN.{length};
+ghost use Rattle.meaning.specs.Bytes.{longestRequest};
 ghost use Rattle.meaning.specs.State as meaning;
 ghost use Rattle.meaning.specs.Run as run;
 ghost use Rattle.line.specs.Line.{plateOf};
@@ -85,7 +86,7 @@ pub fn character(
 
 // What lends nothing meets R1 alone; else the board is then as told.
 fn told(plate: Plate, board: Board, next: Board) -> Stepped
-    ensures { λ r. ⌜ ((kept : List ℕ) → length kept ≡ 135 → r ≡ takenIf (within (plateOf plate) board kept) board next) ⌝ }
+    ensures { λ r. ⌜ ((kept : List ℕ) → length kept ≡ longestRequest → r ≡ takenIf (within (plateOf plate) board kept) board next) ⌝ }
 {
     if !within_limits(plate, board) {
         let outcome = Outcome::R1;
@@ -100,7 +101,7 @@ fn told(plate: Plate, board: Board, next: Board) -> Stepped
 
 // 01, "measured, any 32-bit number": kept as given.
 pub fn measured(plate: Plate, board: Board, position: u32) -> Stepped
-    ensures { λ r. ⌜ ((kept m w : List ℕ) → length kept ≡ 135 → Steps (plateOf plate) board kept m w (run.measured position) r kept m w) ⌝ }
+    ensures { λ r. ⌜ ((kept m w : List ℕ) → length kept ≡ longestRequest → Steps (plateOf plate) board kept m w (run.measured position) r kept m w) ⌝ }
 {
     let frame = board.frame;
     let state = board.state.with_measured(position);
@@ -109,14 +110,14 @@ pub fn measured(plate: Plate, board: Board, position: u32) -> Stepped
 
 // 01, "The host notes codes".
 pub fn fault(plate: Plate, board: Board, code: u8) -> Stepped
-    ensures { λ r. ⌜ ((kept m w : List ℕ) → length kept ≡ 135 → Steps (plateOf plate) board kept m w (run.fault code) r kept m w) ⌝ }
+    ensures { λ r. ⌜ ((kept m w : List ℕ) → length kept ≡ longestRequest → Steps (plateOf plate) board kept m w (run.fault code) r kept m w) ⌝ }
 {
     told(plate, board, board.note(code))
 }
 
 // 01, "Power-on empties the queue, drops an open frame and unlocks; all else stays".
 pub fn power_on(plate: Plate, board: Board) -> Stepped
-    ensures { λ r. ⌜ ((kept m w : List ℕ) → length kept ≡ 135 → Steps (plateOf plate) board kept m w run.power-on r kept m w) ⌝ }
+    ensures { λ r. ⌜ ((kept m w : List ℕ) → length kept ≡ longestRequest → Steps (plateOf plate) board kept m w run.power-on r kept m w) ⌝ }
 {
     told(plate, board, board.power_on())
 }

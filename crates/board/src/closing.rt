@@ -2,7 +2,7 @@
 ghost use mathlib.Core.Path.{_≡_};
 ghost use mathlib.Core.Bool.{true, false};
 ghost use Rattle.line.specs.Line.{plateOf};
-ghost use Rattle.board.specs.Work.{leavesState, Ready, Workable, Sendable, Sends, Serves, Closes};
+ghost use Rattle.board.specs.Work.{leavesState, Ready, Workable, Answerable, Refused, Serves, Closes};
 use crate::reply::reply;
 use crate::rows::change;
 use crate::rows::leaves_state;
@@ -12,6 +12,7 @@ use line::OpenFrame;
 use line::Plate;
 use state::State;
 use wire::Answer;
+use wire::codes::ERROR_REPLY;
 
 // The state after a frame is closed, and how many reply bytes stand at the room's front, 0 being silence.
 pub struct Closed {
@@ -19,12 +20,15 @@ pub struct Closed {
     pub sent: usize,
 }
 
-// A frame that is answered by an error code; the reply's length comes back.
+// A frame that is no request is answered by its error code; 00h is silence. The reply's length comes back.
 pub fn refuse(plate: Plate, state: State, code: u8, room: &mut [u8]) -> usize
-    requires { ⌜ Sendable plate 0x50 (Answer.Refuse code) (now room) ⌝ }
-    ensures { λ r. ⌜ Sends (plateOf plate) state 0x50 (Answer.Refuse code) (now (room .entry)) r (now (room .exit)) ⌝ }
+    requires { ⌜ Answerable plate (now room) ⌝ }
+    ensures { λ r. ⌜ Refused (plateOf plate) state code (now (room .entry)) r (now (room .exit)) ⌝ }
 {
-    reply(plate, state, 0x50, Answer::Refuse(code), room)
+    if code == 0 {
+        return 0;
+    }
+    reply(plate, state, ERROR_REPLY, Answer::Refuse(code), room)
 }
 
 // A request that leaves the state as it is.
@@ -91,16 +95,12 @@ pub(crate) fn close(
     requires { ⌜ Ready plate state frame (now kept) (now memory) (now room) ⌝ }
     ensures { λ r. ⌜ Closes (plateOf plate) state frame (now (kept .entry)) (now (memory .entry)) (now (room .entry)) r (now (memory .exit)) (now (room .exit)) ⌝ }
 {
-    match frame.judged(line::own_byte(plate), kept) {
-        Judgement::Short => Closed { state, sent: 0 },
-        Judgement::Elsewhere => Closed { state, sent: 0 },
-        Judgement::Fault(code) => {
-            let sent = refuse(plate, state, code, room);
-            Closed { state, sent }
-        }
-        Judgement::Request(command) => {
-            let end = frame.len as usize - 1;
-            serve(plate, state, command, &kept[2..end], memory, room)
-        }
-    }
+    let len = frame.len as usize;
+    let bytes = &kept[..len];
+    let judgement = frame.judged(line::own_byte(plate), bytes);
+    let Judgement::Request(command) = judgement else {
+        let sent = refuse(plate, state, judgement.code(), room);
+        return Closed { state, sent };
+    };
+    serve(plate, state, command, wire::data_part(bytes), memory, room)
 }

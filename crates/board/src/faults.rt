@@ -28,8 +28,8 @@ impl Board {
         ensures { λ r. ⌜ ReadsOldest self r ⌝ }
     {
         let frame = self.frame;
-        let oldest = self.state.faults.read();
-        let state = self.state.with_faults(oldest.faults);
+        let oldest = self.state.read();
+        let state = oldest.state;
         let board = Board { state, frame };
         Oldest {
             code: oldest.code,

@@ -4,12 +4,15 @@ ghost use mathlib.Core.Bool.{true};
 ghost use mathlib.Core.List.{List};
 ghost use Prim.Native.Nat.{ℕ};
 ghost use lib.ListN.{length};
+ghost use Rattle.meaning.specs.Bytes.{longestRequest};
 ghost use Rattle.meaning.specs.Run.{Call, lends};
 ghost use Rattle.line.specs.Line.{plateOf};
 ghost use Rattle.board.specs.Board.{within, isRefusal, replyLength, refusalOn, refusedAs};
 use line::OpenFrame;
 use line::Plate;
 use state::State;
+use wire::codes::LONGEST_REPLY;
+use wire::codes::LONGEST_REQUEST;
 
 // All that the board keeps, but for the lent memory and the lent places of the kept bytes.
 pub struct Board {
@@ -61,14 +64,14 @@ pub struct Stepped {
 
 // R1 for the calls that lend nothing, and the first of the three for the others.
 pub(crate) fn within_limits(plate: Plate, board: Board) -> bool
-    ensures { λ r. ⌜ ((kept : List ℕ) → length kept ≡ 135 → r ≡ within (plateOf plate) board kept) ⌝ }
+    ensures { λ r. ⌜ ((kept : List ℕ) → length kept ≡ longestRequest → r ≡ within (plateOf plate) board kept) ⌝ }
 {
     let state = board.state;
     let frame = board.frame;
     if !plate.is_ok() {
         return false;
     }
-    if 135 < frame.len {
+    if (LONGEST_REQUEST as u8) < frame.len {
         return false;
     }
     state.is_ok(plate.bits)
@@ -78,17 +81,15 @@ pub(crate) fn within_limits(plate: Plate, board: Board) -> bool
 pub fn refusal(plate: Plate, board: Board, kept: usize, memory: usize, room: usize) -> Outcome
     ensures { λ r. ⌜ ((k m : List ℕ) (g : Call) → length k ≡ kept → length m ≡ memory → lends g ≡ true → r ≡ refusedAs (refusalOn (plateOf plate) board k m room g) Outcome.Still) ⌝ }
 {
-    let possible = within_limits(plate, board) & (kept == 135);
-    // 17T: 16T of data, then T status bytes.
-    let total = plate.total as u64;
-    let sized = memory as u64 == 16 * total + total;
+    let possible = within_limits(plate, board) & (kept == LONGEST_REQUEST);
+    let sized = memory as u64 == plate.memory_length();
     if !possible {
         return Outcome::R1;
     }
     if !sized {
         return Outcome::R2;
     }
-    if room < 134 {
+    if room < LONGEST_REPLY {
         return Outcome::R3;
     }
     Outcome::Still

@@ -4,10 +4,11 @@ ghost use Rattle.board.specs.Work.{Sendable, Sends};
 use line::Plate;
 use state::State;
 use wire::Answer;
+use wire::codes::ERROR_REPLY;
 
 // The reply's data stands at place 2 of the room on; its length comes back, 0 being silence.
 pub fn reply(plate: Plate, state: State, command: u8, answer: Answer, room: &mut [u8]) -> usize
-    requires { ⌜ Sendable plate command answer (now room) ⌝ }
+    requires { ⌜ Sendable plate answer (now room) ⌝ }
     ensures { λ r. ⌜ Sends (plateOf plate) state command answer (now (room .entry)) r (now (room .exit)) ⌝ }
 {
     let own = line::own_byte(plate);
@@ -15,7 +16,7 @@ pub fn reply(plate: Plate, state: State, command: u8, answer: Answer, room: &mut
     match answer {
         Answer::Refuse(code) => {
             let body = [code];
-            wire::write(own, faults.marked(0x50), &body, room);
+            wire::write(own, faults.marked(ERROR_REPLY), &body, room);
             4
         }
         Answer::Accept(n) => {

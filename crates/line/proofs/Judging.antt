@@ -2,8 +2,11 @@
 use Prim.Native.Nat.{ℕ, _<_, _≤_}
 use mathlib.Core.Path.{_≡_, refl, sym, ap, _∙_}
 use mathlib.Core.Bool.{Bool, true, false, not, false≢true}
-use mathlib.Core.List.{List}
-use borrow.Author.Tests.{lt-ltb, le-ltb}
+use mathlib.Core.List.{List, [], _∷_}
+use mathlib.Core.Logic.{⊎-elim}
+use types.Run.{OneOf}
+use denote.Enum.Declared.{tagOf}
+use borrow.Author.Tests.{lt-ltb, le-ltb, eqb-false}
 use lib.Dec.{eqb, ltb}
 use lib.ListN.{length}
 use Rattle.meaning.specs.Bytes.{pick, either, arg, differ}
@@ -17,7 +20,8 @@ use Rattle.wire.specs.declared.table.Row.{Row}
 use Rattle.wire.specs.Table.{lengthOf, rowOf}
 use Rattle.line.specs.declared.judge.Judgement.{Judgement}
 use Rattle.line.specs.declared.judge.Judgement.the-variants.{Short, Elsewhere, Fault, Request}
-use Rattle.line.specs.Judge.{addressed, judgementOf, endingBy}
+use Rattle.line.proofs.judge.Judgement.{the-type}
+use Rattle.line.specs.Judge.{addressed, judgementOf, endingBy, codeToAnswer}
 
 -- the judge's ways out, in the order of 01
 module _ (own : ℕ) (b : characters.Frame) where
@@ -93,7 +97,7 @@ ends-as-judged p s m b =
     go a q false false false false false false true = refl
     go a q false false false false false false false = ap answered q
 
-abbrev asking : Judgement → Bool
+abbrev pub asking : Judgement → Bool
 asking Short = false
 asking Elsewhere = false
 asking (Fault e) = false
@@ -104,6 +108,12 @@ asked-for n Short = n
 asked-for n Elsewhere = n
 asked-for n (Fault e) = n
 asked-for n (Request c) = c
+
+abbrev silent : Judgement → Bool
+silent Short = true
+silent Elsewhere = true
+silent (Fault e) = false
+silent (Request c) = false
 
 -- a request is one that its row allows
 pub record Asks (b : characters.Frame) (c : ℕ) : Type 0 where
@@ -128,3 +138,31 @@ request-fits own b {c} e =
     go false false false false false true z i j e = absurd (false≢true (ap asking e))
     go false false false false false false false i j e = absurd (false≢true (ap asking e))
     go false false false false false false true i j e = record { long = i; byte = ap (asked-for 0) e; right = j }
+
+-- an error code to answer is never 00h
+pub some-fault : (own : ℕ) (b : characters.Frame) {x : ℕ} → judgementOf own b ≡ Fault x → eqb x 0 ≡ false
+unfolding judgementOf
+some-fault own b {x} e =
+    go (ltb (length (b .bytes)) 3) (not (addressed (arg (b .bytes) 0) own)) (b .parity) (differ (b .sum) 0) (b .longer)
+    (not ((row (commandOf (commandByte (b .bytes)))) .known)) (not (asked (commandOf (commandByte (b .bytes))) (dataOf (b .bytes)))) e
+  where
+    same-code : {n : ℕ} → Fault n ≡ Fault x → eqb n 0 ≡ eqb x 0
+    same-code h = ap (λ (j : Judgement). eqb (codeToAnswer j) 0) h
+
+    go : (t u v w y z a : Bool)
+        → pick t Short (pick u Elsewhere (pick v (Fault 0x09) (pick w (Fault 0x0A) (pick y (Fault 0x0C) (pick z (Fault 0x0B) (pick a (Fault 0x0C) (Request (commandByte (b .bytes)))))))))
+        ≡ Fault x → eqb x 0 ≡ false
+    go true u v w y z a h = absurd (false≢true (ap silent (sym h)))
+    go false true v w y z a h = absurd (false≢true (ap silent (sym h)))
+    go false false true w y z a h = sym (same-code h)
+    go false false false true y z a h = sym (same-code h)
+    go false false false false true z a h = sym (same-code h)
+    go false false false false false true a h = sym (same-code h)
+    go false false false false false false true h = sym (same-code h)
+    go false false false false false false false h = absurd (false≢true (ap asking (sym h)))
+
+pub no-request : (j : Judgement) → OneOf (0 ∷ 1 ∷ 2 ∷ []) (tagOf the-type j) → asking j ≡ false
+no-request Short e = refl
+no-request Elsewhere e = refl
+no-request (Fault x) e = refl
+no-request (Request c) e = absurd (⊎-elim (eqb-false 3 0 refl) (⊎-elim (eqb-false 3 1 refl) (eqb-false 3 2 refl)) e)

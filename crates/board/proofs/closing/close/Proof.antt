@@ -1,61 +1,73 @@
 -- `board::closing::close` meets its contract. Assumes nothing.
-use mathlib.Core.Path.{sym, _∙_}
 use native.Mathlib.Omega.{arith}
-use Rattle.board.proofs.Endings.{own-known, error-sendable, long, workable, too-short, for-another, faulty, requested, as-served}
+use mathlib.Core.Path.{sym, _∙_}
+use lib.Seq.{length-take-le}
+use Rattle.line.proofs.Judging.{no-request}
+use Rattle.board.proofs.Endings.{own-known, answerable, long, workable, refused, requested}
 use borrow.Author.Needs.{needs}
 use Rattle.board.proofs.closing.close.Statement.{statement}
 use Rattle.board.proofs.closing.close.Tie as tie
+use Rattle.board.proofs.closing.close.Reads as reads
+use Rattle.board.proofs.closing.close.Lts as lts
+use Rattle.board.proofs.closing.refuse.Reads as refuse-reads
+use Rattle.board.proofs.closing.serve.Reads as serve-reads
+use Rattle.line.proofs.characters.OpenFrame.judged.Reads as judged-reads
+use Rattle.line.proofs.judge.Judgement.code.Reads as code-reads
+use Rattle.line.proofs.own_byte.Reads as own-byte-reads
+use Rattle.wire.proofs.data_part.Reads as data-part-reads
+
+cast-len : tie.Need-cast-len
+cast-len c = search needs
+
+slice-aggregate-bytes : tie.Need-slice-aggregate-bytes
+slice-aggregate-bytes c =
+    let start = c .before .before .before .before .before in
+    sym (length-take-le _ _ (omega (arith, start .pre .fits .few, start .pre .fits .all)))
 
 own-byte-requires : tie.Need-own-byte-requires
-own-byte-requires c κs = own-known _ _ _ _ _ _ (c .before .before .before .pre)
+own-byte-requires c κs =
+    let start = c .before .before .before .before .before in
+    own-known _ _ _ _ _ _ (start .pre)
 
 judged-requires : tie.Need-judged-requires
 judged-requires c κs = search needs
 
-enum-told : tie.Need-enum-told
-enum-told c = search needs
+enum-known-judgement : tie.Need-enum-known-judgement
+enum-known-judgement c = search needs
 
-enum-told-2 : tie.Need-enum-told-2
-enum-told-2 c = search needs
-
-enum-known-code : tie.Need-enum-known-code
-enum-known-code c = search needs
+code-requires : tie.Need-code-requires
+code-requires c κs = search needs
 
 refuse-requires : tie.Need-refuse-requires
-refuse-requires c κs = error-sendable _ _ _ _ _ _ (c .before .before .before .before .before .before .before .before .before .pre) _ (c .before .before .before .before .before .before .before .before .before .pre .room)
-
-enum-known-command : tie.Need-enum-known-command
-enum-known-command c = search needs
-
-cast-end : tie.Need-cast-end
-cast-end c = search needs
-
-sub-end : tie.Need-sub-end
-sub-end c = omega (arith, long _ _ _ _ _ _ (c .before .before .before .before .before .before .before .before .before .pre) _ (sym (c .before .before .before .before .judged .ensures) ∙ c .before .before .command .given .1))
-
-sub-serve : tie.Need-sub-serve
-sub-serve c = omega (arith, long _ _ _ _ _ _ (c .before .before .before .before .before .before .before .before .before .pre) _ (sym (c .before .before .before .before .judged .ensures) ∙ c .before .before .command .given .1))
-
-part-serve-start : tie.Need-part-serve-start
-part-serve-start c = omega (arith, c .before .before .before .before .before .before .before .before .before .pre .fits .few, c .before .before .before .before .before .before .before .before .before .pre .fits .all, long _ _ _ _ _ _ (c .before .before .before .before .before .before .before .before .before .pre) _ (sym (c .before .before .before .before .judged .ensures) ∙ c .before .before .command .given .1))
-
-part-serve-end : tie.Need-part-serve-end
-part-serve-end c = search needs
-
-serve-requires : tie.Need-serve-requires
-serve-requires c κs = workable _ _ _ _ _ _ (c .before .before .before .before .before .before .before .before .before .before .before .before .pre) _ (sym (c .before .before .before .before .before .before .before .judged .ensures) ∙ c .before .before .before .before .before .command .given .1)
-
-returns : tie.Need-returns
-returns c = too-short _ _ _ _ _ _ (c .before .before .before .own-byte .ensures _) (sym (c .before .before .judged .ensures) ∙ c .enum-told .given .1)
-
-returns-2 : tie.Need-returns-2
-returns-2 c = for-another _ _ _ _ _ _ (c .before .before .before .own-byte .ensures _) (sym (c .before .before .judged .ensures) ∙ c .enum-told2 .given .1)
+refuse-requires c κs =
+    let start = c .before .before .before .before .before .before .before .before .before .before in
+    answerable _ _ _ _ _ _ (start .pre)
 
 same-length : tie.Need-same-length
 same-length c = search needs
 
-returns-3 : tie.Need-returns-3
-returns-3 c = faulty _ _ _ _ _ _ (c .before .before .before .before .before .before .before .before .own-byte .ensures _) (sym (c .before .before .before .before .before .before .before .judged .ensures) ∙ c .before .before .before .before .before .code .given .1) (c .before .before .refuse .ensures)
+returns : tie.Need-returns
+returns c =
+    let after-refuse = c .before .before in
+    let after-code = after-refuse .before .before in
+    let at-match-keys2 = after-code .before in
+    let after-judged = at-match-keys2 .before in
+    let after-own-byte = after-judged .before in
+    refused _ _ _ _ _ _ (after-own-byte .own-byte .ensures _) (after-judged .judged .result) (sym (after-judged .judged .ensures)) (no-request (after-judged .judged .result) (at-match-keys2 .match .keys2)) (rw (after-code .code .ensures) at (after-refuse .refuse .ensures))
+
+data-part-requires : tie.Need-data-part-requires
+data-part-requires c κs =
+    let after-judged = c .before .before .before in
+    let start = after-judged .before .before .before .before .before .before .before in
+    long _ _ _ _ _ _ (start .pre) _ _ (sym (after-judged .judged .ensures) ∙ c .before .judgement .given .1)
+
+serve-requires : tie.Need-serve-requires
+serve-requires c κs =
+    let after-data-part = c .before .before in
+    let after-judgement = after-data-part .before .before in
+    let after-judged = after-judgement .before .before in
+    let start = after-judged .before .before .before .before .before .before .before in
+    workable _ _ _ _ _ _ (start .pre) _ _ (sym (after-judged .judged .ensures) ∙ after-judgement .judgement .given .1) (after-data-part .data-part .ensures .0)
 
 same-length-2 : tie.Need-same-length-2
 same-length-2 c = search needs
@@ -63,30 +75,30 @@ same-length-2 c = search needs
 same-length-3 : tie.Need-same-length-3
 same-length-3 c = search needs
 
-returns-4 : tie.Need-returns-4
-returns-4 c = requested _ _ _ _ _ _ (c .before .before .before .before .before .before .before .before .before .before .before .before .before .own-byte .ensures _) (sym (c .before .before .before .before .before .before .before .before .before .before .before .before .judged .ensures) ∙ c .before .before .before .before .before .before .before .before .before .before .command .given .1) (as-served _ _ _ _ _ _ (c .before .before .before .before .before .before .before .before .before .before .before .before .before .before .before .before .before .pre) _ (sym (c .before .before .before .before .before .before .before .before .before .before .before .before .judged .ensures) ∙ c .before .before .before .before .before .before .before .before .before .before .command .given .1) {r = c .before .before .before .before .serve .result} (c .before .before .before .before .serve .ensures))
+returns-2 : tie.Need-returns-2
+returns-2 c =
+    let after-serve = c .before .before .before .before in
+    let after-data-part = after-serve .before .before .before in
+    let after-judgement = after-data-part .before .before in
+    let after-judged = after-judgement .before .before in
+    let after-own-byte = after-judged .before in
+    requested _ _ _ _ _ _ (after-own-byte .own-byte .ensures _) (sym (after-judged .judged .ensures) ∙ after-judgement .judgement .given .1) (rw (after-data-part .data-part .ensures .0) at (after-serve .serve .ensures))
 
 pub close-spec : {M : Type 1} → statement M
 close-spec =
     tie.close
     (tie.spec
+    cast-len
+    slice-aggregate-bytes
     own-byte-requires
     judged-requires
-    enum-told
-    enum-told-2
-    enum-known-code
+    enum-known-judgement
+    code-requires
     refuse-requires
-    enum-known-command
-    cast-end
-    sub-end
-    sub-serve
-    part-serve-start
-    part-serve-end
-    serve-requires
-    returns
-    returns-2
     same-length
-    returns-3
+    returns
+    data-part-requires
+    serve-requires
     same-length-2
     same-length-3
-    returns-4)
+    returns-2)

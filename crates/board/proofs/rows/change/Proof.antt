@@ -1,6 +1,6 @@
 -- `board::rows::change` meets its contract. Assumes nothing.
 use borrow.Author.Tests.{ne-eqb}
-use Rattle.board.proofs.Dispatch.{five, one, three, row-43, row-47, row-49, row-4F, row-50, row-53, last-change}
+use Rattle.board.proofs.Dispatch.{five, three, row-43, row-47, row-49, row-4F, row-50, row-53, last-change}
 use borrow.Author.Needs.{needs}
 use Rattle.board.proofs.rows.change.Statement.{statement}
 use Rattle.board.proofs.rows.change.Tie as tie
@@ -26,7 +26,7 @@ returns-2 : tie.Need-returns-2
 returns-2 c = λ p m e. row-47 p _ _ m _ (c .before .if2 .taken) (c .step-counter .ensures p _ m _ _)
 
 clear-counter-requires : tie.Need-clear-counter-requires
-clear-counter-requires c κs = one _ _ (c .before .before .before .before .before .pre .fits) (c .if3 .taken)
+clear-counter-requires c κs = search needs
 
 returns-3 : tie.Need-returns-3
 returns-3 c = λ p m e. row-49 p _ _ m _ (c .before .if3 .taken) (c .clear-counter .ensures p _ m _)

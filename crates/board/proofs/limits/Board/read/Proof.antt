@@ -1,6 +1,6 @@
 -- `board::limits::Board::read` meets its contract. Assumes nothing.
-use mathlib.Core.Path.{_∙_}
-use Rattle.board.proofs.Stepping.{without-oldest}
+use Rattle.meaning.specs.State.{none}
+use Rattle.line.specs.Line.{lineOf}
 use borrow.Author.Needs.{needs}
 use Rattle.board.proofs.limits.Board.read.Statement.{statement}
 use Rattle.board.proofs.limits.Board.read.Tie as tie
@@ -8,14 +8,10 @@ use Rattle.board.proofs.limits.Board.read.Tie as tie
 read-requires : tie.Need-read-requires
 read-requires c κs = search needs
 
-with-faults-requires : tie.Need-with-faults-requires
-with-faults-requires c κs = search needs
-
 returns : tie.Need-returns
-returns c = record {
-  code = λ kept. c .before .read .ensures .oldest;
-  board = λ kept. c .with-faults .ensures _ ∙ without-oldest _ _ _ (c .before .read .ensures .rest);
-}
+returns c =
+    let start = c .before .before .before in
+    record { code = λ kept. c .before .read .ensures none .oldest; board = λ kept. c .before .read .ensures (lineOf (start .args .self .frame) kept) .rest }
 
 pub read-spec : {M : Type 1} → statement M
-read-spec = tie.close (tie.spec read-requires with-faults-requires returns)
+read-spec = tie.close (tie.spec read-requires returns)

@@ -1,0 +1,27 @@
+-- `board::closing::refuse` meets its contract. Assumes nothing.
+use borrow.Author.Tests.{eq-eqb, ne-eqb}
+use Rattle.board.proofs.Sending.{fault-sent, fault-silent}
+use borrow.Author.Needs.{needs}
+use Rattle.board.proofs.closing.refuse.Statement.{statement}
+use Rattle.board.proofs.closing.refuse.Tie as tie
+use Rattle.board.proofs.closing.refuse.Reads as reads
+use Rattle.board.proofs.closing.refuse.Lts as lts
+use Rattle.board.proofs.reply.reply.Reads as reply-reads
+
+returns : tie.Need-returns
+returns c = fault-silent _ _ _ (eq-eqb _ _ (c .if1 .taken))
+
+reply-requires : tie.Need-reply-requires
+reply-requires c κs = search needs
+
+same-length : tie.Need-same-length
+same-length c = search needs
+
+returns-2 : tie.Need-returns-2
+returns-2 c =
+    let after-reply = c .before .before in
+    let after-else1 = after-reply .before .before in
+    fault-sent _ _ _ (ne-eqb _ _ (after-else1 .if1 .left)) (after-reply .reply .ensures)
+
+pub refuse-spec : {M : Type 1} → statement M
+refuse-spec = tie.close (tie.spec returns reply-requires same-length returns-2)
