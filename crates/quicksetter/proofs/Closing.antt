@@ -6,23 +6,24 @@ use mathlib.Core.Bool.{Bool, true, false}
 use mathlib.Core.List.{List, [], _++_}
 use borrow.Author.Tests.{eq-eqb, le-leb, le-ltb, leb-true}
 use lib.Dec.{eqb, leb, ltb}
-use lib.ListN.{length, take, drop, length-take, length-drop}
-use lib.Seq.{take-at, take-take, drop-drop}
-use Rattle.meaning.specs.Bytes.{pick, both, put, arg}
+use lib.ListN.{length, take, drop, length-take}
+use lib.Seq.{take-at, take-take}
+use Rattle.meaning.specs.Bytes.{pick, both, longestRequest, put, arg}
 use Rattle.meaning.specs.State as meaning
 use Rattle.meaning.specs.State.{Plate, Line, none, withLine, stateOk, ownByte}
 use Rattle.meaning.specs.Fields.{memoryLength}
-use Rattle.meaning.specs.Characters.{over, more, taken, closed}
+use Rattle.meaning.specs.Characters.{over, more, taken}
 use Rattle.meaning.specs.Frames.{Outcome, dataOf, still, upTo}
 use Rattle.meaning.specs.Run.{Call, character, poll, Held, step, called, lends, refusedBy}
 use Rattle.meaning.proofs.Choices.{both-left, pick-same}
 use Rattle.meaning.proofs.Puts.{length-put}
 use Rattle.line.specs.declared.plate.Plate as line
 use Rattle.line.specs.declared.characters.OpenFrame.{OpenFrame}
-use Rattle.line.specs.Line.{plateOf, lineOf, noFrame, Fits}
+use Rattle.line.specs.Line.{plateOf, lineOf, frameOf, noFrame, Fits}
+use Rattle.line.specs.declared.judge.Judgement.{Judgement}
 use Rattle.line.specs.declared.judge.Judgement.the-variants.{Request}
-use Rattle.line.specs.Judge.{judgementOf}
-use Rattle.wire.specs.declared.answer.Answer.the-variants.{Refuse}
+use Rattle.line.specs.Judge.{judgementOf, codeToAnswer}
+use Rattle.line.proofs.Judging.{asking}
 use Rattle.state.specs.declared.state.State.{State}
 use Rattle.state.specs.State.{stateWith}
 use Rattle.state.proofs.Answering.{put-nothing}
@@ -30,9 +31,9 @@ use Rattle.board.specs.declared.limits.Outcome.the-variants.{Over}
 use Rattle.board.specs.declared.limits.Stepped.{Stepped}
 use Rattle.board.specs.declared.closing.Closed.{Closed}
 use Rattle.board.specs.Board.{fitsIn, refusalOn, Steps}
-use Rattle.board.specs.Work.{Ready, Sendable, Serves, Closes}
+use Rattle.board.specs.Work.{Ready, Answerable, Refused, Serves, Closes}
 use Rattle.board.proofs.Stepping.{poll-over}
-use Rattle.board.proofs.Endings.{data-part, own-known, error-sendable, long, workable, as-served, requested}
+use Rattle.board.proofs.Endings.{own-known, answerable, long, workable, refused, requested}
 use Rattle.image.specs.Image.{isImage, stateIn, frameIn, keptIn, heldIn, stateBytes, lineBytes, imageOf, PutsState, PutsFrame, PutsBoard, Takes}
 use Rattle.image.proofs.Parts.{kept-length, front-length, state-as-it-was, same-front, state-length, puts-board}
 use Rattle.image.proofs.Round.{good, kept-stays, lent-back, image-as-it-was}
@@ -171,13 +172,9 @@ pub still-in : (p : Plate) (img m w : List ℕ) {f : OpenFrame} {r : ℕ} {m′ 
     → Closes p (stateIn img) f (keptIn img) m w (record { state = stateIn img; sent = r }) m′ w′ → ClosedIn p img m w r img m′ w′
 still-in p img m w a e small h = record { closes = rw a at h; state = state-there img e small }
 
--- the data of the request, in the image and in its kept bytes
-same-data : (img : List ℕ) (n : ℕ) → length img ≡ 165 → 3 ≤ n → n ≤ 135 → dataTo (30 + n - 1) img ≡ take (n - 1 - 2) (drop 2 (keptIn img))
-same-data img n all low high =
-    let i : 30 + n - 1 - 32 ≡ n - 1 - 2 = omega arith in
-    let d : dataTo (30 + n - 1) img ≡ take (n - 1 - 2) (drop 2 (drop 30 img)) = rw i (ap (take (n - 1 - 2)) (sym (drop-drop 2 30 img))) in
-    d ∙ data-part (drop 30 img) n low (omega (arith, length-drop 30 img)) ∙ ap dataOf (sym (take-take n 135 (drop 30 img) high))
-    ∙ sym (data-part (keptIn img) n low (omega (arith, kept-length img all)))
+-- the kept bytes of a frame, lent out of the image
+pub kept-of : (img : List ℕ) (n : ℕ) → n ≤ longestRequest → take (30 + n - 30) (drop 30 img) ≡ take n (keptIn img)
+kept-of img n few = let i : 30 + n - 30 ≡ n = omega arith in rw i (sym (take-take n 135 (drop 30 img) few))
 
 -- what `close` asks
 pub ready : (p : line.Plate) (img m w : List ℕ) → Unrefused (plateOf p) img (length m) (length w) → Ready p (stateIn img) (frameIn img) (keptIn img) m w
@@ -195,35 +192,47 @@ module _ (p : line.Plate) (img m w : List ℕ) (u : Unrefused (plateOf p) img (l
   pub low-own : p .address ≤ 31
   low-own = own-known p (stateIn img) (frameIn img) (keptIn img) m w (ready p img m w u)
 
-  pub code-sendable : (code : ℕ) → Sendable p 0x50 (Refuse code) w
-  code-sendable code = error-sendable p (stateIn img) (frameIn img) (keptIn img) m w (ready p img m w u) code (u .wide)
+  pub may-answer : Answerable p w
+  may-answer = answerable p (stateIn img) (frameIn img) (keptIn img) m w (ready p img m w u)
 
   module _ {f : OpenFrame} (e : f ≡ frameIn img) where
     ready-now : Ready p (stateIn img) f (keptIn img) m w
     ready-now = rw e (ready p img m w u)
 
-    module _ (own : ℕ) {c : ℕ} (j : judgementOf own (closed (lineOf f (keptIn img))) ≡ Request c) where
+    pub at-most : f .len ≤ longestRequest
+    at-most = ready-now .fits .few
+
+    lent : take (30 + f .len - 30) (drop 30 img) ≡ take (f .len) (keptIn img)
+    lent = kept-of img (f .len) at-most
+
+    -- no request: the state stays
+    pub refused-in : (j : Judgement) (own : ℕ) {r : ℕ} {w′ : List ℕ} → ((i : ℕ) → arg img i < 256) → own ≡ ownByte (plateOf p) (stateWith (stateIn img) none)
+        → judgementOf own (frameOf f (take (30 + f .len - 30) (drop 30 img))) ≡ j → asking j ≡ false → Refused (plateOf p) (stateIn img) (codeToAnswer j) w r w′
+        → ClosedIn (plateOf p) img m w r img m w′
+    refused-in j own small o q n h = still-in (plateOf p) img m w e (u .image) small (refused (plateOf p) (stateIn img) f (keptIn img) m w o j (rw lent at q) n h)
+
+    module _ (own : ℕ) {c : ℕ} (j : judgementOf own (frameOf f (take (30 + f .len - 30) (drop 30 img))) ≡ Request c) where
       pub three : 3 ≤ f .len
-      three = long p (stateIn img) f (keptIn img) m w ready-now own j
+      three =
+          omega (
+            arith,
+            long p (stateIn img) f (keptIn img) m w ready-now own (take (30 + f .len - 30) (drop 30 img)) j,
+            length-take (30 + f .len - 30) (drop 30 img),
+          )
 
-      pub at-most : f .len ≤ 135
-      at-most = ready-now .fits .few
-
-      pub servable : Servable p c (30 + f .len - 1) img m w
+      pub servable : Servable p c (30 + f .len) img m w
       servable =
           record {
             image = u .image;
             starts = omega (arith, three);
-            ends = omega (arith, at-most, three);
-            works = rw (same-data img (f .len) (good img (u .image) .all) three at-most) (workable p (stateIn img) f (keptIn img) m w ready-now own j);
+            ends = omega (arith, at-most);
+            works = workable p (stateIn img) f (keptIn img) m w ready-now own (take (30 + f .len - 30) (drop 30 img)) j refl;
           }
 
       pub request-in : {r : ℕ} {img′ m′ w′ : List ℕ} → own ≡ ownByte (plateOf p) (stateWith (stateIn img) none)
-          → ServedIn (plateOf p) c (dataTo (30 + f .len - 1) img) img m w r img′ m′ w′ → ClosedIn (plateOf p) img m w r img′ m′ w′
+          → ServedIn (plateOf p) c (dataTo (30 + f .len) img) img m w r img′ m′ w′ → ClosedIn (plateOf p) img m w r img′ m′ w′
       request-in {r} {img′} {m′} {w′} o s =
           let t : Closed = record { state = stateIn img′; sent = r } in
-          let y : Serves (plateOf p) (stateIn img) c (take (f .len - 1 - 2) (drop 2 (keptIn img))) m w (t .state) (t .sent) m′ w′ =
-          rw (same-data img (f .len) (good img (u .image) .all) three at-most) at (s .serves) in
-          let x : Closes (plateOf p) (stateIn img) f (keptIn img) m w t m′ w′ =
-          requested (plateOf p) (stateIn img) f (keptIn img) m w o j (as-served p (stateIn img) f (keptIn img) m w ready-now own j {r = t} y) in
+          let y : Serves (plateOf p) (stateIn img) c (dataOf (take (f .len) (keptIn img))) m w (t .state) (t .sent) m′ w′ = rw lent at (s .serves) in
+          let x : Closes (plateOf p) (stateIn img) f (keptIn img) m w t m′ w′ = requested (plateOf p) (stateIn img) f (keptIn img) m w o (rw lent at j) y in
           record { closes = rw e at x; state = s .state }

@@ -12,22 +12,22 @@ use Rattle.bench.specs.Outcomes.{writtenOf, verdictOf, withoutData}
 use Rattle.quicksetter.specs.Verdicts.{requestNumber, writtenNumber, verdictNumber, verdictCode, Writes}
 
 -- the code's number is the meaning's
-written-is : (w : Written) (room : List ℕ) → requestNumber (writtenOf w room) ≡ writtenNumber w
+written-is : (w : Written) (buffer : List ℕ) → requestNumber (writtenOf w buffer) ≡ writtenNumber w
 unfolding requestNumber
-written-is (Request n) room = refl
-written-is R4 room = refl
-written-is R5 room = refl
+written-is (Request n) buffer = refl
+written-is R4 buffer = refl
+written-is R5 buffer = refl
 
-written-room : (w : Written) (room : List ℕ) → (writtenOf w room) .room ≡ room
-written-room (Request n) room = refl
-written-room R4 room = refl
-written-room R5 room = refl
+written-buffer : (w : Written) (buffer : List ℕ) → (writtenOf w buffer) .buffer ≡ buffer
+written-buffer (Request n) buffer = refl
+written-buffer R4 buffer = refl
+written-buffer R5 buffer = refl
 
-pub writes : {w : meaning.Written} (x : Written) {r : ℕ} {room′ : List ℕ} → writtenOf x room′ ≡ w → r ≡ writtenNumber x → Writes w r room′
-writes x {r} {room′} e q =
+pub writes : {w : meaning.Written} (x : Written) {r : ℕ} {buffer′ : List ℕ} → writtenOf x buffer′ ≡ w → r ≡ writtenNumber x → Writes w r buffer′
+writes x {r} {buffer′} e q =
     record {
-      answer = q ∙ sym (written-is x room′) ∙ ap requestNumber e;
-      room = sym (written-room x room′) ∙ ap (λ (y : meaning.Written). y .room) e;
+      answer = q ∙ sym (written-is x buffer′) ∙ ap requestNumber e;
+      buffer = sym (written-buffer x buffer′) ∙ ap (λ (y : meaning.Written). y .buffer) e;
     }
 
 verdict-is : (v : Verdict) → verdictNumber (verdictOf v) ≡ verdictCode v

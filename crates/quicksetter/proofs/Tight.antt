@@ -36,8 +36,8 @@ module _ (p : Plate) (img : List ℕ) (g : Call) {r t : ℕ} {img′ img″ : Li
 pub fresh-tight : (p : Plate) (img : List ℕ) {r t : ℕ} {img′ img″ : List ℕ} → Freshens p img r img′ → Freshens p img t img″ → (r ≡ t) × (img′ ≡ img″)
 fresh-tight p img x y = (x .answer ∙ sym (y .answer), x .image ∙ sym (y .image))
 
-pub request-tight : (w : meaning.Written) {r t : ℕ} {room′ room″ : List ℕ} → Writes w r room′ → Writes w t room″ → (r ≡ t) × (room′ ≡ room″)
-request-tight w x y = (x .answer ∙ sym (y .answer), x .room ∙ sym (y .room))
+pub request-tight : (w : meaning.Written) {r t : ℕ} {buffer′ buffer″ : List ℕ} → Writes w r buffer′ → Writes w t buffer″ → (r ≡ t) × (buffer′ ≡ buffer″)
+request-tight w x y = (x .answer ∙ sym (y .answer), x .buffer ∙ sym (y .buffer))
 
 pub judge-tight : (q a : List ℕ) (r t : ℕ) → r ≡ verdictNumber (meaning.judge q a) → t ≡ verdictNumber (meaning.judge q a) → r ≡ t
 judge-tight q a = same-outcome (verdictNumber (meaning.judge q a))

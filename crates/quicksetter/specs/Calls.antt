@@ -5,9 +5,10 @@ use mathlib.Core.Bool.{Bool, true}
 use mathlib.Core.List.{List}
 use lib.Dec.{eqb, leb, ltb}
 use lib.ListN.{length, take, drop}
-use Rattle.meaning.specs.Bytes.{pick, both, zeros}
+use Rattle.meaning.specs.Bytes.{pick, both, longestRequest, longestReply, zeros}
 use Rattle.meaning.specs.State as meaning
 use Rattle.meaning.specs.Fields.{memoryLength}
+use Rattle.meaning.specs.Frames.{dataOf}
 use Rattle.meaning.specs.Run.{Call, poll, measured, fault, power-on, Held, called}
 use Rattle.line.specs.declared.plate.Plate.{Plate}
 use Rattle.board.specs.declared.limits.Board.{Board}
@@ -52,7 +53,7 @@ freshOk p img = both (meaning.plateOk p) (eqb (length img) 165)
 
 pub record Freshens (p : meaning.Plate) (img : List ℕ) (r : ℕ) (img′ : List ℕ) : Type 0 where
   pub answer : r ≡ pick (freshOk p img) 0 257
-  pub image : img′ ≡ pick (freshOk p img) (imageOf (meaning.fresh p) (zeros 135)) img
+  pub image : img′ ≡ pick (freshOk p img) (imageOf (meaning.fresh p) (zeros longestRequest)) img
 
 -- 01, "The host notes codes": what a host tells besides
 abbrev pub callFor : Note → Call
@@ -62,7 +63,7 @@ callFor PowerOn = power-on
 
 -- R1 does not apply to plate and image, whatever codes wait
 unfoldable pub possible : meaning.Plate → List ℕ → Bool
-possible p img = both (isImage img) (both (leb (numberAt img 4) 0xFFFFFF) (both (meaning.plateOk p) (ltb (numberAt img 8) (2 ^ p .bits))))
+possible p img = both (isImage img) (both (leb (numberAt img 4) meaning.lastCount) (both (meaning.plateOk p) (ltb (numberAt img 8) (2 ^ p .bits))))
 
 -- R1 to R3 do not apply
 pub record Unrefused (p : meaning.Plate) (img : List ℕ) (memory room : ℕ) : Type 0 where
@@ -70,16 +71,16 @@ pub record Unrefused (p : meaning.Plate) (img : List ℕ) (memory room : ℕ) : 
   pub plate : meaning.plateOk p ≡ true
   pub state : meaning.stateOk p (heldIn img) ≡ true
   pub size : memory ≡ memoryLength (p .total)
-  pub wide : 134 ≤ room
+  pub wide : longestReply ≤ room
 
 -- the data of a kept request that ends before a place of the image
 abbrev pub dataTo : ℕ → List ℕ → List ℕ
-dataTo end img = take (end - 32) (drop 32 img)
+dataTo end img = dataOf (take (end - 30) (drop 30 img))
 
 -- a request that the image's board may work
 pub record Servable (p : Plate) (c end : ℕ) (img m w : List ℕ) : Type 0 where
   pub image : isImage img ≡ true
-  pub starts : 32 ≤ end
+  pub starts : 33 ≤ end
   pub ends : end ≤ 165
   pub works : Workable p (stateIn img) c (dataTo end img) m w
 

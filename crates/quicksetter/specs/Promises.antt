@@ -5,7 +5,7 @@ use mathlib.Core.Bool.{true, false, not}
 use mathlib.Core.List.{List, [], _∷_}
 use lib.Dec.{T, eqb}
 use lib.ListN.{length, take}
-use Rattle.meaning.specs.Bytes.{zeros}
+use Rattle.meaning.specs.Bytes.{longestReply, zeros}
 use Rattle.meaning.specs.State.{Plate}
 use Rattle.meaning.specs.Fields.{memoryLength}
 use Rattle.meaning.specs.Run.{Call, refusedBy, run, traffic}
@@ -41,16 +41,16 @@ NoImageUntouched = (p : Plate) (img m w : List ℕ) (g : Call) (r : ℕ) (img′
 -- Demand 1: what a host holds that starts with a fresh image and a memory of the right size, and then only calls, with room enough
 pub data Reached (p : Plate) : List ℕ → List ℕ → Type 0 where
   start : (old img m : List ℕ) → Freshens p old 0 img → length m ≡ memoryLength (p .total) → Reached p img m
-  next : (img m w : List ℕ) (g : Call) (r : ℕ) (img′ m′ w′ : List ℕ) → Reached p img m → 134 ≤ length w → Called p img m w g r img′ m′ w′ → Reached p img′ m′
+  next : (img m w : List ℕ) (g : Call) (r : ℕ) (img′ m′ w′ : List ℕ) → Reached p img m → longestReply ≤ length w → Called p img m w g r img′ m′ w′ → Reached p img′ m′
 
 -- Demand 1: no such call is ever refused: what comes back is the length of a reply
 abbrev pub NeverRefused : Type 0
-NeverRefused = (p : Plate) (img m w : List ℕ) (g : Call) (r : ℕ) (img′ m′ w′ : List ℕ) → Reached p img m → 134 ≤ length w → Called p img m w g r img′ m′ w′ → r ≤ 134
+NeverRefused = (p : Plate) (img m w : List ℕ) (g : Call) (r : ℕ) (img′ m′ w′ : List ℕ) → Reached p img m → longestReply ≤ length w → Called p img m w g r img′ m′ w′ → r ≤ longestReply
 
 -- Demand 3: a host that starts with a fresh image and blank memory, and then only calls, with room enough: its calls, newest first; image, memory and last reply
 pub data Ran (p : Plate) : List Call → List ℕ → List ℕ → List ℕ → Type 0 where
   began : (old img : List ℕ) → Freshens p old 0 img → Ran p [] img (zeros (memoryLength (p .total))) []
-  called : (gs : List Call) (img m x w : List ℕ) (g : Call) (r : ℕ) (img′ m′ w′ : List ℕ) → Ran p gs img m x → 134 ≤ length w → Called p img m w g r img′ m′ w′
+  called : (gs : List Call) (img m x w : List ℕ) (g : Call) (r : ℕ) (img′ m′ w′ : List ℕ) → Ran p gs img m x → longestReply ≤ length w → Called p img m w g r img′ m′ w′
       → Ran p (g ∷ gs) img′ m′ (take r w′)
 
 -- what it holds and hears is the meaning's run

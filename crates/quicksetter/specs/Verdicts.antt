@@ -17,9 +17,9 @@ use Rattle.quicksetter.specs.declared.replies.Piece.{Piece}
 unfoldable pub requestNumber : meaning.Written → ℕ
 requestNumber w = pick (eqb (w .refusal) 0) (w .count) (256 + w .refusal)
 
-pub record Writes (w : meaning.Written) (r : ℕ) (room′ : List ℕ) : Type 0 where
+pub record Writes (w : meaning.Written) (r : ℕ) (buffer′ : List ℕ) : Type 0 where
   pub answer : r ≡ requestNumber w
-  pub room : room′ ≡ w .room
+  pub buffer : buffer′ ≡ w .buffer
 
 -- 0 done, 1 done with warning, 256 + code error, 512 + code error with warning, 1024 + n for Bn
 unfoldable pub verdictNumber : meaning.Verdict → ℕ

@@ -15,15 +15,13 @@ use crate::answer::REFUSED;
 use crate::given::plate_from;
 use image::COUNTER;
 use image::KEPT;
-use image::LENGTH;
 use image::OFFSET;
 use image::WAITING;
 use line::Judgement;
 use line::OpenFrame;
 use line::Plate;
-
-// Where the data of the kept request starts.
-const DATA: usize = 32;
+use state::LAST_COUNT;
+use wire::codes::LONGEST_REPLY;
 
 // R1 of the plate and of the image, but for the waiting codes.
 fn is_possible(image: &[u8], total: u32, bits: u32, address: u32, ticks: u32, pause: u32) -> bool
@@ -32,17 +30,14 @@ fn is_possible(image: &[u8], total: u32, bits: u32, address: u32, ticks: u32, pa
     if !image::is_image(image) {
         return false;
     }
-    if 0xFFFFFF < wire::number_at(image, COUNTER) {
+    if LAST_COUNT < wire::number_at(image, COUNTER) {
         return false;
     }
     let plate = plate_from(total, bits, address, ticks, pause);
     if !plate.is_ok() {
         return false;
     }
-    if state::size(bits) <= wire::number_at(image, OFFSET) as u64 {
-        return false;
-    }
-    true
+    state::offset_fits(wire::number_at(image, OFFSET), bits)
 }
 
 // R1 of the waiting codes; that none waits, as is usual, is told at once.
@@ -75,7 +70,7 @@ fn is_over(
     frame.is_over(plate, tick)
 }
 
-// A request, worked on the state that the image holds. Only where the state may change are its bytes written.
+// A request, worked on the state that the image holds; its bytes end before that place. Only where the state may change are its bytes written.
 fn served(
     image: &mut [u8],
     plate: Plate,
@@ -89,10 +84,12 @@ fn served(
 {
     if board::leaves_state(command) {
         let state = image::state_in(image);
-        return board::ask(plate, state, command, &image[DATA..end], memory, room);
+        let request = wire::data_part(&image[KEPT..end]);
+        return board::ask(plate, state, command, request, memory, room);
     }
     let state = image::state_in(image);
-    let closed = board::order(plate, state, command, &image[DATA..end], memory, room);
+    let request = wire::data_part(&image[KEPT..end]);
+    let closed = board::order(plate, state, command, request, memory, room);
     let next = closed.state;
     image::put_state(next, image);
     closed.sent
@@ -114,18 +111,13 @@ fn answered(
 {
     let plate = plate_from(total, bits, address, ticks, pause);
     let frame = image::frame_in(image);
-    match frame.judged(line::own_byte(plate), &image[KEPT..LENGTH]) {
-        Judgement::Short => 0,
-        Judgement::Elsewhere => 0,
-        Judgement::Fault(code) => {
-            let state = image::state_in(image);
-            board::refuse(plate, state, code, room)
-        }
-        Judgement::Request(command) => {
-            let end = KEPT + frame.len as usize - 1;
-            served(image, plate, command, end, memory, room)
-        }
-    }
+    let end = KEPT + frame.len as usize;
+    let judgement = frame.judged(line::own_byte(plate), &image[KEPT..end]);
+    let Judgement::Request(command) = judgement else {
+        let state = image::state_in(image);
+        return board::refuse(plate, state, judgement.code(), room);
+    };
+    served(image, plate, command, end, memory, room)
 }
 
 // The open frame is over: it is answered and put away.
@@ -197,10 +189,11 @@ pub extern "C" fn qs_character(
     if !is_sound(image) {
         return REFUSED + 1;
     }
-    if memory.len() as u64 != 16 * (total as u64) + total as u64 {
+    let plate = plate_from(total, bits, address, ticks, pause);
+    if memory.len() as u64 != plate.memory_length() {
         return REFUSED + 2;
     }
-    if room.len() < 134 {
+    if room.len() < LONGEST_REPLY {
         return REFUSED + 3;
     }
     let sent = polled(
@@ -238,10 +231,11 @@ pub extern "C" fn qs_poll(
     if !is_sound(image) {
         return REFUSED + 1;
     }
-    if memory.len() as u64 != 16 * (total as u64) + total as u64 {
+    let plate = plate_from(total, bits, address, ticks, pause);
+    if memory.len() as u64 != plate.memory_length() {
         return REFUSED + 2;
     }
-    if room.len() < 134 {
+    if room.len() < LONGEST_REPLY {
         return REFUSED + 3;
     }
     if is_over(image, tick, total, bits, address, ticks, pause) {

@@ -3,6 +3,7 @@ ghost use mathlib.Core.Path.{_≡_};
 ghost use mathlib.Core.List.{List};
 ghost use Prim.Native.Nat.{ℕ};
 ghost use lib.ListN.{length};
+ghost use Rattle.meaning.specs.Bytes.{longestRequest};
 ghost use Rattle.meaning.specs.Run as run;
 ghost use Rattle.line.specs.Line.{plateOf};
 ghost use Rattle.board.specs.Board.{Steps};
@@ -18,6 +19,7 @@ use image::LENGTH;
 use line::OpenFrame;
 use line::Plate;
 use state::State;
+use wire::codes::LONGEST_REQUEST;
 
 // Every byte of the image is written, so what stood there before does not matter.
 #[no_mangle]
@@ -38,7 +40,7 @@ pub extern "C" fn qs_fresh(
     if image.len() != LENGTH {
         return REFUSED + 1;
     }
-    let places = [0u8; 135];
+    let places = [0u8; LONGEST_REQUEST];
     wire::fill(&places, &mut image[KEPT..LENGTH]);
     image::put_board(State::fresh(), OpenFrame::none(), image);
     0
@@ -52,7 +54,7 @@ pub enum Note {
 }
 
 fn told(plate: Plate, board: Board, note: Note) -> Stepped
-    ensures { λ r. ⌜ ((k x y : List ℕ) → length k ≡ 135 → Steps (plateOf plate) board k x y (callFor note) r k x y) ⌝ }
+    ensures { λ r. ⌜ ((k x y : List ℕ) → length k ≡ longestRequest → Steps (plateOf plate) board k x y (callFor note) r k x y) ⌝ }
 {
     match note {
         Note::Measured(position) => board::measured(plate, board, position),

@@ -29,10 +29,10 @@ fn written_number(written: Written) -> usize
 
 // A written request's length, or R4, R5.
 #[no_mangle]
-pub extern "C" fn qs_request(address: u32, command: u8, body: &[u8], room: &mut [u8]) -> usize
-    ensures { λ r. ⌜ Writes (meaning.writes address command (now (body .entry)) (now (room .entry))) r (now (room .exit)) ⌝ }
+pub extern "C" fn qs_request(address: u32, command: u8, body: &[u8], buffer: &mut [u8]) -> usize
+    ensures { λ r. ⌜ Writes (meaning.writes address command (now (body .entry)) (now (buffer .entry))) r (now (buffer .exit)) ⌝ }
 {
-    written_number(bench::write_request(address, command, body, room))
+    written_number(bench::write_request(address, command, body, buffer))
 }
 
 fn wide(b: u8) -> u32
@@ -80,14 +80,9 @@ pub extern "C" fn qs_data_part(request: &[u8], reply: &[u8]) -> Piece
     ensures { λ r. ⌜ r ≡ pieceFrom (meaning.handed (now (request .entry)) (now (reply .entry))) ⌝ }
 {
     let verdict = bench::judge(request, reply);
-    if let Verdict::Refused(_) = verdict {
-        return Piece {
-            place: 0,
-            length: 0,
-        };
-    }
+    let piece = verdict.piece(reply.len());
     Piece {
-        place: 2,
-        length: reply.len() - 3,
+        place: piece.from,
+        length: piece.count,
     }
 }

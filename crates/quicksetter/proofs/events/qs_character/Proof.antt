@@ -5,7 +5,8 @@ use native.Mathlib.Omega.{arith}
 use denote.Ref.{now}
 use borrow.Author.Tests.{not-true, not-false}
 use lib.ListN.{length}
-use Rattle.meaning.specs.State.{apart}
+use Rattle.meaning.specs.State.{Plate, apart}
+use Rattle.meaning.specs.Fields.{memoryLength}
 use Rattle.meaning.specs.Run.{poll}
 use Rattle.line.specs.Line.{plateOf}
 use Rattle.state.specs.Queue.{queueOf}
@@ -20,19 +21,55 @@ use Rattle.quicksetter.proofs.events.qs_character.Tie as tie
 use Rattle.quicksetter.proofs.events.qs_character.Reads as reads
 use Rattle.quicksetter.proofs.events.qs_character.Lts as lts
 use Rattle.image.proofs.take_character.Reads as take-character-reads
+use Rattle.line.proofs.plate.Plate.memory_length.Reads as memory-length-reads
 use Rattle.quicksetter.proofs.events.is_fault.Reads as is-fault-reads
 use Rattle.quicksetter.proofs.events.is_possible.Reads as is-possible-reads
 use Rattle.quicksetter.proofs.events.is_sound.Reads as is-sound-reads
 use Rattle.quicksetter.proofs.events.polled.Reads as polled-reads
+use Rattle.quicksetter.proofs.given.plate_from.Reads as plate-from-reads
 
-can : (c : tie.Else1) → let a = c .before .before .before .before .before .before .args in possible (plateOf (plateFrom (a .total) (a .bits) (a .address) (a .ticks) (a .pause))) (now (a .image)) ≡ true
+-- where the call began
+abbrev entry1 : tie.Else1 → tie.Start
+entry1 c =
+    let start = c .before .before .before .before .before .before in
+    start
+
+abbrev entry2 : tie.Else2 → tie.Start
+entry2 c =
+    let start = c .before .before .before .before .before .before .before .before .before in
+    start
+
+abbrev entry3 : tie.Else3 → tie.Start
+entry3 c =
+    let start = c .before .before .before .before .before .before .before .before .before .before .before .before in
+    start
+
+abbrev entry4 : tie.Else4 → tie.Start
+entry4 c =
+    let start = c .before .before .before .before .before .before .before .before .before .before .before .before .before in
+    start
+
+-- the plate that it was given
+abbrev plate-at : tie.Start → Plate
+plate-at s = plateOf (plateFrom (s .args .total) (s .args .bits) (s .args .address) (s .args .ticks) (s .args .pause))
+
+can : (c : tie.Else1) → possible (plate-at (entry1 c)) (now (entry1 c .args .image)) ≡ true
 can c = sym (c .before .is-possible .ensures) ∙ not-false _ (c .if1 .left)
 
-sound : (c : tie.Else2) → let a = c .before .before .before .before .before .before .before .before .before .args in apart (queueOf (stateIn (now (a .image)) .faults)) ≡ true
+sound : (c : tie.Else2) → apart (queueOf (stateIn (now (entry2 c .args .image)) .faults)) ≡ true
 sound c = sym (c .before .is-sound .ensures) ∙ not-false _ (c .if2 .left)
 
-passed : (c : tie.Else4) → let a = c .before .before .before .before .before .before .before .before .before .before .before .args in Unrefused (plateOf (plateFrom (a .total) (a .bits) (a .address) (a .ticks) (a .pause))) (now (a .image)) (length (now (a .memory))) (length (now (a .room)))
-passed c = let a = c .before .before .before .before .before .before .before .before .before .before .before .args in unrefused _ _ (now (a .memory)) (now (a .room)) (poll 0) (can (c .before .before .before .before .before)) (sound (c .before .before)) (c .before .if3 .left) (c .if4 .left)
+sized : (c : tie.Else3) → length (now (entry3 c .args .memory)) ≡ memoryLength (entry3 c .args .total)
+sized c =
+    let after-plate-from = c .before .before in
+    c .if3 .left ∙ rw (after-plate-from .plate-from .ensures) at (c .before .memory-length .ensures)
+
+passed : (c : tie.Else4) → Unrefused (plate-at (entry4 c)) (now (entry4 c .args .image)) (length (now (entry4 c .args .memory))) (length (now (entry4 c .args .room)))
+passed c =
+    let after-else2 = c .before .before .before .before in
+    let after-else1 = after-else2 .before .before .before in
+    let start = after-else1 .before .before .before .before .before .before in
+    unrefused _ _ (now (start .args .memory)) (now (start .args .room)) (poll 0) (can after-else1) (sound after-else2) (sized (c .before)) (c .if4 .left)
 
 is-possible-requires : tie.Need-is-possible-requires
 is-possible-requires c κs = search needs
@@ -56,13 +93,15 @@ same-length-2 : tie.Need-same-length-2
 same-length-2 c = search needs
 
 returns-2 : tie.Need-returns-2
-returns-2 c = unsound _ _ _ _ _ (can (c .before .before .before)) (sym (c .before .is-sound .ensures) ∙ not-true _ (c .if2 .taken))
+returns-2 c =
+    let after-else1 = c .before .before .before in
+    unsound _ _ _ _ _ (can after-else1) (sym (c .before .is-sound .ensures) ∙ not-true _ (c .if2 .taken))
 
-mul-if3 : tie.Need-mul-if3
-mul-if3 c = search needs
+plate-from-requires : tie.Need-plate-from-requires
+plate-from-requires c κs = search needs
 
-add-if3 : tie.Need-add-if3
-add-if3 c = search needs
+memory-length-requires : tie.Need-memory-length-requires
+memory-length-requires c κs = search needs
 
 add-result-3 : tie.Need-add-result-3
 add-result-3 c = search needs
@@ -71,7 +110,11 @@ same-length-3 : tie.Need-same-length-3
 same-length-3 c = search needs
 
 returns-3 : tie.Need-returns-3
-returns-3 c = other-size _ _ _ _ _ (can (c .before .before .before .before)) (sound (c .before)) (lends-character _ _ _) (c .if3 .taken)
+returns-3 c =
+    let after-plate-from = c .before .before in
+    let after-else2 = after-plate-from .before in
+    let after-else1 = after-else2 .before .before .before in
+    other-size _ _ _ _ _ (can after-else1) (sound after-else2) (lends-character _ _ _) (λ e. c .if3 .taken (e ∙ sym (rw (after-plate-from .plate-from .ensures) at (c .before .memory-length .ensures))))
 
 add-result-4 : tie.Need-add-result-4
 add-result-4 c = search needs
@@ -80,16 +123,24 @@ same-length-4 : tie.Need-same-length-4
 same-length-4 c = search needs
 
 returns-4 : tie.Need-returns-4
-returns-4 c = too-narrow _ _ _ _ _ (can (c .before .before .before .before .before)) (sound (c .before .before)) (c .before .if3 .left) (lends-character _ _ _) (c .if4 .taken)
+returns-4 c =
+    let after-else2 = c .before .before .before .before in
+    let after-else1 = after-else2 .before .before .before in
+    too-narrow _ _ _ _ _ (can after-else1) (sound after-else2) (sized (c .before)) (lends-character _ _ _) (c .if4 .taken)
 
 polled-requires : tie.Need-polled-requires
-polled-requires c κs = passed (c .before .before .before)
+polled-requires c κs =
+    let after-else4 = c .before .before .before in
+    passed after-else4
 
 is-fault-requires : tie.Need-is-fault-requires
 is-fault-requires c κs = search needs
 
 take-character-requires : tie.Need-take-character-requires
-take-character-requires c κs = image-again _ _ _ _ (passed (c .before .before .before .before .before .before .before .before .before .before .before .before)) _ (c .before .before .before .before .before .before .before .before .polled .ensures)
+take-character-requires c κs =
+    let after-polled = c .before .before .before .before .before .before .before .before in
+    let after-else4 = after-polled .before .before .before .before in
+    image-again _ _ _ _ (passed after-else4) _ (after-polled .polled .ensures)
 
 same-length-5 : tie.Need-same-length-5
 same-length-5 c = search needs
@@ -101,7 +152,14 @@ same-length-7 : tie.Need-same-length-7
 same-length-7 c = search needs
 
 returns-5 : tie.Need-returns-5
-returns-5 c = then-taken _ (now (c .before .before .before .before .before .before .before .before .before .before .before .before .before .before .before .before .before .before .before .before .before .before .before .before .before .before .args .image)) _ _ (passed (c .before .before .before .before .before .before .before .before .before .before .before .before .before .before .before)) _ (c .before .before .before .before .before .before .before .before .before .before .before .polled .ensures) _ (c .before .before .before .before .is-fault .ensures) (λ i. (c .before .before .before .before .before .before .before .before .before .slice-known4 .given i) .fits) (c .before .before .take-character .ensures)
+returns-5 c =
+    let after-take-character = c .before .before in
+    let after-is-fault = after-take-character .before .before in
+    let after-slice-known4 = after-is-fault .before .before .before .before .before in
+    let after-polled = after-slice-known4 .before .before in
+    let after-else4 = after-polled .before .before .before .before in
+    let start = after-else4 .before .before .before .before .before .before .before .before .before .before .before .before .before in
+    then-taken _ (now (start .args .image)) _ _ (passed after-else4) _ (after-polled .polled .ensures) _ (after-is-fault .is-fault .ensures) (λ i. (after-slice-known4 .slice-known4 .given i) .fits) (after-take-character .take-character .ensures)
 
 pub qs-character-spec : {M : Type 1} → statement M
 qs-character-spec =
@@ -115,8 +173,8 @@ qs-character-spec =
     add-result-2
     same-length-2
     returns-2
-    mul-if3
-    add-if3
+    plate-from-requires
+    memory-length-requires
     add-result-3
     same-length-3
     returns-3

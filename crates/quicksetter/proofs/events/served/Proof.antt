@@ -14,24 +14,38 @@ use Rattle.board.proofs.order.Reads as order-reads
 use Rattle.board.proofs.leaves_state.Reads as leaves-state-reads
 use Rattle.image.proofs.state_in.Reads as state-in-reads
 use Rattle.image.proofs.put_state.Reads as put-state-reads
+use Rattle.wire.proofs.data_part.Reads as data-part-reads
 
 leaves-state-requires : tie.Need-leaves-state-requires
 leaves-state-requires c κs = search needs
 
 state-in-requires : tie.Need-state-in-requires
-state-in-requires c κs = omega (arith, good _ (c .before .before .before .before .before .before .pre .image) .all)
+state-in-requires c κs =
+    let start = c .before .before .before .before .before .before in
+    omega (arith, good _ (start .pre .image) .all)
 
-sub-ask : tie.Need-sub-ask
-sub-ask c = search needs
+sub-data-part : tie.Need-sub-data-part
+sub-data-part c = search needs
 
-part-ask-start : tie.Need-part-ask-start
-part-ask-start c = search needs
+part-data-part-start : tie.Need-part-data-part-start
+part-data-part-start c = search needs
 
-part-ask-end : tie.Need-part-ask-end
-part-ask-end c = omega (arith, c .before .before .before .before .before .before .before .before .pre .ends, good _ (c .before .before .before .before .before .before .before .before .pre .image) .all)
+part-data-part-end : tie.Need-part-data-part-end
+part-data-part-end c =
+    let start = c .before .before .before .before .before .before .before .before in
+    omega (arith, start .pre .ends, good _ (start .pre .image) .all)
+
+data-part-requires : tie.Need-data-part-requires
+data-part-requires c κs = search needs
 
 ask-requires : tie.Need-ask-requires
-ask-requires c κs = (rw (c .before .before .before .before .state-in .ensures) (c .before .before .before .before .before .before .before .before .before .before .before .pre .works), sym (c .before .before .before .before .before .before .before .leaves-state .ensures) ∙ c .before .before .before .before .before .before .if1 .taken)
+ask-requires c κs =
+    let after-data-part = c .before .before in
+    let after-state-in = after-data-part .before .before .before in
+    let after-1 = after-state-in .before .before in
+    let after-leaves-state = after-1 .before in
+    let start = after-leaves-state .before .before .before .before in
+    (rw (after-state-in .state-in .ensures, after-data-part .data-part .ensures .0) (start .pre .works), sym (after-leaves-state .leaves-state .ensures) ∙ after-1 .if1 .taken)
 
 same-length : tie.Need-same-length
 same-length c = search needs
@@ -43,25 +57,46 @@ same-length-3 : tie.Need-same-length-3
 same-length-3 c = search needs
 
 returns : tie.Need-returns
-returns c = asked-in _ _ _ (now (c .before .before .before .before .before .before .before .before .before .before .before .before .before .before .before .before .args .image)) _ _ (c .before .before .before .before .before .before .before .before .before .before .before .before .before .before .before .before .pre .image) (λ i. (c .before .before .before .before .before .before .before .before .before .before .before .before .before .before .before .slice-known .given i) .fits) (rw (c .before .before .before .before .before .before .before .before .before .state-in .ensures) at (c .before .before .before .before .ask .ensures))
+returns c =
+    let after-ask = c .before .before .before .before in
+    let after-data-part = after-ask .before .before .before in
+    let after-state-in = after-data-part .before .before .before in
+    let after-slice-known = after-state-in .before .before .before .before .before .before in
+    let start = after-slice-known .before in
+    asked-in _ _ _ (now (start .args .image)) _ _ (start .pre .image) (λ i. (after-slice-known .slice-known .given i) .fits) (rw (after-state-in .state-in .ensures, after-data-part .data-part .ensures .0) at (after-ask .ask .ensures))
 
 state-in-requires-2 : tie.Need-state-in-requires-2
-state-in-requires-2 c κs = omega (arith, good _ (c .before .before .before .before .before .before .pre .image) .all)
+state-in-requires-2 c κs =
+    let start = c .before .before .before .before .before .before in
+    omega (arith, good _ (start .pre .image) .all)
 
-sub-order : tie.Need-sub-order
-sub-order c = search needs
+sub-data-part-2 : tie.Need-sub-data-part-2
+sub-data-part-2 c = search needs
 
-part-order-start : tie.Need-part-order-start
-part-order-start c = search needs
+part-data-part-start-2 : tie.Need-part-data-part-start-2
+part-data-part-start-2 c = search needs
 
-part-order-end : tie.Need-part-order-end
-part-order-end c = omega (arith, c .before .before .before .before .before .before .before .before .pre .ends, good _ (c .before .before .before .before .before .before .before .before .pre .image) .all)
+part-data-part-end-2 : tie.Need-part-data-part-end-2
+part-data-part-end-2 c =
+    let start = c .before .before .before .before .before .before .before .before in
+    omega (arith, start .pre .ends, good _ (start .pre .image) .all)
+
+data-part-requires-2 : tie.Need-data-part-requires-2
+data-part-requires-2 c κs = search needs
 
 order-requires : tie.Need-order-requires
-order-requires c κs = (rw (c .before .before .before .before .state-in2 .ensures) (c .before .before .before .before .before .before .before .before .before .before .before .pre .works), sym (c .before .before .before .before .before .before .before .leaves-state .ensures) ∙ c .before .before .before .before .before .before .if1 .left)
+order-requires c κs =
+    let after-data-part2 = c .before .before in
+    let after-state-in2 = after-data-part2 .before .before .before in
+    let after-else1 = after-state-in2 .before .before in
+    let after-leaves-state = after-else1 .before in
+    let start = after-leaves-state .before .before .before .before in
+    (rw (after-state-in2 .state-in2 .ensures, after-data-part2 .data-part2 .ensures .0) (start .pre .works), sym (after-leaves-state .leaves-state .ensures) ∙ after-else1 .if1 .left)
 
 put-state-requires : tie.Need-put-state-requires
-put-state-requires c κs = omega (arith, good _ (c .before .before .before .before .before .before .before .before .before .before .before .before .before .before .before .before .pre .image) .all)
+put-state-requires c κs =
+    let start = c .before .before .before .before .before .before .before .before .before .before .before .before .before .before .before .before .before in
+    omega (arith, good _ (start .pre .image) .all)
 
 same-length-4 : tie.Need-same-length-4
 same-length-4 c = search needs
@@ -73,7 +108,13 @@ same-length-6 : tie.Need-same-length-6
 same-length-6 c = search needs
 
 returns-2 : tie.Need-returns-2
-returns-2 c = ordered-in _ _ _ (now (c .before .before .before .before .before .before .before .before .before .before .before .before .before .before .before .before .before .before .before .args .image)) _ _ (rw (c .before .before .before .before .before .before .before .before .before .before .before .before .state-in2 .ensures) at (c .before .before .before .before .before .before .before .order .ensures)) (c .before .before .put-state .ensures)
+returns-2 c =
+    let after-put-state = c .before .before in
+    let after-order = after-put-state .before .before .before .before .before in
+    let after-data-part2 = after-order .before .before .before in
+    let after-state-in2 = after-data-part2 .before .before .before in
+    let start = after-state-in2 .before .before .before .before .before .before .before in
+    ordered-in _ _ _ (now (start .args .image)) _ _ (rw (after-state-in2 .state-in2 .ensures, after-data-part2 .data-part2 .ensures .0) at (after-order .order .ensures)) (after-put-state .put-state .ensures)
 
 pub served-spec : {M : Type 1} → statement M
 served-spec =
@@ -81,18 +122,20 @@ served-spec =
     (tie.spec
     leaves-state-requires
     state-in-requires
-    sub-ask
-    part-ask-start
-    part-ask-end
+    sub-data-part
+    part-data-part-start
+    part-data-part-end
+    data-part-requires
     ask-requires
     same-length
     same-length-2
     same-length-3
     returns
     state-in-requires-2
-    sub-order
-    part-order-start
-    part-order-end
+    sub-data-part-2
+    part-data-part-start-2
+    part-data-part-end-2
+    data-part-requires-2
     order-requires
     put-state-requires
     same-length-4
