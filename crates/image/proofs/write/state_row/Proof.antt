@@ -72,7 +72,7 @@ cast-t52 c = search needs
 
 -- src/write.rt:22:1
 returns : tie.Need-returns
-returns c = λ l. state-row _ l (c .before .before .pre)
+returns c = λ l. state-row (c .before .before .args .state) l (c .before .before .pre)
 
 pub state-row-spec : {M : Type 1} → statement M
 state-row-spec =
