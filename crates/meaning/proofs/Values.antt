@@ -9,8 +9,8 @@ use Rattle.meaning.specs.State.{Plate, State, none, plateOk, fresh, with
 use Rattle.meaning.specs.Fields.{blocks, coded, codeNo, writable, exists, table, fieldCount, used, sound, freeBlocks, statusAt, survey, clear, putStatus}
 use Rattle.meaning.specs.Commands.{commandOf, lengthFits, counted, row, asked, Answer, refuse, accept, error, choose, wrongCode, readPosition, setPosition, readCounter, stepCounter, clearCounter, onField, readField, storeField, fieldStatus, create, resize, modify, delete, shapeField, freeByte, memoryStatus, setCode, readFault, reset}
 use Rattle.meaning.specs.Characters.{gap, over, more}
-use Rattle.meaning.specs.Frames.{commandByte, dataOf, ours, judged, elsewhere, answered, ending, warned}
-use Rattle.meaning.specs.Run.{poll, measured, lends, refusedBy}
+use Rattle.meaning.specs.Frames.{commandByte, dataOf, ours, judged, elsewhere, answered, ending, still, warned}
+use Rattle.meaning.specs.Run.{poll, measured, power-on, step, lends, refusedBy}
 use Rattle.meaning.specs.Bench.{writes, written, addressOk, addressByte, boardByte, allowed, inRange, bad, branch, warning, bare, fromAsked, errorReply, rightLength, repeated, content, judge, pieceOf, handed}
 
 -- the plate of the sheet with eight blocks, its fresh state and blank memory
@@ -80,11 +80,18 @@ pub reset-values : (reset eight (withLock (withQueue new (0x1E ∷ [])) true) []
 unfolding reset poweredOn fresh withQueue withLock withLine
 reset-values = (refl, refl)
 
--- power-on empties the queue, unlocks and drops the frame; codes, counter, offset and measured position stay
-pub power-on-values : poweredOn (withLine full (record { begun = true; kept = 9 ∷ []; sum = 9; longer = true; parity = true; last = 9 }))
-    ≡ record { codes = 1 ∷ 2 ∷ 3 ∷ 4 ∷ []; counter = 5; offset = 6; measured = 7; queue = []; locked = false; line = none }
-unfolding poweredOn withQueue withLock withLine
+-- power-on empties the queue, unlocks and drops the frame unjudged; codes, counter, offset and measured position stay
+pub power-on-values : step eight (withLine full (record { begun = true; kept = 9 ∷ []; sum = 9; longer = true; parity = true; last = 9 })) [] power-on
+    ≡ still (record { codes = 1 ∷ 2 ∷ 3 ∷ 4 ∷ []; counter = 5; offset = 6; measured = 7; queue = []; locked = false; line = none }) []
+unfolding step still poweredOn withQueue withLock withLine
 power-on-values = refl
+
+-- a measured position is kept as it came, over 2^24 too, and nothing else changes; 42h tells it reduced
+pub measured-values : (step eight (withLine full (record { begun = true; kept = 9 ∷ []; sum = 9; longer = true; parity = true; last = 9 })) [] (measured 0xFF000001)
+    ≡ still (withLine (withMeasured full 0xFF000001) (record { begun = true; kept = 9 ∷ []; sum = 9; longer = true; parity = true; last = 9 })) [])
+    × ((withMeasured full 0xFF000001) .measured ≡ 0xFF000001) × (position eight (withMeasured new 0xFF000001) ≡ 1)
+unfolding step still position fresh withMeasured withLine
+measured-values = (refl, refl, refl)
 
 pub warned-values : (warned 0x50 (0x1E ∷ []) ≡ 0xD0) × (warned 0x50 [] ≡ 0x50)
 unfolding warned
@@ -208,8 +215,9 @@ pub length-values : (lengthFits (counted 4) (0 ∷ 0 ∷ 0 ∷ []) (zeros 4) ≡
 unfolding lengthFits
 length-values = (refl, refl)
 
--- R4 before R5, in a room of 134 bytes; 4Ah's count of 0 is R5
-pub writes-values : ((writes 32 0x42 [] (zeros 134)) .refusal ≡ 4) × ((writes 0 0x4A (0 ∷ 0 ∷ 0 ∷ 0 ∷ []) (zeros 135)) .refusal ≡ 5)
+-- R4 before R5, in a room of 134 bytes; 4Ah's count of 0 is R5; the room stays as it was
+pub writes-values : (writes 32 0x42 [] (replicate 134 7) ≡ record { refusal = 4; count = 0; room = replicate 134 7 })
+    × (writes 0 0x4A (0 ∷ 0 ∷ 0 ∷ 0 ∷ []) (replicate 135 7) ≡ record { refusal = 5; count = 0; room = replicate 135 7 })
 unfolding writes addressOk allowed asked row lengthFits commandOf inRange
 writes-values = (refl, refl)
 
