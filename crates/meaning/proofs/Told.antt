@@ -41,12 +41,12 @@ module _ (p : Plate) (s : State) (m : List ℕ) (t : List Heard) (I : Inv p s m 
       getD-take k (drop at m) i 0 l ∙ getD-drop at m i 0 ∙ ap (λ (x : ℕ). getD m x 0) same
       ∙ I .bytes f (o + i) low (omega (arith, size))
 
-  brings : BringsTold t d (readField p s m d)
+  brings : (s′ : State) → BringsTold t d (readField p s′ m d)
   unfolding readField onField survey
-  brings =
+  brings s′ =
       let go : (e : ℕ) (q : Bool) (a : Answer) → (T (not q) → BringsTold t d a) → BringsTold t d (error e q a) = through (BringsTold t d) (λ e. tt) in
       go _ _ _ (λ a. go _ _ _ (λ b. go _ _ _ (λ c. go _ _ _ (λ n. go _ _ _ (λ x. place b x)))))
 
 -- Demand 3: 4Ah's reply bytes are those that the traffic tells
 pub reads-by-traffic : ReadsByTraffic
-reads-by-traffic p gs d = brings p ((run p gs) .state) ((run p gs) .memory) (traffic p gs) (run-inv p gs) d
+reads-by-traffic p gs s d = brings p ((run p gs) .state) ((run p gs) .memory) (traffic p gs) (run-inv p gs) d s

@@ -1,15 +1,16 @@
 -- Values of the definitions, computed: for each the two that tell it from a wrong one (docs/CONTRACTS.md, "Rules out"). Assumes nothing.
-use Prim.Native.Nat.{ℕ, _+_, _^_, _-_}
+use Prim.Native.Nat.{ℕ, _+_, _*_, _^_, _-_}
 use mathlib.Core.Path.{_≡_, refl}
 use mathlib.Core.Bool.{true, false}
 use mathlib.Core.List.{List, [], _∷_, _++_}
-use Rattle.meaning.specs.Bytes.{zeros, blank, among, number, bytes3, bytes4, xorAll, xorFrom, same}
+use lib.ListN.{replicate}
+use Rattle.meaning.specs.Bytes.{zeros, put, blank, among, number, bytes3, bytes4, xorAll, xorFrom, same}
 use Rattle.meaning.specs.State.{Plate, State, none, plateOk, fresh, withCodes, withCounter, withOffset, withMeasured, withQueue, withLock, withLine, locks, queueable, apart, stateOk, code, queued, noted, poweredOn, position, offsetFor, ownByte}
-use Rattle.meaning.specs.Fields.{blocks, coded, codeNo, writable, exists, table, fieldCount, used, sound, freeBlocks, statusAt, survey}
-use Rattle.meaning.specs.Commands.{commandOf, lengthFits, counted, row, asked, Answer, refuse, accept, error, choose, wrongCode, readPosition, setPosition, readCounter, stepCounter, clearCounter, onField, readField, storeField, fieldStatus, freeByte, memoryStatus, setCode, readFault, reset}
+use Rattle.meaning.specs.Fields.{blocks, coded, codeNo, writable, exists, table, fieldCount, used, sound, freeBlocks, statusAt, survey, clear, putStatus}
+use Rattle.meaning.specs.Commands.{commandOf, lengthFits, counted, row, asked, Answer, refuse, accept, error, choose, wrongCode, readPosition, setPosition, readCounter, stepCounter, clearCounter, onField, readField, storeField, fieldStatus, create, resize, modify, delete, shapeField, freeByte, memoryStatus, setCode, readFault, reset}
 use Rattle.meaning.specs.Characters.{gap, over, more}
-use Rattle.meaning.specs.Frames.{commandByte, dataOf, ours, judged, elsewhere, answered, ending, warned}
-use Rattle.meaning.specs.Run.{poll, measured, lends, refusedBy}
+use Rattle.meaning.specs.Frames.{commandByte, dataOf, ours, judged, elsewhere, answered, ending, still, warned}
+use Rattle.meaning.specs.Run.{poll, measured, power-on, step, lends, refusedBy}
 use Rattle.meaning.specs.Bench.{writes, written, addressOk, addressByte, boardByte, allowed, inRange, bad, branch, warning, bare, fromAsked, errorReply, rightLength, repeated, content, judge, pieceOf, handed}
 
 -- the plate of the sheet with eight blocks, its fresh state and blank memory
@@ -79,11 +80,18 @@ pub reset-values : (reset eight (withLock (withQueue new (0x1E ∷ [])) true) []
 unfolding reset poweredOn fresh withQueue withLock withLine
 reset-values = (refl, refl)
 
--- power-on empties the queue, unlocks and drops the frame; codes, counter, offset and measured position stay
-pub power-on-values : poweredOn (withLine full (record { begun = true; kept = 9 ∷ []; sum = 9; longer = true; parity = true; last = 9 }))
-    ≡ record { codes = 1 ∷ 2 ∷ 3 ∷ 4 ∷ []; counter = 5; offset = 6; measured = 7; queue = []; locked = false; line = none }
-unfolding poweredOn withQueue withLock withLine
+-- power-on empties the queue, unlocks and drops the frame unjudged; codes, counter, offset and measured position stay
+pub power-on-values : step eight (withLine full (record { begun = true; kept = 9 ∷ []; sum = 9; longer = true; parity = true; last = 9 })) [] power-on
+    ≡ still (record { codes = 1 ∷ 2 ∷ 3 ∷ 4 ∷ []; counter = 5; offset = 6; measured = 7; queue = []; locked = false; line = none }) []
+unfolding step still poweredOn withQueue withLock withLine
 power-on-values = refl
+
+-- a measured position is kept as it came, over 2^24 too, and nothing else changes; 42h tells it reduced
+pub measured-values : (step eight (withLine full (record { begun = true; kept = 9 ∷ []; sum = 9; longer = true; parity = true; last = 9 })) [] (measured 0xFF000001)
+    ≡ still (withLine (withMeasured full 0xFF000001) (record { begun = true; kept = 9 ∷ []; sum = 9; longer = true; parity = true; last = 9 })) [])
+    × ((withMeasured full 0xFF000001) .measured ≡ 0xFF000001) × (position eight (withMeasured new 0xFF000001) ≡ 1)
+unfolding step still position fresh withMeasured withLine
+measured-values = (refl, refl, refl)
 
 pub warned-values : (warned 0x50 (0x1E ∷ []) ≡ 0xD0) × (warned 0x50 [] ≡ 0x50)
 unfolding warned
@@ -120,11 +128,14 @@ pub position-values : (readPosition eight (withMeasured new 0x010203) [] [] ≡ 
 unfolding readPosition error bytes4 position fresh withMeasured withLock
 position-values = (refl, refl)
 
--- the code before the position; the offset is wanted less measured
-pub set-position-values : (setPosition eight new [] (0xFF ∷ 0 ∷ 0 ∷ 0 ∷ 0x54 ∷ []) ≡ refuse 0x0F)
+-- the lock before the code, the code before the position; 2^24 is out of 24 bits, one less is not; the offset is wanted less measured
+pub set-position-values : (setPosition eight (withLock new true) [] (0xFF ∷ 0 ∷ 0 ∷ 0 ∷ 0x54 ∷ []) ≡ refuse 0x02)
+    × (setPosition eight new [] (0xFF ∷ 0 ∷ 0 ∷ 0 ∷ 0x54 ∷ []) ≡ refuse 0x0F)
+    × (setPosition eight new [] (1 ∷ 0 ∷ 0 ∷ 0 ∷ 0x55 ∷ []) ≡ refuse 0x0D)
+    × (setPosition eight new [] (0 ∷ 0xFF ∷ 0xFF ∷ 0xFF ∷ 0x55 ∷ []) ≡ accept [] (withOffset new 0xFFFFFF) [])
     × (setPosition eight (withMeasured new 5) [] (0 ∷ 0 ∷ 0 ∷ 2 ∷ 0x55 ∷ []) ≡ accept [] (withOffset (withMeasured new 5) 0xFFFFFD) [])
-unfolding setPosition error number offsetFor code fresh withMeasured withOffset
-set-position-values = (refl, refl)
+unfolding setPosition error number offsetFor code fresh withLock withMeasured withOffset
+set-position-values = (refl, refl, refl, refl, refl)
 
 pub counter-values : (readCounter eight (withCounter new 0x010203) [] [] ≡ accept (1 ∷ 2 ∷ 3 ∷ []) (withCounter new 0x010203) [])
     × (stepCounter eight (withCounter new 0xFFFFFF) [] [] ≡ accept [] (withQueue (withCounter (withCounter new 0xFFFFFF) 0) (0x08 ∷ [])) [])
@@ -161,6 +172,39 @@ pub memory-status-values : (memoryStatus eight new (tabled 0xC1 0xC2 0) [] ≡ a
 unfolding memoryStatus error survey table sound fieldCount used blocks exists freeBlocks freeByte statusAt blank
 memory-status-values = (refl, refl)
 
+-- data of 07h, so that what is set to 00h shows: the blocks from a up to b are 00h
+abbrev cleared : ℕ → ℕ → List ℕ → List ℕ
+cleared a b tb = replicate (16 * a) 7 ++ (zeros (16 * (b - a)) ++ (replicate (128 - 16 * b) 7 ++ tb))
+
+-- 4Dh creates: the code before the room, and that of the new status; seven blocks of seven are granted and set to 00h; 03h before 12h; no field is left out, and none is FFh
+pub create-values : (shapeField eight new (cleared 0 0 (0xC0 ∷ zeros 7)) (1 ∷ 0xC7 ∷ 0x54 ∷ []) ≡ refuse 0x0F)
+    × (shapeField eight new (cleared 0 0 (0xC0 ∷ zeros 7)) (1 ∷ 0xC7 ∷ 0x55 ∷ []) ≡ refuse 0x10)
+    × (shapeField eight new (cleared 0 0 (0xC0 ∷ zeros 7)) (1 ∷ 0xC6 ∷ 0x55 ∷ []) ≡ accept (1 ∷ 0xC6 ∷ []) new (cleared 1 8 (0xC0 ∷ 0xC6 ∷ zeros 6)))
+    × (shapeField eight full (cleared 0 0 (0xC0 ∷ zeros 7)) (1 ∷ 0xE0 ∷ 3 ∷ []) ≡ accept (1 ∷ 0xE0 ∷ []) full (cleared 1 2 (0xC0 ∷ 0xE0 ∷ zeros 6)))
+    × (shapeField eight new (tabled 0xC0 0 0xC0) (5 ∷ 0xC0 ∷ 0x54 ∷ []) ≡ refuse 0x03)
+    × (shapeField eight new (tabled 0xC0 0 0) (2 ∷ 0xC0 ∷ 0x54 ∷ []) ≡ refuse 0x12)
+    × (shapeField eight new (tabled 0xC0 0 0) (0xFF ∷ 0xC0 ∷ 0x55 ∷ []) ≡ refuse 0x12)
+unfolding shapeField choose error create modify delete clear putStatus put survey table sound fieldCount used blocks codeNo exists freeBlocks statusAt blank wrongCode code fresh
+create-values = (refl, refl, refl, refl, refl, refl, refl)
+
+-- 4Dh modifies: the code before the room, and that of the stored status; a new size only of the last field; more by the free blocks, not by one over; six blocks less of a full board
+pub modify-values : (shapeField eight full (tabled 0xC0 0xC0 0) (0 ∷ 0xD1 ∷ 2 ∷ []) ≡ refuse 0x0F)
+    × (shapeField eight full (tabled 0xC0 0xC0 0) (0 ∷ 0xD1 ∷ 1 ∷ []) ≡ refuse 0x10)
+    × (shapeField eight full (tabled 0xC0 0xC0 0) (0 ∷ 0xD0 ∷ 1 ∷ []) ≡ accept (0 ∷ 0xD0 ∷ []) full (tabled 0xD0 0xC0 0))
+    × (shapeField eight new (cleared 0 0 (0xC3 ∷ 0xC2 ∷ zeros 6)) (1 ∷ 0xC4 ∷ 0x55 ∷ []) ≡ refuse 0x10)
+    × (shapeField eight new (cleared 0 0 (0xC3 ∷ 0xC2 ∷ zeros 6)) (1 ∷ 0xC3 ∷ 0x55 ∷ []) ≡ accept (1 ∷ 0xC3 ∷ []) new (cleared 7 8 (0xC3 ∷ 0xC3 ∷ zeros 6)))
+    × (shapeField eight new (cleared 0 0 (0xC7 ∷ zeros 7)) (0 ∷ 0xC1 ∷ 0x55 ∷ []) ≡ accept (0 ∷ 0xC1 ∷ []) new (cleared 2 8 (0xC1 ∷ zeros 7)))
+unfolding shapeField choose error create modify delete resize clear putStatus put survey table sound fieldCount used blocks codeNo exists freeBlocks statusAt blank wrongCode code fresh
+modify-values = (refl, refl, refl, refl, refl, refl)
+
+-- 4Dh deletes: the code before the last field, and that of the stored status; the status is told as it came; no such field
+pub delete-values : (shapeField eight full (tabled 0xC0 0xC0 0) (0 ∷ 0x10 ∷ 2 ∷ []) ≡ refuse 0x0F)
+    × (shapeField eight full (tabled 0xC0 0xC0 0) (0 ∷ 0x10 ∷ 1 ∷ []) ≡ refuse 0x10)
+    × (shapeField eight full (cleared 0 0 (0xC0 ∷ 0x81 ∷ zeros 6)) (1 ∷ 0x15 ∷ 1 ∷ []) ≡ accept (1 ∷ 0x15 ∷ []) full (cleared 1 3 (0xC0 ∷ zeros 7)))
+    × (shapeField eight full (tabled 0xC0 0xC0 0) (2 ∷ 0 ∷ 9 ∷ []) ≡ refuse 0x12)
+unfolding shapeField choose error create modify delete clear putStatus put survey table sound fieldCount used blocks codeNo exists freeBlocks statusAt blank wrongCode code
+delete-values = (refl, refl, refl, refl)
+
 -- R1 before R2; a room of 133 bytes is R3
 pub refused-values : (refusedBy (record { total = 0; bits = 24; address = 0; ticks = 4; pause = 55 }) new [] 134 (poll 0) ≡ 1) × (refusedBy eight new (zeros 136) 133 (poll 0) ≡ 3) × (refusedBy eight new [] 0 (measured 7) ≡ 0)
 unfolding refusedBy plateOk stateOk lends among apart fresh none
@@ -171,8 +215,9 @@ pub length-values : (lengthFits (counted 4) (0 ∷ 0 ∷ 0 ∷ []) (zeros 4) ≡
 unfolding lengthFits
 length-values = (refl, refl)
 
--- R4 before R5, in a room of 134 bytes; 4Ah's count of 0 is R5
-pub writes-values : ((writes 32 0x42 [] (zeros 134)) .refusal ≡ 4) × ((writes 0 0x4A (0 ∷ 0 ∷ 0 ∷ 0 ∷ []) (zeros 135)) .refusal ≡ 5)
+-- R4 before R5, in a room of 134 bytes; 4Ah's count of 0 is R5; the buffer stays as it was
+pub writes-values : (writes 32 0x42 [] (replicate 134 7) ≡ record { refusal = 4; count = 0; buffer = replicate 134 7 })
+    × (writes 0 0x4A (0 ∷ 0 ∷ 0 ∷ 0 ∷ []) (replicate 135 7) ≡ record { refusal = 5; count = 0; buffer = replicate 135 7 })
 unfolding writes addressOk allowed asked row lengthFits commandOf inRange
 writes-values = (refl, refl)
 

@@ -1,49 +1,147 @@
--- A host that starts fresh with blank memory and only calls does the meaning's run (demand 3). Assumes nothing.
-use Prim.Native.Nat.{ℕ, _≤_}
+-- A host that starts fresh with blank memory and only calls does the meaning's run, so demand 3 holds of its calls. Assumes nothing.
+use Prim.Native.Nat.{ℕ, _+_, _-_, _%_, _≤_, _<_}
 use mathlib.Core.Path.{_≡_, refl, sym, ap, ap₂, subst, _∙_}
 use mathlib.Core.Bool.{Bool, true}
 use mathlib.Core.List.{List, [], _∷_}
-use lib.Dec.{T, eqb}
-use lib.ListN.{length, length-replicate}
-use Rattle.meaning.specs.Bytes.{pick, zeros}
+use native.Mathlib.Omega.{arith}
+use lib.Dec.{T, eqb, lit<}
+use lib.ListN.{length, length-replicate, getD, take, drop}
+use Rattle.meaning.specs.Bytes.{pick, arg, zeros}
 use Rattle.meaning.specs.State as meaning
-use Rattle.meaning.specs.State.{Plate, fresh}
+use Rattle.meaning.specs.State.{Plate, fresh, ownByte}
 use Rattle.meaning.specs.Fields.{memoryLength}
-use Rattle.meaning.specs.Frames.{Outcome, still}
-use Rattle.meaning.specs.Run.{Call, step, refusedBy, runFrom, run, traffic}
-use Rattle.meaning.specs.Ledger.{Agrees}
+use Rattle.meaning.specs.Characters.{Frame, over, closed, whole, taken}
+use Rattle.meaning.specs.Commands.{commandOf, Answer, refuse, accept, quiet, freeByte, readField, memoryStatus, worked}
+use Rattle.meaning.specs.Frames.{Outcome, still, outcome, warned, message, sealed, dataOf, work, resting, close, upTo}
+use Rattle.meaning.specs.Run.{Call, character, poll, measured, fault, power-on, step, refusedBy, runFrom, run, closes, Heard, heard, traffic}
+use Rattle.meaning.specs.Bench.{request, bare}
+use Rattle.meaning.specs.Ledger.{fieldsOf, granted, back, byteOf, Agrees, Honest, Wanted, roomReply, BringsTold}
+use Rattle.meaning.specs.Demands.{Sent, meant}
+use Rattle.meaning.proofs.Choices.{pick-true}
+use Rattle.meaning.proofs.Replies.{reply-command}
+use Rattle.meaning.proofs.Wire.{data-sealed, work-request}
 use Rattle.meaning.proofs.Whole.{memory-by-traffic}
+use Rattle.meaning.proofs.Alone.{traffic-alone}
+use Rattle.meaning.proofs.Honest.{carried-the-code}
+use Rattle.meaning.proofs.Room.{refused-for-want-of-room, free-by-traffic}
+use Rattle.meaning.proofs.Told.{reads-by-traffic}
+use Rattle.line.proofs.Limits.{low-address}
 use Rattle.image.specs.Image.{heldIn, imageOf}
 use Rattle.quicksetter.specs.Calls.{freshOk, Freshens, Called}
-use Rattle.quicksetter.specs.Promises.{Ran, began, called, AsRun, QsRuns, QsMemoryByTraffic}
+use Rattle.quicksetter.specs.Promises.{Ran, began, called, AsRun, QsRuns, QsMemoryByTraffic, QsTrafficAlone, QsCarriedTheCode, Replied, replied, QsRefusedForRoom, Asks, QsRepliesAsMeant, QsFreeByTraffic, QsReadsByTraffic}
 use Rattle.quicksetter.proofs.Freshening.{fresh-holds}
 use Rattle.quicksetter.proofs.Theorems.{qs-steps}
 use Rattle.quicksetter.proofs.Staying.{Holds, unrefused, was-fresh, starts, goes-on}
 
-stays : (p : Plate) (gs : List Call) (img m x : List ℕ) → Ran p gs img m x → Holds p img m
-stays p _ img m _ (began old _ f) = starts p old img m f (length-replicate {A = ℕ} (memoryLength (p .total)) 0)
-stays p _ img m _ (called gs img₀ m₀ x w g r _ _ w′ h wide c) = goes-on p img₀ m₀ w g r img m w′ (stays p gs img₀ m₀ x h) wide c
+stays : (p : Plate) (gs : List Call) (t : List Heard) (img m x : List ℕ) → Ran p gs t img m x → Holds p img m
+stays p _ _ img m _ (began old _ f) = starts p old img m f (length-replicate {A = ℕ} (memoryLength (p .total)) 0)
+stays p _ _ img m _ (called gs t img₀ m₀ x w g r _ _ w′ h wide c) = goes-on p img₀ m₀ w g r img m w′ (stays p gs t img₀ m₀ x h) wide c
+
+-- a call of an image and a memory within the limits, with room enough, leaves the step's reply
+replies : (p : Plate) (img m w : List ℕ) (g : Call) (r : ℕ) (img′ m′ w′ : List ℕ) → Holds p img m → 134 ≤ length w → Called p img m w g r img′ m′ w′
+    → take r w′ ≡ (step p (heldIn img) m g) .reply
+replies p img m w g r img′ m′ w′ k wide c = qs-steps p img m w g r img′ m′ w′ c (k .image) (rw (unrefused p img m (length w) g k wide) tt) .front
 
 pub qs-runs : QsRuns
-unfolding run runFrom still
-qs-runs p _ img _ _ (began old _ f) =
+unfolding run runFrom still traffic
+qs-runs p _ _ img _ _ (began old _ f) =
     let k : freshOk p old ≡ true = was-fresh (freshOk p old) (f .answer) in
     let e : img ≡ imageOf (fresh p) (zeros 135) = f .image ∙ ap (λ (b : Bool). pick b (imageOf (fresh p) (zeros 135)) old) k in
-    record { state = ap heldIn e ∙ fresh-holds p; memory = refl; reply = refl }
-qs-runs p _ img m _ (called gs img₀ m₀ x w g r _ _ w′ h wide c) =
-    let k = stays p gs img₀ m₀ x h in
+    record { state = ap heldIn e ∙ fresh-holds p; memory = refl; reply = refl; wire = refl }
+qs-runs p _ _ img m _ (called gs t img₀ m₀ x w g r _ _ w′ h wide c) =
+    let k = stays p gs t img₀ m₀ x h in
     let free : T (eqb (refusedBy p (heldIn img₀) m₀ (length w) g) 0) = rw (unrefused p img₀ m₀ (length w) g k wide) tt in
     let s = qs-steps p img₀ m₀ w g r img m w′ c (k .image) free in
-    let i = qs-runs p gs img₀ m₀ x h in
+    let i = qs-runs p gs t img₀ m₀ x h in
     let e : step p (heldIn img₀) m₀ g ≡ step p ((run p gs) .state) ((run p gs) .memory) g = ap₂ (λ (a : meaning.State) (b : List ℕ). step p a b g) (i .state) (i .memory) in
+    let y : take r w′ ≡ (run p (g ∷ gs)) .reply = s .front ∙ ap (λ (o : Outcome). o .reply) e in
     record {
       state = s .after ∙ ap (λ (o : Outcome). o .state) e;
       memory = s .kept ∙ ap (λ (o : Outcome). o .memory) e;
-      reply = s .front ∙ ap (λ (o : Outcome). o .reply) e;
+      reply = y;
+      wire = ap₂ (λ (a : meaning.State) (b : List Heard). heard p a g (take r w′) b) (i .state) (i .wire) ∙ ap (λ (b : List ℕ). heard p ((run p gs) .state) g b (traffic p gs)) y;
     }
 
+-- what holds of the run's state, memory and traffic holds of the host's
+module _ (p : Plate) (gs : List Call) (t : List Heard) (img m x : List ℕ) (h : Ran p gs t img m x) where
+  pub as-run : (P : meaning.State → List ℕ → List Heard → Type 0) → P ((run p gs) .state) ((run p gs) .memory) (traffic p gs) → P (heldIn img) m t
+  as-run P y =
+      let i = qs-runs p gs t img m x h in
+      subst (λ (a : meaning.State). P a m t) (sym (i .state))
+      (subst (λ (a : List ℕ). P ((run p gs) .state) a t) (sym (i .memory)) (subst (P ((run p gs) .state) ((run p gs) .memory)) (sym (i .wire)) y))
+
 pub qs-memory-by-traffic : QsMemoryByTraffic
-qs-memory-by-traffic p gs img m x h =
-    let i = qs-runs p gs img m x h in
-    subst (λ (b : List ℕ). Agrees p (heldIn img) b (traffic p gs)) (sym (i .memory))
-    (subst (λ (s : meaning.State). Agrees p s ((run p gs) .memory) (traffic p gs)) (sym (i .state)) (memory-by-traffic p gs))
+qs-memory-by-traffic p gs t img m x h = as-run p gs t img m x h (Agrees p) (memory-by-traffic p gs)
+
+pub qs-traffic-alone : QsTrafficAlone
+qs-traffic-alone p gs hs t img m x img′ m′ x′ g h =
+    let i = qs-runs p gs t img m x g in
+    let j = qs-runs p hs t img′ m′ x′ h in
+    i .memory ∙ traffic-alone p gs hs (sym (i .wire) ∙ j .wire) ∙ sym (j .memory)
+
+pub qs-carried-the-code : QsCarriedTheCode
+qs-carried-the-code p gs t img m x h = as-run p gs t img m x h (λ (_ : meaning.State) (_ : List ℕ) (t : List Heard). Honest t) (carried-the-code p gs)
+
+-- the tick of the call that closes
+module _ (p : Plate) (s : meaning.State) (m : List ℕ) where
+  closing : (g : Call) → T (closes p s g) → (now : ℕ) × (T (over p s now) × ((step p s m g) .reply ≡ (upTo p s m now) .reply))
+  unfolding closes step
+  closing (character now v bad) o = (now, (o, refl))
+  closing (poll now) o = (now, (o, refl))
+  closing (measured n) o = absurd o
+  closing (fault c) o = absurd o
+  closing power-on o = absurd o
+
+pub qs-refused-for-room : QsRefusedForRoom
+qs-refused-for-room p t img m _ (replied gs x w g r img′ m′ w′ h wide c o) W =
+    let k = stays p gs t img m x h in
+    let z = closing p (heldIn img) m g o in
+    replies p img m w g r img′ m′ w′ k wide c ∙ z .1 .1
+    ∙ as-run p gs t img m x h
+    (λ (s : meaning.State) (m : List ℕ) (t : List Heard). T (over p s (z .0)) → Wanted p (resting s) t (closed (s .line))
+    → (upTo p s m (z .0)) .reply ≡ roomReply p (resting s) t (arg (s .line .kept) 2) (arg (s .line .kept) 3))
+    (refused-for-want-of-room p gs (z .0)) (z .1 .0) W
+
+pub qs-replies-as-meant : QsRepliesAsMeant
+unfolding upTo close meant ownByte
+qs-replies-as-meant p t img m _ a c d (replied gs x w g r img′ m′ w′ h wide q o) A =
+    let s = heldIn img in
+    let k = stays p gs t img m x h in
+    let z = closing p s m g o in
+    let sent : Sent p (resting s) m a c d = record { address = low-address p (k .plate); size = k .size; ours = A .ours; may = A .may } in
+    replies p img m w g r img′ m′ w′ k wide q ∙ z .1 .1
+    ∙ ap (λ (u : Outcome). u .reply) (pick-true (over p s (z .0)) (close p s m (z .0)) _ (z .1 .0)
+    ∙ ap (work p (resting s) m) (A .frame) ∙ work-request p (resting s) m a c d sent)
+
+-- what holds after every run holds where a frame is closed
+where-replied : (p : Plate) (t : List Heard) (img m y : List ℕ) (P : meaning.State → List ℕ → List Heard → Type 0)
+    → ((gs : List Call) → P ((run p gs) .state) ((run p gs) .memory) (traffic p gs)) → Replied p t img m y → P (heldIn img) m t
+where-replied p t img m _ P always (replied gs x w g r img′ m′ w′ h wide c o) = as-run p gs t img m x h P (always gs)
+
+pub qs-free-by-traffic : QsFreeByTraffic
+unfolding meant commandOf worked outcome
+qs-free-by-traffic p t img m y a z A =
+    qs-replies-as-meant p t img m y a 0x4E [] z A
+    ∙ ap (λ (b : Answer). (outcome p (resting (heldIn img)) m 0x4E b) .reply)
+    (where-replied p t img m y
+    (λ (s : meaning.State) (m : List ℕ) (t : List Heard). memoryStatus p (resting s) m [] ≡ accept (freeByte (p .total + back t - granted t) ∷ fieldsOf t ∷ []) (resting s) m)
+    (λ gs. free-by-traffic p gs (resting ((run p gs) .state))) z)
+
+-- the bytes in the reply of an answer to 4Ah
+module _ (p : Plate) (s : meaning.State) (m : List ℕ) (t : List Heard) (d : List ℕ) where
+  brought : (b : Answer) → BringsTold t d b → bare ((outcome p s m 0x4A b) .reply) ≡ 0x4A
+      → (i : ℕ) → i < arg d 2 → getD (drop 3 (dataOf ((outcome p s m 0x4A b) .reply))) i 0 ≡ byteOf t (arg d 0) (arg d 1 + i)
+  unfolding outcome bare message
+  brought (refuse e) h k i l =
+      let c : getD (message p s 0x50 (e ∷ [])) 1 0 % 128 ≡ 0x50 = reply-command p s 0x50 (e ∷ []) (lit< tt) in
+      absurd (omega (arith, c))
+  brought (accept r s′ m′) h k i l = rw (data-sealed (ownByte p s′) (warned 0x4A (s′ .queue)) r) (h i l)
+  brought (quiet s′ m′) h k i l = absurd (omega arith)
+
+pub qs-reads-by-traffic : QsReadsByTraffic
+unfolding meant commandOf worked
+qs-reads-by-traffic p t img m y a d z A k i l =
+    let e = qs-replies-as-meant p t img m y a 0x4A d z A in
+    let told : BringsTold t d (readField p (resting (heldIn img)) m d)
+    = where-replied p t img m y (λ (s : meaning.State) (m : List ℕ) (t : List Heard). BringsTold t d (readField p (resting s) m d)) (λ gs. reads-by-traffic p gs (resting ((run p gs) .state)) d) z in
+    rw e (brought p (resting (heldIn img)) m t d (readField p (resting (heldIn img)) m d) told (rw (← e) k) i l)

@@ -1,16 +1,22 @@
 -- The calls from C do the meaning's step, and a refused one changes nothing. Assumes nothing.
-use Prim.Native.Nat.{ℕ}
-use mathlib.Core.Path.{_≡_, refl, ap, _∙_}
+use Prim.Native.Nat.{ℕ, _<_}
+use mathlib.Core.Path.{_≡_, refl, sym, ap, subst, _∙_}
 use mathlib.Core.Bool.{Bool, true, false, not}
 use mathlib.Core.List.{List}
 use lib.Dec.{T, eqb}
-use lib.ListN.{length}
-use Rattle.meaning.specs.State.{Plate}
-use Rattle.meaning.specs.Run.{Call, Held, called, refusedBy}
+use lib.ListN.{length, drop}
+use Rattle.meaning.specs.State.{Plate, State}
+use Rattle.meaning.specs.Frames.{Outcome, still}
+use Rattle.meaning.specs.Run.{Call, poll, step, Held, called, refusedBy}
+use Rattle.meaning.specs.Bench.{warning}
+use Rattle.meaning.specs.Demands.{waits}
 use Rattle.meaning.proofs.Calls as calls
+use Rattle.meaning.proofs.Lines.{poll-without-frame}
+use Rattle.meaning.proofs.Warning.{warns-exactly}
 use Rattle.image.specs.Image.{isImage, heldIn}
+use Rattle.image.proofs.Round.{image-as-it-was}
 use Rattle.quicksetter.specs.Calls.{calledBy, numberOf, imageAfter, Called}
-use Rattle.quicksetter.specs.Promises.{QsSteps, Untouched, RefusedUntouched, NoImageUntouched}
+use Rattle.quicksetter.specs.Promises.{QsSteps, QsWarnsExactly, QsPollWithoutFrame, Untouched, RefusedUntouched, NoImageUntouched}
 
 pub on-image : (p : Plate) (img m w : List ℕ) (g : Call) → isImage img ≡ true → calledBy p img m w g ≡ called p (heldIn img) m w g
 unfolding calledBy
@@ -33,6 +39,25 @@ qs-steps p img m w g r img′ m′ w′ c e free =
       length-told = n ∙ s .length-told;
       front = rw (n, q) (s .front);
       rest = rw (n, q) (s .rest);
+    }
+
+pub qs-warns-exactly : QsWarnsExactly
+qs-warns-exactly p img m w g r img′ m′ w′ c e free some =
+    let s = qs-steps p img m w g r img′ m′ w′ c e free in
+    ap warning (s .front) ∙ warns-exactly p (heldIn img) m g (subst (λ (n : ℕ). 0 < n) (s .length-told) some) ∙ ap (λ (x : State). waits (x .queue)) (sym (s .after))
+
+pub qs-poll-without-frame : QsPollWithoutFrame
+unfolding imageAfter still
+qs-poll-without-frame p img m w now r img′ m′ w′ c e low free n =
+    let s = qs-steps p img m w (poll now) r img′ m′ w′ c e free in
+    let o = calls.served-otherwise p (heldIn img) m w (poll now) free in
+    let q : step p (heldIn img) m (poll now) ≡ still (heldIn img) m = poll-without-frame p (heldIn img) m now n in
+    let z : r ≡ 0 = s .length-told ∙ ap (λ (x : Outcome). length (x .reply)) q in
+    record {
+      number = z;
+      image = c .image ∙ rw (on-image p img m w (poll now) e, o .unrefused, o .after, q) (image-as-it-was img e low);
+      memory = s .kept ∙ ap (λ (x : Outcome). x .memory) q;
+      room = subst (λ (k : ℕ). drop k w′ ≡ drop k w) z (s .rest);
     }
 
 -- a refusal by its number: nothing is done

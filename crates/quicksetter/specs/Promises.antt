@@ -1,16 +1,20 @@
 -- What the calls from C promise: each does the meaning's step on the state that the image holds, and a refused one changes nothing. Assumes nothing.
-use Prim.Native.Nat.{ℕ, _+_, _≤_}
+use Prim.Native.Nat.{ℕ, _+_, _-_, _≤_, _<_}
 use mathlib.Core.Path.{_≡_}
 use mathlib.Core.Bool.{true, false, not}
 use mathlib.Core.List.{List, [], _∷_}
 use lib.Dec.{T, eqb}
-use lib.ListN.{length, take}
-use Rattle.meaning.specs.Bytes.{longestReply, zeros}
-use Rattle.meaning.specs.State.{Plate}
+use lib.ListN.{length, getD, take, drop}
+use Rattle.meaning.specs.Bytes.{either, longestReply, zeros, arg}
+use Rattle.meaning.specs.State.{Plate, ownByte}
 use Rattle.meaning.specs.Fields.{memoryLength}
-use Rattle.meaning.specs.Run.{Call, refusedBy, run, traffic}
-use Rattle.meaning.specs.Ledger.{Agrees}
-use Rattle.meaning.specs.Demands.{Served}
+use Rattle.meaning.specs.Characters.{closed, whole}
+use Rattle.meaning.specs.Commands.{commandOf, freeByte}
+use Rattle.meaning.specs.Frames.{dataOf, message, resting}
+use Rattle.meaning.specs.Run.{Call, poll, refusedBy, run, closes, Heard, heard, traffic}
+use Rattle.meaning.specs.Bench.{allowed, request, warning, bare}
+use Rattle.meaning.specs.Ledger.{fieldsOf, granted, back, byteOf, Agrees, Honest, Wanted, roomReply}
+use Rattle.meaning.specs.Demands.{waits, meant, Served}
 use Rattle.image.specs.Image.{isImage, heldIn}
 use Rattle.quicksetter.specs.Calls.{Called, Freshens}
 
@@ -47,21 +51,79 @@ pub data Reached (p : Plate) : List ℕ → List ℕ → Type 0 where
 abbrev pub NeverRefused : Type 0
 NeverRefused = (p : Plate) (img m w : List ℕ) (g : Call) (r : ℕ) (img′ m′ w′ : List ℕ) → Reached p img m → longestReply ≤ length w → Called p img m w g r img′ m′ w′ → r ≤ longestReply
 
--- Demand 3: a host that starts with a fresh image and blank memory, and then only calls, with room enough: its calls, newest first; image, memory and last reply
-pub data Ran (p : Plate) : List Call → List ℕ → List ℕ → List ℕ → Type 0 where
-  began : (old img : List ℕ) → Freshens p old 0 img → Ran p [] img (zeros (memoryLength (p .total))) []
-  called : (gs : List Call) (img m x w : List ℕ) (g : Call) (r : ℕ) (img′ m′ w′ : List ℕ) → Ran p gs img m x → longestReply ≤ length w → Called p img m w g r img′ m′ w′
-      → Ran p (g ∷ gs) img′ m′ (take r w′)
+-- Demand 3: a host that starts with a fresh image and blank memory, and then only calls, with room enough: its calls, newest first; the traffic, each frame that a
+-- call closed with the reply that the call left; image, memory and last reply
+pub data Ran (p : Plate) : List Call → List Heard → List ℕ → List ℕ → List ℕ → Type 0 where
+  began : (old img : List ℕ) → Freshens p old 0 img → Ran p [] [] img (zeros (memoryLength (p .total))) []
+  called : (gs : List Call) (t : List Heard) (img m x w : List ℕ) (g : Call) (r : ℕ) (img′ m′ w′ : List ℕ) → Ran p gs t img m x → longestReply ≤ length w → Called p img m w g r img′ m′ w′
+      → Ran p (g ∷ gs) (heard p (heldIn img) g (take r w′) t) img′ m′ (take r w′)
 
 -- what it holds and hears is the meaning's run
-pub record AsRun (p : Plate) (gs : List Call) (img m x : List ℕ) : Type 0 where
+pub record AsRun (p : Plate) (gs : List Call) (t : List Heard) (img m x : List ℕ) : Type 0 where
   pub state : heldIn img ≡ (run p gs) .state
   pub memory : m ≡ (run p gs) .memory
   pub reply : x ≡ (run p gs) .reply
+  pub wire : t ≡ traffic p gs
 
 abbrev pub QsRuns : Type 0
-QsRuns = (p : Plate) (gs : List Call) (img m x : List ℕ) → Ran p gs img m x → AsRun p gs img m x
+QsRuns = (p : Plate) (gs : List Call) (t : List Heard) (img m x : List ℕ) → Ran p gs t img m x → AsRun p gs t img m x
 
--- so memory, free blocks, field bytes and codes are what the traffic says
+-- Demand 3: so memory, free blocks, field bytes and codes are what the traffic says
 abbrev pub QsMemoryByTraffic : Type 0
-QsMemoryByTraffic = (p : Plate) (gs : List Call) (img m x : List ℕ) → Ran p gs img m x → Agrees p (heldIn img) m (traffic p gs)
+QsMemoryByTraffic = (p : Plate) (gs : List Call) (t : List Heard) (img m x : List ℕ) → Ran p gs t img m x → Agrees p (heldIn img) m t
+
+-- Demand 3, "the traffic alone": two hosts with equal traffic hold equal memory
+abbrev pub QsTrafficAlone : Type 0
+QsTrafficAlone = (p : Plate) (gs hs : List Call) (t : List Heard) (img m x img′ m′ x′ : List ℕ) → Ran p gs t img m x → Ran p hs t img′ m′ x′ → m ≡ m′
+
+-- Demand 3: accepted stores and shapes carried the code in force
+abbrev pub QsCarriedTheCode : Type 0
+QsCarriedTheCode = (p : Plate) (gs : List Call) (t : List Heard) (img m x : List ℕ) → Ran p gs t img m x → Honest t
+
+-- such a host's next call, a character or a poll, closes the open frame and leaves a reply
+pub data Replied (p : Plate) (t : List Heard) (img m : List ℕ) : List ℕ → Type 0 where
+  replied : (gs : List Call) (x w : List ℕ) (g : Call) (r : ℕ) (img′ m′ w′ : List ℕ) → Ran p gs t img m x → longestReply ≤ length w → Called p img m w g r img′ m′ w′
+      → T (closes p (heldIn img) g) → Replied p t img m (take r w′)
+
+-- Demand 3: of a 4Dh that passes the earlier checks the reply is 10h exactly if it asks more than is free, else the acceptance
+abbrev pub QsRefusedForRoom : Type 0
+QsRefusedForRoom = (p : Plate) (t : List Heard) (img m y : List ℕ) → Replied p t img m y → Wanted p (resting (heldIn img)) t (closed ((heldIn img) .line))
+    → y ≡ roomReply p (resting (heldIn img)) t (arg ((heldIn img) .line .kept) 2) (arg ((heldIn img) .line .kept) 3)
+
+-- the open frame is the request with address a, command c and data d, one that the bench writes, and for this board
+pub record Asks (p : Plate) (img : List ℕ) (a c : ℕ) (d : List ℕ) : Type 0 where
+  pub frame : closed ((heldIn img) .line) ≡ whole (request a c d)
+  pub ours : T (either (eqb a (ownByte p (heldIn img))) (eqb a 0xFF))
+  pub may : T (allowed (commandOf c) d)
+
+-- Demand 2: the reply to it is the one that its row means
+abbrev pub QsRepliesAsMeant : Type 0
+QsRepliesAsMeant = (p : Plate) (t : List Heard) (img m y : List ℕ) (a c : ℕ) (d : List ℕ) → Replied p t img m y → Asks p img a c d → y ≡ (meant p (resting (heldIn img)) m c d) .reply
+
+-- Demand 3: 4Eh tells the traffic's free blocks, total less granted plus given back, and its number of fields
+abbrev pub QsFreeByTraffic : Type 0
+QsFreeByTraffic = (p : Plate) (t : List Heard) (img m y : List ℕ) (a : ℕ) → Replied p t img m y → Asks p img a 0x4E []
+    → y ≡ message p (resting (heldIn img)) 0x4E (freeByte (p .total + back t - granted t) ∷ fieldsOf t ∷ [])
+
+-- Demand 3, "each byte": an accepted 4Ah brings, behind field, offset and count, the bytes that the traffic tells
+abbrev pub QsReadsByTraffic : Type 0
+QsReadsByTraffic = (p : Plate) (t : List Heard) (img m y : List ℕ) (a : ℕ) (d : List ℕ) → Replied p t img m y → Asks p img a 0x4A d → bare y ≡ 0x4A
+    → (i : ℕ) → i < arg d 2 → getD (drop 3 (dataOf y)) i 0 ≡ byteOf t (arg d 0) (arg d 1 + i)
+
+-- 01, "Bit 7 of every reply's command byte": where a call that is not refused leaves a reply, bit 7 is set exactly if codes wait in the image after it
+abbrev pub QsWarnsExactly : Type 0
+QsWarnsExactly = (p : Plate) (img m w : List ℕ) (g : Call) (r : ℕ) (img′ m′ w′ : List ℕ) → Called p img m w g r img′ m′ w′
+    → isImage img ≡ true → T (eqb (refusedBy p (heldIn img) m (length w) g) 0) → 0 < r → warning (take r w′) ≡ waits ((heldIn img′) .queue)
+
+-- no reply; image, memory and room are what they were
+pub record Nothing (img m w : List ℕ) (r : ℕ) (img′ m′ w′ : List ℕ) : Type 0 where
+  pub number : r ≡ 0
+  pub image : img′ ≡ img
+  pub memory : m′ ≡ m
+  pub room : w′ ≡ w
+
+-- 01, "A poll with no frame open does nothing": of an image of bytes
+abbrev pub QsPollWithoutFrame : Type 0
+QsPollWithoutFrame = (p : Plate) (img m w : List ℕ) (now : ℕ) (r : ℕ) (img′ m′ w′ : List ℕ) → Called p img m w (poll now) r img′ m′ w′
+    → isImage img ≡ true → ((i : ℕ) → arg img i < 256) → T (eqb (refusedBy p (heldIn img) m (length w) (poll now)) 0) → (heldIn img) .line .begun ≡ false
+    → Nothing img m w r img′ m′ w′

@@ -68,7 +68,7 @@ returns : tie.Need-returns
 returns c =
     let after-bytes-of = c .before .before in
     let start = after-bytes-of .before .before .before in
-    λ l. state-row _ l (start .pre) (after-bytes-of .bytes-of .ensures) (c .before .bytes-of2 .ensures) (c .bytes-of3 .ensures)
+    λ l. state-row (start .args .state) l (start .pre) (after-bytes-of .bytes-of .ensures) (c .before .bytes-of2 .ensures) (c .bytes-of3 .ensures)
 
 pub state-row-spec : {M : Type 1} → statement M
 state-row-spec =
