@@ -32,7 +32,8 @@ shared-slice-read-if2-2 c = search needs
 
 returns-2 : tie.Need-returns-2 Inv-loop μ-loop
 returns-2 c =
-    let u = c .before .before .before .before in
+    let at-loop = c .before .before .before .before in
+    let u = at-loop in
     let a = u .before .before .args in
     sym (u .loop .inv .2 ∙ same-more (a .a .now) (a .b .now) (u .loop .i) (omega arith) (omega arith) ∙ simp (ne-eqb _ _ (c .if2 .taken)))
 
@@ -44,7 +45,8 @@ loop-less c = search needs
 
 loop-again : tie.Need-loop-again Inv-loop μ-loop
 loop-again c =
-    let u = c .before .before .before .before in
+    let at-loop = c .before .before .before .before in
+    let u = at-loop in
     let a = u .before .before .args in (
       search needs,
       u .loop .inv .1,
@@ -52,8 +54,7 @@ loop-again c =
     )
 
 returns-3 : tie.Need-returns-3 Inv-loop μ-loop
-returns-3 c =
-    let u = c .before in
+returns-3 c = let u = c .before in
     let a = u .before .before .args in
     sym (u .loop .inv .2 ∙ same-end (a .a .now) (a .b .now) (u .loop .i) (omega arith) (omega arith))
 

@@ -27,8 +27,7 @@ right : (c : tie.After-length-fits)
     → let a = c .before .before .before .before .before .before .before .args in
     rightLength (a .request .now) (a .reply .now) ≡ c .length-fits .result
 unfolding commandByte
-right c =
-    let p = c .before in
+right c = let p = c .before in
     let q = p .before in
     let r = q .before in
     let a = r .before .before .before .before .args in
@@ -42,13 +41,15 @@ repeats : (c : tie.After-same)
     repeated (a .request .now) (a .reply .now) ≡ c .same .result
 unfolding commandByte
 repeats c =
-    let p = c .before .before .before .before .before in
+    let after-front = c .before .before in
+    let after-data-part2 = after-front .before .before .before in
+    let p = after-data-part2 in
     let q = p .before in
     let r = q .before in
     let a = r .before .before .before .before .args in
     let k = r .row-of .result .repeats in
     let e = c .before .front2 .ensures ∙ ap (take k) (q .data-part .ensures .0) in
-    let f = c .before .before .front .ensures ∙ ap (take k) (p .data-part2 .ensures .0) in
+    let f = after-front .front .ensures ∙ ap (take k) (p .data-part2 .ensures .0) in
     fits-repeated (r .row-of .result) (a .request .now) (a .reply .now) (c .same .result) (r .row-of .ensures)
     (c .same .ensures ∙ ap₂ same f e)
 
@@ -69,7 +70,8 @@ length-fits-requires c κs = search needs
 
 returns : tie.Need-returns
 returns c =
-    let s = c .before .before .before .before .before .before .before .before in
+    let start = c .before .before .before .before .before .before .before .before in
+    let s = start in
     sym (ap withoutData (wrong-length _ _ (s .pre .ordinary) (right (c .before) ∙ not-true _ (c .if1 .taken))))
 
 front-requires : tie.Need-front-requires
@@ -83,7 +85,8 @@ same-requires c κs = search needs
 
 returns-2 : tie.Need-returns-2
 returns-2 c =
-    let u = c .before .before .before .before in
+    let after-else1 = c .before .before .before .before in
+    let u = after-else1 in
     let s = u .before .before .before .before .before .before .before .before in
     sym (ap withoutData (not-repeated _ _ (s .pre .ordinary) (right (u .before) ∙ not-false _ (u .if1 .left)) (repeats (c .before) ∙ not-true _ (c .if2 .taken))))
 
@@ -91,15 +94,13 @@ shared-slice-read-if3 : tie.Need-shared-slice-read-if3
 shared-slice-read-if3 c = search needs
 
 returns-3 : tie.Need-returns-3
-returns-3 c =
-    let v = c .before .before in
+returns-3 c = let v = c .before .before in
     let u = v .before .before .before .before in
     let s = u .before .before .before .before .before .before .before .before in
     sym (ap withoutData (done-calm _ _ (s .pre .ordinary) (right (u .before) ∙ not-false _ (u .if1 .left)) (repeats (v .before) ∙ not-false _ (v .if2 .left)) (c .if3 .taken)))
 
 returns-4 : tie.Need-returns-4
-returns-4 c =
-    let v = c .before .before in
+returns-4 c = let v = c .before .before in
     let u = v .before .before .before .before in
     let s = u .before .before .before .before .before .before .before .before in
     sym (ap withoutData (done-warned _ _ (s .pre .ordinary) (right (u .before) ∙ not-false _ (u .if1 .left)) (repeats (v .before) ∙ not-false _ (v .if2 .left)) (c .if3 .left)))

@@ -18,13 +18,17 @@ shared-slice-read-t8 : tie.Need-shared-slice-read-t8
 shared-slice-read-t8 c = search needs
 
 returns-2 : tie.Need-returns-2
-returns-2 c = λ q e. sym (ap withoutData (error-calm q _ e (c .before .before .before .if1 .left) (c .before .if2 .taken)))
+returns-2 c =
+    let after-else1 = c .before .before .before in
+    λ q e. sym (ap withoutData (error-calm q _ e (after-else1 .if1 .left) (c .before .if2 .taken)))
 
 shared-slice-read-t6 : tie.Need-shared-slice-read-t6
 shared-slice-read-t6 c = search needs
 
 returns-3 : tie.Need-returns-3
-returns-3 c = λ q e. sym (ap withoutData (error-warned q _ e (c .before .before .before .if1 .left) (c .before .if2 .left)))
+returns-3 c =
+    let after-else1 = c .before .before .before in
+    λ q e. sym (ap withoutData (error-warned q _ e (after-else1 .if1 .left) (c .before .if2 .left)))
 
 pub error-verdict-spec : {M : Type 1} → statement M
 error-verdict-spec =

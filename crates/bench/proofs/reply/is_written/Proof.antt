@@ -36,7 +36,8 @@ is-address-requires c κs = search needs
 returns-3 : tie.Need-returns-3
 unfolding written
 returns-3 c =
-    let v = c .before .before .before in
+    let after-else2 = c .before .before .before in
+    let v = after-else2 in
     let u = v .before in
     simp (
       le-leb _ _ (u .before .if1 .left),
@@ -56,7 +57,8 @@ is-allowed-requires c κs = search needs
 returns-4 : tie.Need-returns-4
 unfolding written commandByte
 returns-4 c =
-    let w = c .before .before .before in
+    let after-else3 = c .before .before .before in
+    let w = after-else3 in
     let v = w .before .before .before in
     let u = v .before in
     simp (

@@ -30,7 +30,9 @@ asks : (c : tie.Else1) → written (c .before .before .before .before .args .req
 asks c = sym (c .before .is-written .ensures) ∙ not-false _ (c .if1 .left)
 
 asks-long : (c : tie.Else1) → 3 ≤ length (c .before .before .before .before .args .request .now)
-asks-long c = written-long (c .before .before .before .before .args .request .now) (c .before .before .before .before .args .reply .now) (asks c)
+asks-long c =
+    let start = c .before .before .before .before in
+    written-long (start .args .request .now) (start .args .reply .now) (asks c)
 
 sums : (c : tie.Else3) → xorAll (c .before .before .before .before .before .before .before .args .reply .now) ≡ 0
 sums c = sym (c .before .xor-of .ensures) ∙ c .if3 .left
@@ -42,7 +44,8 @@ from c = sym (c .before .from-asked .ensures) ∙ not-false _ (c .if4 .left)
 reached : (c : tie.Else5)
     → let a = c .before .before .before .before .before .before .before .before .before .before .before .before .before .before .before .args in meaning.judge (a .request .now) (a .reply .now) ≡ content (a .request .now) (a .reply .now)
 reached c =
-    let w = c .before .before .before .before in
+    let after-else4 = c .before .before .before .before in
+    let w = after-else4 in
     let v = w .before .before .before .before in
     let u = v .before .before in
     to-content _ _ (asks (u .before)) (u .if2 .left) (sums v) (from w) (sym (c .before .command-fits .ensures) ∙ not-false _ (c .if5 .left))
@@ -60,12 +63,13 @@ xor-of-requires : tie.Need-xor-of-requires
 xor-of-requires c κs = search needs
 
 returns-3 : tie.Need-returns-3
-returns-3 c =
-    let u = c .before .before in
+returns-3 c = let u = c .before .before in
     sym (ap withoutData (sum-wrong _ _ (asks (u .before)) (u .if2 .left) (λ e. c .if3 .taken (c .before .xor-of .ensures ∙ e))))
 
 shared-slice-read-from-asked : tie.Need-shared-slice-read-from-asked
-shared-slice-read-from-asked c = omega (arith, asks-long (c .before .before .before .before))
+shared-slice-read-from-asked c =
+    let after-else1 = c .before .before .before .before in
+    omega (arith, asks-long (after-else1))
 
 shared-slice-read-from-asked-2 : tie.Need-shared-slice-read-from-asked-2
 shared-slice-read-from-asked-2 c = search needs
@@ -75,12 +79,15 @@ from-asked-requires c κs = search needs
 
 returns-4 : tie.Need-returns-4
 returns-4 c =
-    let v = c .before .before .before .before in
+    let after-else3 = c .before .before .before .before in
+    let v = after-else3 in
     let u = v .before .before in
     sym (ap withoutData (not-from-asked _ _ (asks (u .before)) (u .if2 .left) (sums v) (sym (c .before .from-asked .ensures) ∙ not-true _ (c .if4 .taken))))
 
 shared-slice-read-command-fits : tie.Need-shared-slice-read-command-fits
-shared-slice-read-command-fits c = omega (arith, asks-long (c .before .before .before .before .before .before .before .before))
+shared-slice-read-command-fits c =
+    let after-else1 = c .before .before .before .before .before .before .before .before in
+    omega (arith, asks-long (after-else1))
 
 shared-slice-read-command-fits-2 : tie.Need-shared-slice-read-command-fits-2
 shared-slice-read-command-fits-2 c = search needs
@@ -90,13 +97,16 @@ command-fits-requires c κs = search needs
 
 returns-5 : tie.Need-returns-5
 returns-5 c =
-    let w = c .before .before .before .before in
+    let after-else4 = c .before .before .before .before in
+    let w = after-else4 in
     let v = w .before .before .before .before in
     let u = v .before .before in
     sym (ap withoutData (command-wrong _ _ (asks (u .before)) (u .if2 .left) (sums v) (from w) (sym (c .before .command-fits .ensures) ∙ not-true _ (c .if5 .taken))))
 
 shared-slice-read-is-error : tie.Need-shared-slice-read-is-error
-shared-slice-read-is-error c = omega (arith, asks-long (c .before .before .before .before .before .before .before .before .before .before .before .before))
+shared-slice-read-is-error c =
+    let after-else1 = c .before .before .before .before .before .before .before .before .before .before .before .before in
+    omega (arith, asks-long (after-else1))
 
 shared-slice-read-is-error-2 : tie.Need-shared-slice-read-is-error-2
 shared-slice-read-is-error-2 c = search needs
@@ -109,21 +119,21 @@ error-verdict-requires c κs = search needs
 
 returns-6 : tie.Need-returns-6
 unfolding errorReply bare commandByte
-returns-6 c =
-    let t = c .before .before in
+returns-6 c = let t = c .before .before in
     c .error-verdict .ensures _ (sym (t .is-error .ensures) ∙ c .before .if6 .taken) ∙ sym (ap withoutData (reached (t .before .before .before)))
 
 done-verdict-requires : tie.Need-done-verdict-requires
 unfolding errorReply bare commandByte
-done-verdict-requires c κs =
-    let t = c .before in
+done-verdict-requires c κs = let t = c .before in
     let x = t .before .before .before in
     let v = x .before .before .before .before .before .before .before .before in
     let u = v .before .before in
     record { long = asks-long (u .before); heard = u .if2 .left; ordinary = sym (t .is-error .ensures) ∙ c .if6 .left }
 
 returns-7 : tie.Need-returns-7
-returns-7 c = c .done-verdict .ensures ∙ sym (ap withoutData (reached (c .before .before .before .before .before)))
+returns-7 c =
+    let after-else5 = c .before .before .before .before .before in
+    c .done-verdict .ensures ∙ sym (ap withoutData (reached (after-else5)))
 
 pub judge-spec : {M : Type 1} → statement M
 judge-spec =

@@ -15,22 +15,27 @@ use Rattle.fields.proofs.access.read_field.Tie as tie
 
 -- where the call began
 abbrev entry : tie.After-open-field → tie.Start
-entry c = c .before .before .before .before .before .before
+entry c =
+    let start = c .before .before .before .before .before .before in
+    start
 
 -- past the `let` the field is there
 said : (c : tie.After-found) → OpenTo (entry (c .before .before) .args .codes) (arg (entry (c .before .before) .args .request .now) 3) (entry (c .before .before) .args .total) (entry (c .before .before) .args .memory .now) (arg (entry (c .before .before) .args .request .now) 0) (Field (c .found .given .0 .0) (c .found .given .0 .1 .0) (c .found .given .0 .1 .1 .0))
 said c =
+    let after-open-field = c .before .before in
     let a = entry (c .before .before) .args in
-    subst (λ (g : Found). OpenTo (a .codes) (arg (a .request .now) 3) (a .total) (a .memory .now) (arg (a .request .now) 0) g) (c .found .given .1) (c .before .before .open-field .ensures)
+    subst (λ (g : Found). OpenTo (a .codes) (arg (a .request .now) 3) (a .total) (a .memory .now) (arg (a .request .now) 0) g) (c .found .given .1) (after-open-field .open-field .ensures)
 
 shared-slice-read-open-field : tie.Need-shared-slice-read-open-field
 shared-slice-read-open-field c =
-    let s = c .before .before .before .before in
+    let start = c .before .before .before .before in
+    let s = start in
     omega (arith, asked-4A (s .args .request .now) (s .pre .wanted))
 
 shared-slice-read-open-field-2 : tie.Need-shared-slice-read-open-field-2
 shared-slice-read-open-field-2 c =
-    let s = c .before .before .before .before .before in
+    let start = c .before .before .before .before .before in
+    let s = start in
     omega (arith, asked-4A (s .args .request .now) (s .pre .wanted))
 
 open-field-requires : tie.Need-open-field-requires
@@ -46,26 +51,33 @@ code-requires : tie.Need-code-requires
 code-requires c κs = search needs
 
 returns : tie.Need-returns
-returns c = λ p s e q.
-    let k = c .before .before .before in
+returns c =
+    let at-match-keys2 = c .before .before in
+    let after-open-field = at-match-keys2 .before in
+    λ p s e q.
+    let k = after-open-field in
     let a = entry k .args in
     rw (c .code .ensures)
-    (works-refuse _ (a .memory .now) (a .room .now) _ (read-refused p s (a .codes) (a .total) (a .memory .now) (a .request .now) e q _ (k .open-field .ensures) (c .before .before .match .keys2)))
+    (works-refuse _ (a .memory .now) (a .room .now) _ (read-refused p s (a .codes) (a .total) (a .memory .now) (a .request .now) e q _ (k .open-field .ensures) (at-match-keys2 .match .keys2)))
 
 shared-slice-read-if1 : tie.Need-shared-slice-read-if1
 shared-slice-read-if1 c =
-    let s = entry (c .before .before .before .before) in
+    let after-open-field = c .before .before .before .before in
+    let s = entry (after-open-field) in
     omega (arith, asked-4A (s .args .request .now) (s .pre .wanted))
 
 returns-2 : tie.Need-returns-2
-returns-2 c = λ p s e q.
-    let f = c .before .before .before in
+returns-2 c =
+    let after-found = c .before .before .before in
+    λ p s e q.
+    let f = after-found in
     let a = entry (f .before .before) .args in
     works-refuse _ (a .memory .now) (a .room .now) _ (read-zero p s (a .codes) (a .total) (a .memory .now) (a .request .now) e q _ _ _ (said f) (c .if1 .taken))
 
 shared-slice-read-if2 : tie.Need-shared-slice-read-if2
 shared-slice-read-if2 c =
-    let s = entry (c .before .before .before .before .before .before) in
+    let after-open-field = c .before .before .before .before .before .before in
+    let s = entry (after-open-field) in
     omega (arith, asked-4A (s .args .request .now) (s .pre .wanted))
 
 returns-3 : tie.Need-returns-3
@@ -77,23 +89,25 @@ returns-3 c = λ p s e q.
 
 sub-read-own : tie.Need-sub-read-own
 sub-read-own c =
-    let l = said (c .before .before .before .before .before) .place in
+    let after-found = c .before .before .before .before .before in
+    let l = said (after-found) .place in
     omega (arith, l .ends)
 
 part-read-own-start : tie.Need-part-read-own-start
 part-read-own-start c =
-    let l = said (c .before .before .before .before .before) .place in
+    let after-found = c .before .before .before .before .before in
+    let l = said (after-found) .place in
     omega (arith, l .ends)
 
 part-read-own-end : tie.Need-part-read-own-end
 part-read-own-end c =
-    let f = c .before .before .before .before .before in
+    let after-found = c .before .before .before .before .before in
+    let f = after-found in
     let l = said f .place in
     omega (arith, l .within, entry (f .before .before) .pre .lent .fit .long)
 
 read-own-requires : tie.Need-read-own-requires
-read-own-requires c κs =
-    let l = c .before .before in
+read-own-requires c κs = let l = c .before .before in
     let s = entry (l .before .before .before .before .before .before .before) in
     record { long = asked-4A (s .args .request .now) (s .pre .wanted); few = l .if2 .left; room = s .pre .lent .room }
 
@@ -101,15 +115,18 @@ same-length : tie.Need-same-length
 same-length c = search needs
 
 returns-4 : tie.Need-returns-4
-returns-4 c = λ p s e q.
-    let l = c .before .before .before .before .before in
+returns-4 c =
+    let after-read-own = c .before .before in
+    let after-else2 = after-read-own .before .before .before in
+    λ p s e q.
+    let l = after-else2 in
     let z = l .before .before in
     let f = z .before .before .before in
     let b = entry (f .before .before) in
     let a = b .args in
-    subst (λ (x : Answer). Works x (a .memory .now) (a .room .now) (c .before .before .read-own .result) (a .memory .now) (c .before .before .read-own .last .1 .1 .0))
+    subst (λ (x : Answer). Works x (a .memory .now) (a .room .now) (after-read-own .read-own .result) (a .memory .now) (after-read-own .read-own .last .1 .1 .0))
     (read-own p s (a .codes) (a .total) (a .memory .now) (a .request .now) e q _ _ _ (said f) (b .pre .lent .fit) (z .if1 .left) (l .if2 .left))
-    (c .before .before .read-own .ensures s (a .memory .now))
+    (after-read-own .read-own .ensures s (a .memory .now))
 
 pub read-field-spec : {M : Type 1} → statement M
 read-field-spec =

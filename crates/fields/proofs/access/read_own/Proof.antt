@@ -22,8 +22,10 @@ add-to : tie.Need-add-to
 add-to c = omega (arith, c .shared-slice-known4 .given 1, c .shared-slice-known4 .given 2)
 
 returns : tie.Need-returns
-returns c = λ s m.
-    let a = c .before .before .before .before .before .before .args in
+returns c =
+    let start = c .before .before .before .before .before .before in
+    λ s m.
+    let a = start .args in
     works-refuse _ m (a .room .now) _ (read-past (a .own .now) (a .request .now) s m (c .if1 .taken))
 
 repeat-three-requires : tie.Need-repeat-three-requires

@@ -16,22 +16,27 @@ use Rattle.fields.proofs.access.store_field.Tie as tie
 
 -- where the call began
 abbrev entry : tie.After-open-field → tie.Start
-entry c = c .before .before .before .before .before .before .before
+entry c =
+    let start = c .before .before .before .before .before .before .before in
+    start
 
 -- past the `let` the field is there
 said : (c : tie.After-found) → OpenTo (entry (c .before .before) .args .codes) (arg (entry (c .before .before) .args .request .now) 3) (entry (c .before .before) .args .total) (entry (c .before .before) .args .memory .now) (arg (entry (c .before .before) .args .request .now) 0) (Field (c .found .given .0 .0) (c .found .given .0 .1 .0) (c .found .given .0 .1 .1 .0))
 said c =
+    let after-open-field = c .before .before in
     let a = entry (c .before .before) .args in
-    subst (λ (g : Found). OpenTo (a .codes) (arg (a .request .now) 3) (a .total) (a .memory .now) (arg (a .request .now) 0) g) (c .found .given .1) (c .before .before .open-field .ensures)
+    subst (λ (g : Found). OpenTo (a .codes) (arg (a .request .now) 3) (a .total) (a .memory .now) (arg (a .request .now) 0) g) (c .found .given .1) (after-open-field .open-field .ensures)
 
 shared-slice-read-open-field : tie.Need-shared-slice-read-open-field
 shared-slice-read-open-field c =
-    let s = c .before .before .before .before .before in
+    let start = c .before .before .before .before .before in
+    let s = start in
     omega (arith, asked-4B (s .args .request .now) (s .pre .wanted))
 
 shared-slice-read-open-field-2 : tie.Need-shared-slice-read-open-field-2
 shared-slice-read-open-field-2 c =
-    let s = c .before .before .before .before .before .before in
+    let start = c .before .before .before .before .before .before in
+    let s = start in
     omega (arith, asked-4B (s .args .request .now) (s .pre .wanted))
 
 open-field-requires : tie.Need-open-field-requires
@@ -50,11 +55,14 @@ same-length : tie.Need-same-length
 same-length c = search needs
 
 returns : tie.Need-returns
-returns c = λ p s e q.
-    let k = c .before .before .before in
+returns c =
+    let at-match-keys2 = c .before .before in
+    let after-open-field = at-match-keys2 .before in
+    λ p s e q.
+    let k = after-open-field in
     let a = entry k .args in
     rw (c .code .ensures)
-    (works-refuse _ (a .memory .now) (a .room .now) _ (store-refused p s (a .codes) (a .total) (a .memory .now) (a .request .now) e q _ (k .open-field .ensures) (c .before .before .match .keys2)))
+    (works-refuse _ (a .memory .now) (a .room .now) _ (store-refused p s (a .codes) (a .total) (a .memory .now) (a .request .now) e q _ (k .open-field .ensures) (at-match-keys2 .match .keys2)))
 
 is-writable-requires : tie.Need-is-writable-requires
 is-writable-requires c κs = search needs
@@ -63,31 +71,37 @@ same-length-2 : tie.Need-same-length-2
 same-length-2 c = search needs
 
 returns-2 : tie.Need-returns-2
-returns-2 c = λ p s e q.
-    let f = c .before .before .before in
+returns-2 c =
+    let after-found = c .before .before .before in
+    λ p s e q.
+    let f = after-found in
     let a = entry (f .before .before) .args in
     works-refuse _ (a .memory .now) (a .room .now) _
     (store-locked p s (a .codes) (a .total) (a .memory .now) (a .request .now) e q _ _ _ (said f) (sym (c .before .is-writable .ensures) ∙ not-true _ (c .if1 .taken)))
 
 sub-store-own : tie.Need-sub-store-own
 sub-store-own c =
-    let l = said (c .before .before .before) .place in
+    let after-found = c .before .before .before in
+    let l = said (after-found) .place in
     omega (arith, l .ends)
 
 part-store-own-start : tie.Need-part-store-own-start
 part-store-own-start c =
-    let l = said (c .before .before .before) .place in
+    let after-found = c .before .before .before in
+    let l = said (after-found) .place in
     omega (arith, l .ends)
 
 part-store-own-end : tie.Need-part-store-own-end
 part-store-own-end c =
-    let f = c .before .before .before in
+    let after-found = c .before .before .before in
+    let f = after-found in
     let l = said f .place in
     omega (arith, l .within, entry (f .before .before) .pre .lent .fit .long)
 
 store-own-requires : tie.Need-store-own-requires
 store-own-requires c κs =
-    let s = entry (c .before .before .before .before .before .before .before) in
+    let after-open-field = c .before .before .before .before .before .before .before in
+    let s = entry (after-open-field) in
     let k = asked-4B (s .args .request .now) (s .pre .wanted) in
     record { long = k .2; some = k .0; room = s .pre .lent .room }
 
@@ -98,8 +112,10 @@ same-length-4 : tie.Need-same-length-4
 same-length-4 c = search needs
 
 returns-3 : tie.Need-returns-3
-returns-3 c = λ p s e q.
-    let y = c .before .before .before .before in
+returns-3 c =
+    let after-store-own = c .before .before .before .before in
+    λ p s e q.
+    let y = after-store-own in
     let l = y .before .before .before in
     let f = l .before .before .before in
     let b = entry (f .before .before) in

@@ -23,8 +23,10 @@ add-if1 : tie.Need-add-if1
 add-if1 c = omega (arith, c .before .shared-slice-known2 .given 1, c .shared-slice-known3 .given 2)
 
 returns : tie.Need-returns
-returns c = λ s.
-    let a = c .before .before .before .before .before .before .args in
+returns c =
+    let start = c .before .before .before .before .before .before in
+    λ s.
+    let a = start .args in
     works-refuse _ (a .own .now) (a .room .now) _ (store-past (a .own .now) (a .request .now) s (a .own .now) (c .if1 .taken))
 
 sub-fill : tie.Need-sub-fill
@@ -58,12 +60,15 @@ same-length-2 : tie.Need-same-length-2
 same-length-2 c = search needs
 
 returns-2 : tie.Need-returns-2
-returns-2 c = λ s.
-    let f = c .before .before .before .before .before .before in
+returns-2 c =
+    let after-repeat-three = c .before .before in
+    let after-fill = after-repeat-three .before .before .before .before in
+    λ s.
+    let f = after-fill in
     let e = f .before .before .before in
     let a = e .before .before .before .before .before .before .args in
     rw (store-told (a .own .now) (a .request .now) _ (omega arith) (e .if1 .left) (f .fill .ensures))
-    (works-accept _ (a .own .now) (a .room .now) _ s _ _ _ (store-within (a .own .now) (a .request .now) s (a .own .now) (e .if1 .left)) (record { answer = refl; room = c .before .before .repeat-three .ensures }))
+    (works-accept _ (a .own .now) (a .room .now) _ s _ _ _ (store-within (a .own .now) (a .request .now) s (a .own .now) (e .if1 .left)) (record { answer = refl; room = after-repeat-three .repeat-three .ensures }))
 
 pub store-own-spec : {M : Type 1} → statement M
 store-own-spec =

@@ -55,7 +55,8 @@ same-length c = search needs
 
 returns : tie.Need-returns
 returns c =
-    let k = c .before .before .before in
+    let after-clear = c .before .before .before in
+    let k = after-clear in
     let t = k .before .before in
     let g = t .before .before in
     let b = g .before in

@@ -27,7 +27,8 @@ charged-requires c κs =
 
 returns : tie.Need-returns
 returns c =
-    let a = c .before .before .args in
+    let start = c .before .before in
+    let a = start .args in
     let change : ℤ = pos (a .new) -ℤ pos (a .old) in
     let left : c .charged .result ≡ pos (a .free) -ℤ change = c .charged .ensures ∙ ap (λ (z : ℤ). pos (a .free) -ℤ z) (change-is (c .before)) in
     let fits = small-fits (a .free) change (omega arith) (small-mag (a .new) (a .old) (omega arith) (omega arith)) in

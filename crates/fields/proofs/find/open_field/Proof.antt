@@ -10,8 +10,7 @@ use Rattle.fields.proofs.find.open_field.Tie as tie
 
 -- past the `let` the field is there
 said : (c : tie.After-found) → FoundIn (c .before .before .before .before .args .total) (c .before .before .before .before .args .memory .now) (c .before .before .before .before .args .field) (Field (c .found .given .0 .0) (c .found .given .0 .1 .0) (c .found .given .0 .1 .1 .0))
-said c =
-    let k = c .before .before in
+said c = let k = c .before .before in
     let a = k .before .before .args in
     subst (λ (g : Found). FoundIn (a .total) (a .memory .now) (a .field) g) (c .found .given .1) (k .find-field .ensures)
 
@@ -25,16 +24,22 @@ enum-told : tie.Need-enum-told
 enum-told c = search needs
 
 returns : tie.Need-returns
-returns c = open-refused _ _ _ _ _ _ (c .before .before .find-field .ensures) (c .before .match .keys2)
+returns c =
+    let after-find-field = c .before .before in
+    open-refused _ _ _ _ _ _ (after-find-field .find-field .ensures) (c .before .match .keys2)
 
 is-barred-requires : tie.Need-is-barred-requires
 is-barred-requires c κs = search needs
 
 returns-2 : tie.Need-returns-2
-returns-2 c = open-barred _ _ _ _ _ _ _ _ (said (c .before .before .before)) (λ s e. sym (c .if1 .taken) ∙ c .before .is-barred .ensures s e)
+returns-2 c =
+    let after-found = c .before .before .before in
+    open-barred _ _ _ _ _ _ _ _ (said (after-found)) (λ s e. sym (c .if1 .taken) ∙ c .before .is-barred .ensures s e)
 
 returns-3 : tie.Need-returns-3
-returns-3 c = open-there _ _ _ _ _ _ _ _ (said (c .before .before .before)) (λ s e. sym (c .if1 .left) ∙ c .before .is-barred .ensures s e)
+returns-3 c =
+    let after-found = c .before .before .before in
+    open-there _ _ _ _ _ _ _ _ (said (after-found)) (λ s e. sym (c .if1 .left) ∙ c .before .is-barred .ensures s e)
 
 pub open-field-spec : {M : Type 1} → statement M
 open-field-spec =

@@ -30,7 +30,8 @@ same-length c = search needs
 
 returns : tie.Need-returns
 returns c =
-    let a = c .before .before .before .args in
+    let start = c .before .before .before in
+    let a = start .args in
     stored-is-put (a .room .now) 2 (named (a .request .now)) (omega arith)
 
 pub repeat-three-spec : {M : Type 1} → statement M

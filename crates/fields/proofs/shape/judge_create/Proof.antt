@@ -10,8 +10,10 @@ is-wrong-code-requires : tie.Need-is-wrong-code-requires
 is-wrong-code-requires c κs = search needs
 
 returns : tie.Need-returns
-returns c = λ f sits at.
-    let a = c .before .before .args in
+returns c =
+    let start = c .before .before in
+    λ f sits at.
+    let a = start .args in
     create-barred (a .codes) (a .total) f (surveyOf (a .seen)) (a .code) (a .new) (λ s e. sym (c .if1 .taken) ∙ c .before .is-wrong-code .ensures s e)
 
 blocks-in-requires : tie.Need-blocks-in-requires

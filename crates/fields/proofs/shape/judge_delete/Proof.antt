@@ -10,8 +10,10 @@ is-wrong-code-requires : tie.Need-is-wrong-code-requires
 is-wrong-code-requires c κs = search needs
 
 returns : tie.Need-returns
-returns c = λ t gone sits there.
-    let a = c .before .before .args in
+returns c =
+    let start = c .before .before in
+    λ t gone sits there.
+    let a = start .args in
     delete-barred (a .codes) t (a .field) (surveyOf (a .seen)) (a .code) gone (λ s e. sym (c .if1 .taken) ∙ c .before .is-wrong-code .ensures s e)
 
 add-if2 : tie.Need-add-if2
@@ -27,8 +29,10 @@ blocks-in-requires : tie.Need-blocks-in-requires
 blocks-in-requires c κs = search needs
 
 returns-3 : tie.Need-returns-3
-returns-3 c = λ t gone sits there.
-    let l = c .before .before .before in
+returns-3 c =
+    let after-else1 = c .before .before .before in
+    λ t gone sits there.
+    let l = after-else1 in
     let a = l .before .before .args in
     delete-granted (a .codes) t (a .field) (surveyOf (a .seen)) (a .code) gone (λ s e. sym (l .if1 .left) ∙ l .before .is-wrong-code .ensures s e) (c .before .if2 .left) _ (c .blocks-in .ensures) sits
 

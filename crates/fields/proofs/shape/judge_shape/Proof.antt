@@ -13,7 +13,9 @@ use Rattle.fields.proofs.shape.judge_shape.Tie as tie
 
 -- where the call began
 abbrev entry : tie.Else1 → tie.Start
-entry c = c .before .before .before .before .before .before
+entry c =
+    let start = c .before .before .before .before .before .before in
+    start
 
 -- past the first test the table is sound
 sound-at : (c : tie.Else1) → entry c .args .seen .sound ≡ true
@@ -33,7 +35,8 @@ shared-slice-read-code c = search needs
 
 returns : tie.Need-returns
 returns c =
-    let a = c .before .before .before .before .before .before .args in
+    let start = c .before .before .before .before .before .before in
+    let a = start .args in
     shape-unsound (a .codes) (a .total) (surveyOf (a .seen)) (a .request .now) (not-true _ (c .if1 .taken))
 
 has-field-requires : tie.Need-has-field-requires
@@ -43,8 +46,7 @@ judge-create-requires : tie.Need-judge-create-requires
 judge-create-requires c κs = search needs
 
 returns-2 : tie.Need-returns-2
-returns-2 c =
-    let n = c .before in
+returns-2 c = let n = c .before in
     let k = n .before .before in
     let l = k .before .before in
     let s = entry l in
@@ -55,7 +57,8 @@ returns-2 c =
 
 returns-3 : tie.Need-returns-3
 returns-3 c =
-    let k = c .before .before .before .before in
+    let after-2 = c .before .before .before .before in
+    let k = after-2 in
     let l = k .before .before in
     let a = entry l .args in
     shape-past (a .codes) (a .total) (surveyOf (a .seen)) (a .request .now) (sound-at l) (sym (k .before .has-field .ensures) ∙ k .if2 .taken) (c .if4 .taken)
@@ -64,8 +67,7 @@ judge-modify-requires : tie.Need-judge-modify-requires
 judge-modify-requires c κs = search needs
 
 returns-4 : tie.Need-returns-4
-returns-4 c =
-    let m = c .before in
+returns-4 c = let m = c .before in
     let n = m .before .before in
     let k = n .before .before in
     let l = k .before .before in
@@ -78,8 +80,7 @@ returns-4 c =
     (c .judge-modify .ensures (a .total) (s .pre .sits (sound-at l)) there)
 
 returns-5 : tie.Need-returns-5
-returns-5 c =
-    let k = c .before .before in
+returns-5 c = let k = c .before .before in
     let l = k .before .before in
     let a = entry l .args in
     shape-none (a .codes) (a .total) (surveyOf (a .seen)) (a .request .now) (sound-at l) (sym (k .before .has-field .ensures) ∙ k .if2 .left) (c .if5 .taken)
@@ -88,8 +89,7 @@ judge-delete-requires : tie.Need-judge-delete-requires
 judge-delete-requires c κs = search needs
 
 returns-6 : tie.Need-returns-6
-returns-6 c =
-    let n = c .before in
+returns-6 c = let n = c .before in
     let k = n .before .before in
     let l = k .before .before in
     let s = entry l in

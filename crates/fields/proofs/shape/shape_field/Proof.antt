@@ -15,18 +15,20 @@ use Rattle.fields.proofs.shape.shape_field.Tie as tie
 
 -- where the call began
 abbrev entry : tie.After-judge-shape → tie.Start
-entry c = c .before .before .before .before .before .before .before
+entry c =
+    let start = c .before .before .before .before .before .before .before in
+    start
 
 -- past the `let` the change is granted
 said : (c : tie.After-grant) → Shapes (entry (c .before .before) .args .codes) (entry (c .before .before) .args .total) (surveyOf (c .before .before .before .survey .result)) (entry (c .before .before) .args .request .now) (Granted (c .grant .given .0 .0))
-said c =
-    let k = c .before .before in
+said c = let k = c .before .before in
     let a = entry k .args in
     subst (λ (g : Grant). Shapes (a .codes) (a .total) (surveyOf (k .before .survey .result)) (a .request .now) g) (c .grant .given .1) (k .judge-shape .ensures)
 
 shared-slice-read-field : tie.Need-shared-slice-read-field
 shared-slice-read-field c =
-    let s = c .before .before .before .before in
+    let start = c .before .before .before .before in
+    let s = start in
     omega (arith, asked-4D (s .args .request .now) (s .pre .wanted))
 
 survey-requires : tie.Need-survey-requires
@@ -34,7 +36,8 @@ survey-requires c κs = search needs
 
 judge-shape-requires : tie.Need-judge-shape-requires
 judge-shape-requires c κs =
-    let b = c .before .before .before .before .before .before in
+    let start = c .before .before .before .before .before .before in
+    let b = start in
     let a = b .args in
     let d = a .request .now in
     let v = surveyOf (c .survey .result) in
@@ -58,22 +61,25 @@ same-length : tie.Need-same-length
 same-length c = search needs
 
 returns : tie.Need-returns
-returns c = λ p s e q.
-    let k = c .before .before .before in
+returns c =
+    let at-match-keys2 = c .before .before in
+    let after-judge-shape = at-match-keys2 .before in
+    λ p s e q.
+    let k = after-judge-shape in
     let a = entry k .args in
     let d = a .request .now in
     rw (c .code .ensures)
     (works-refuse _ (a .memory .now) (a .room .now) _
-    (k .judge-shape .ensures .answer p s (a .memory .now) e q (k .before .survey .ensures) ∙ not-granted (k .judge-shape .result) (c .before .before .match .keys2) (a .total) s (a .memory .now) (arg d 0) (arg d 1)))
+    (k .judge-shape .ensures .answer p s (a .memory .now) e q (k .before .survey .ensures) ∙ not-granted (k .judge-shape .result) (at-match-keys2 .match .keys2) (a .total) s (a .memory .now) (arg d 0) (arg d 1)))
 
 apply-requires : tie.Need-apply-requires
-apply-requires c κs =
-    let g = c .before .before in
+apply-requires c κs = let g = c .before .before in
     record { fit = entry (g .before .before) .pre .lent .fit; room = said g .place }
 
 shared-slice-read-reply-two : tie.Need-shared-slice-read-reply-two
 shared-slice-read-reply-two c =
-    let b = entry (c .before .before .before .before .before .before .before .before) in
+    let after-judge-shape = c .before .before .before .before .before .before .before .before in
+    let b = entry (after-judge-shape) in
     omega (arith, asked-4D (b .args .request .now) (b .pre .wanted))
 
 reply-two-requires : tie.Need-reply-two-requires
@@ -86,13 +92,16 @@ same-length-3 : tie.Need-same-length-3
 same-length-3 c = search needs
 
 returns-2 : tie.Need-returns-2
-returns-2 c = λ p s e q.
-    let y = c .before .before .before .before .before .before .before in
+returns-2 c =
+    let after-reply-two = c .before .before in
+    let after-apply = after-reply-two .before .before .before .before .before in
+    λ p s e q.
+    let y = after-apply in
     let g = y .before .before .before in
     let k = g .before .before in
     let a = entry k .args in
     rw (y .apply .ensures)
-    (works-accept _ (a .memory .now) (a .room .now) _ s _ _ _ (said g .answer p s (a .memory .now) e q (k .before .survey .ensures)) (c .before .before .reply-two .ensures))
+    (works-accept _ (a .memory .now) (a .room .now) _ s _ _ _ (said g .answer p s (a .memory .now) e q (k .before .survey .ensures)) (after-reply-two .reply-two .ensures))
 
 pub shape-field-spec : {M : Type 1} → statement M
 shape-field-spec =

@@ -15,7 +15,9 @@ is-wrong-code-requires : tie.Need-is-wrong-code-requires
 is-wrong-code-requires c κs = search needs
 
 returns-2 : tie.Need-returns-2
-returns-2 c = λ s e. rw (sym (c .before .before .wants-code .ensures) ∙ not-false _ (c .before .if1 .left)) (c .is-wrong-code .ensures s e)
+returns-2 c =
+    let after-wants-code = c .before .before in
+    λ s e. rw (sym (after-wants-code .wants-code .ensures) ∙ not-false _ (c .before .if1 .left)) (c .is-wrong-code .ensures s e)
 
 pub is-barred-spec : {M : Type 1} → statement M
 is-barred-spec = tie.close (tie.spec wants-code-requires returns is-wrong-code-requires returns-2)

@@ -28,7 +28,8 @@ has-field-requires c κs = search needs
 
 returns : tie.Need-returns Inv-loop μ-loop
 returns c =
-    let at = c .before .before .before .before in
+    let at-loop = c .before .before .before .before in
+    let at = at-loop in
     let l = at .before .before .args .statuses .now in
     let e = sym (c .before .has-field .ensures) ∙ not-true _ (c .if1 .taken) in
     record {
@@ -43,7 +44,9 @@ cast-blocks : tie.Need-cast-blocks Inv-loop μ-loop
 cast-blocks c = search needs
 
 add-blocks : tie.Need-add-blocks Inv-loop μ-loop
-add-blocks c = let at = c .before .before .before .before .before in omega (arith, c .blocks-in .ensures, blocks-most (getD (at .before .before .args .statuses .now) (at .loop .fields) 0))
+add-blocks c =
+    let at-loop = c .before .before .before .before .before in
+    let at = at-loop in omega (arith, c .blocks-in .ensures, blocks-most (getD (at .before .before .args .statuses .now) (at .loop .fields) 0))
 
 add-fields : tie.Need-add-fields Inv-loop μ-loop
 add-fields c = omega arith
@@ -53,14 +56,15 @@ loop-less c = omega arith
 
 loop-again : tie.Need-loop-again Inv-loop μ-loop
 loop-again c =
-    let at = c .before .before .before .before .before in
+    let after-has-field = c .before .before in
+    let at-loop = after-has-field .before .before .before in
+    let at = at-loop in
     let l = at .before .before .args .statuses .now in
-    let e = sym (c .before .before .has-field .ensures) ∙ not-false _ (c .before .if1 .left) in
+    let e = sym (after-has-field .has-field .ensures) ∙ not-false _ (c .before .if1 .left) in
     omega (arith, count-more l (at .loop .fields) (omega arith) e, used-more l (at .loop .fields) (omega arith) e, c .blocks-in .ensures, blocks-most (getD l (at .loop .fields) 0))
 
 returns-2 : tie.Need-returns-2 Inv-loop μ-loop
-returns-2 c =
-    let at = c .before in
+returns-2 c = let at = c .before in
     let l = at .before .before .args .statuses .now in
     record {
       fields = omega (arith, count-end l (at .loop .fields) (omega arith));

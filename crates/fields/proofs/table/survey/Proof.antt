@@ -20,8 +20,10 @@ walk-requires c κs = record { few = search needs; long = simp (c .past .ensures
 returns : tie.Need-returns
 unfolding table
 returns c =
-    let a = c .before .before .before .before .args in
-    c .walk .ensures (a .memory .now) (ap (λ (k : ℕ). drop k (a .memory .now)) (sym (c .before .before .bytes-of .ensures)) ∙ sym (c .before .past .ensures))
+    let after-bytes-of = c .before .before in
+    let start = after-bytes-of .before .before in
+    let a = start .args in
+    c .walk .ensures (a .memory .now) (ap (λ (k : ℕ). drop k (a .memory .now)) (sym (after-bytes-of .bytes-of .ensures)) ∙ sym (c .before .past .ensures))
 
 pub survey-spec : {M : Type 1} → statement M
 survey-spec = tie.close (tie.spec bytes-of-requires past-requires walk-requires returns)

@@ -20,15 +20,13 @@ used-before c = c .count-fields .ensures .blocks ∙ ap used (c .before .front .
 
 -- and in all
 all-fields : (c : tie.After-count-fields2) → c .before .before .count-fields .result .fields + c .count-fields2 .result .fields ≡ fieldCount (c .before .before .before .before .before .args .statuses .now)
-all-fields c =
-    let b = c .before .before in
+all-fields c = let b = c .before .before in
     let a = b .before .before .before .args in
     walk-fields (a .statuses .now) (a .field) _ _ _ _ (fields-before b) (used-before b)
     (c .count-fields2 .ensures .fields ∙ ap fieldCount (c .before .past .ensures)) (c .count-fields2 .ensures .blocks ∙ ap used (c .before .past .ensures))
 
 all-used : (c : tie.After-count-fields2) → c .before .before .count-fields .result .blocks + c .count-fields2 .result .blocks ≡ used (c .before .before .before .before .before .args .statuses .now)
-all-used c =
-    let b = c .before .before in
+all-used c = let b = c .before .before in
     let a = b .before .before .before .args in
     walk-used (a .statuses .now) (a .field) _ _ _ _ (fields-before b) (used-before b)
     (c .count-fields2 .ensures .fields ∙ ap fieldCount (c .before .past .ensures)) (c .count-fields2 .ensures .blocks ∙ ap used (c .before .past .ensures))
@@ -41,7 +39,8 @@ count-fields-requires c κs = simp (c .front .ensures, length-take) (omega arith
 
 past-requires : tie.Need-past-requires
 past-requires c κs =
-    let s = c .before .before .before in
+    let start = c .before .before .before in
+    let s = start in
     let l = s .args .statuses .now in
     omega (arith, fields-before c, count-le (take (s .args .field) l), length-take (s .args .field) l)
 
@@ -49,20 +48,21 @@ count-fields-requires-2 : tie.Need-count-fields-requires-2
 count-fields-requires-2 c κs = simp (c .past .ensures, length-drop) (omega arith)
 
 add-fields : tie.Need-add-fields
-add-fields c =
-    let k = c .before .before in
+add-fields c = let k = c .before .before in
     let a = all-fields k in
     omega (arith, count-le (k .before .before .before .before .before .args .statuses .now))
 
 add-used : tie.Need-add-used
 add-used c =
-    let k = c .before .before .before .before in
+    let after-count-fields2 = c .before .before .before .before in
+    let k = after-count-fields2 in
     let a = all-used k in
     omega (arith, used-le (k .before .before .before .before .before .args .statuses .now))
 
 past-requires-2 : tie.Need-past-requires-2
 past-requires-2 c κs =
-    let k = c .before .before .before .before in
+    let after-count-fields2 = c .before .before .before .before in
+    let k = after-count-fields2 in
     let a = all-fields k in
     omega (arith, count-le (k .before .before .before .before .before .args .statuses .now))
 
@@ -77,13 +77,16 @@ byte-at-requires c κs = search needs
 
 returns : tie.Need-returns
 unfolding statusAt
-returns c = λ m e.
-    let p = c .before .before .before in
+returns c =
+    let after-is-blank = c .before .before in
+    let after-past2 = after-is-blank .before in
+    λ m e.
+    let p = after-past2 in
     let k = p .before .before .before .before .before in
     let b = k .before .before in
     let a = b .before .before .before .args in
-    survey-is (a .total) (a .field) m (a .statuses .now) e _ (c .before .before .is-blank .result) _ _ _ _ _
-    (all-fields k) (all-used k) (c .before .before .is-blank .ensures ∙ ap blank (p .past2 .ensures)) refl
+    survey-is (a .total) (a .field) m (a .statuses .now) e _ (after-is-blank .is-blank .result) _ _ _ _ _
+    (all-fields k) (all-used k) (after-is-blank .is-blank .ensures ∙ ap blank (p .past2 .ensures)) refl
     (c .before .less .ensures) (used-before b) (c .byte-at .ensures)
 
 pub walk-spec : {M : Type 1} → statement M

@@ -12,14 +12,14 @@ use Rattle.fields.proofs.tell.field_status.Tie as tie
 
 -- past the `let` the field is there
 said : (c : tie.After-found) → FoundIn (c .before .before .before .before .before .before .before .args .total) (c .before .before .before .before .before .before .before .args .memory .now) (arg (c .before .before .before .before .before .before .before .args .request .now) 0) (Field (c .found .given .0 .0) (c .found .given .0 .1 .0) (c .found .given .0 .1 .1 .0))
-said c =
-    let k = c .before .before in
+said c = let k = c .before .before in
     let a = k .before .before .before .before .before .args in
     subst (λ (g : Found). FoundIn (a .total) (a .memory .now) (arg (a .request .now) 0) g) (c .found .given .1) (k .find-field .ensures)
 
 shared-slice-read-field : tie.Need-shared-slice-read-field
 shared-slice-read-field c =
-    let s = c .before .before .before .before in
+    let start = c .before .before .before .before in
+    let s = start in
     omega (arith, asked-4C (s .args .request .now) (s .pre .wanted))
 
 find-field-requires : tie.Need-find-field-requires
@@ -35,10 +35,13 @@ code-requires : tie.Need-code-requires
 code-requires c κs = search needs
 
 returns : tie.Need-returns
-returns c = λ p s e.
-    let k = c .before .before .before in
+returns c =
+    let at-match-keys2 = c .before .before in
+    let after-find-field = at-match-keys2 .before in
+    λ p s e.
+    let k = after-find-field in
     let a = k .before .before .before .before .before .args in
-    rw (c .code .ensures) (works-refuse _ (a .memory .now) (a .room .now) _ (status-refused p s (a .total) (a .memory .now) (a .request .now) e _ (k .find-field .ensures) (c .before .before .match .keys2)))
+    rw (c .code .ensures) (works-refuse _ (a .memory .now) (a .room .now) _ (status-refused p s (a .total) (a .memory .now) (a .request .now) e _ (k .find-field .ensures) (at-match-keys2 .match .keys2)))
 
 reply-two-requires : tie.Need-reply-two-requires
 reply-two-requires c κs = search needs
@@ -47,10 +50,13 @@ same-length : tie.Need-same-length
 same-length c = search needs
 
 returns-2 : tie.Need-returns-2
-returns-2 c = λ p s e.
-    let k = c .before .before .before .before .before in
+returns-2 c =
+    let after-reply-two = c .before .before in
+    let after-found = after-reply-two .before .before .before in
+    λ p s e.
+    let k = after-found in
     let a = k .before .before .before .before .before .before .before .args in
-    works-accept _ (a .memory .now) (a .room .now) _ s (a .memory .now) _ _ (status-told p s (a .total) (a .memory .now) (a .request .now) e _ _ _ (said k)) (c .before .before .reply-two .ensures)
+    works-accept _ (a .memory .now) (a .room .now) _ s (a .memory .now) _ _ (status-told p s (a .total) (a .memory .now) (a .request .now) e _ _ _ (said k)) (after-reply-two .reply-two .ensures)
 
 pub field-status-spec : {M : Type 1} → statement M
 field-status-spec =

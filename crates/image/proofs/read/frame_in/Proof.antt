@@ -37,7 +37,11 @@ is-one-requires-3 c κs = search needs
 
 returns : tie.Need-returns
 unfolding frameIn
-returns c = rw (c .before .before .before .before .before .before .before .is-one .ensures, c .before .before .before .before .before .before .number-at .ensures, c .before .before .is-one2 .ensures, c .is-one3 .ensures)
+returns c =
+    let after-is-one2 = c .before .before in
+    let after-number-at = after-is-one2 .before .before .before .before in
+    let after-is-one = after-number-at .before in
+    rw (after-is-one .is-one .ensures, after-number-at .number-at .ensures, after-is-one2 .is-one2 .ensures, c .is-one3 .ensures)
 
 pub frame-in-spec : {M : Type 1} → statement M
 frame-in-spec =

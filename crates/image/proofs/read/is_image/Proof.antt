@@ -18,7 +18,9 @@ flags-ok-requires c κs = search needs
 
 returns-2 : tie.Need-returns-2
 unfolding isImage
-returns-2 c = simp (eq-eqb _ _ (c .before .before .if1 .left), sym (c .before .flags-ok .ensures) ∙ not-true _ (c .if2 .taken))
+returns-2 c =
+    let after-else1 = c .before .before in
+    simp (eq-eqb _ _ (after-else1 .if1 .left), sym (c .before .flags-ok .ensures) ∙ not-true _ (c .if2 .taken))
 
 cast-if3 : tie.Need-cast-if3
 cast-if3 c = search needs
@@ -28,11 +30,19 @@ shared-slice-read-if3 c = search needs
 
 returns-3 : tie.Need-returns-3
 unfolding isImage
-returns-3 c = simp (eq-eqb _ _ (c .before .before .before .before .if1 .left), sym (c .before .before .before .flags-ok .ensures) ∙ not-false _ (c .before .before .if2 .left), lt-leb _ _ (c .if3 .taken))
+returns-3 c =
+    let after-else2 = c .before .before in
+    let after-flags-ok = after-else2 .before in
+    let after-else1 = after-flags-ok .before in
+    simp (eq-eqb _ _ (after-else1 .if1 .left), sym (after-flags-ok .flags-ok .ensures) ∙ not-false _ (after-else2 .if2 .left), lt-leb _ _ (c .if3 .taken))
 
 returns-4 : tie.Need-returns-4
 unfolding isImage
-returns-4 c = simp (eq-eqb _ _ (c .before .before .before .before .if1 .left), sym (c .before .before .before .flags-ok .ensures) ∙ not-false _ (c .before .before .if2 .left), le-leb _ _ (c .if3 .left))
+returns-4 c =
+    let after-else2 = c .before .before in
+    let after-flags-ok = after-else2 .before in
+    let after-else1 = after-flags-ok .before in
+    simp (eq-eqb _ _ (after-else1 .if1 .left), sym (after-flags-ok .flags-ok .ensures) ∙ not-false _ (after-else2 .if2 .left), le-leb _ _ (c .if3 .left))
 
 pub is-image-spec : {M : Type 1} → statement M
 is-image-spec =

@@ -67,7 +67,10 @@ number-at-requires-3 c κs = search needs
 
 returns : tie.Need-returns
 unfolding stateIn
-returns c = rw (c .before .before .before .is-one .ensures, c .before .before .number-at .ensures, c .before .number-at2 .ensures, c .number-at3 .ensures)
+returns c =
+    let after-number-at = c .before .before in
+    let after-is-one = after-number-at .before in
+    rw (after-is-one .is-one .ensures, after-number-at .number-at .ensures, c .before .number-at2 .ensures, c .number-at3 .ensures)
 
 pub state-in-spec : {M : Type 1} → statement M
 state-in-spec =

@@ -23,7 +23,9 @@ part-with-character-end : tie.Need-part-with-character-end
 part-with-character-end c = search needs
 
 with-character-requires : tie.Need-with-character-requires
-with-character-requires c κs = nothing-fits (now (c .before .before .before .args .image)) (c .before .before .before .pre) (c .before .none .ensures)
+with-character-requires c κs =
+    let start = c .before .before .before in
+    nothing-fits (now (start .args .image)) (start .pre) (c .before .none .ensures)
 
 put-frame-requires : tie.Need-put-frame-requires
 put-frame-requires c κs = search needs
@@ -32,7 +34,12 @@ same-length : tie.Need-same-length
 same-length c = search needs
 
 returns : tie.Need-returns
-returns c = begins (now (c .before .before .before .before .before .before .before .before .before .before .args .image)) _ _ _ (c .before .before .before .before .before .before .before .before .before .before .pre) (c .before .before .before .before .before .before .before .before .none .ensures) (c .before .before .before .before .before .before .with-character .ensures) (c .before .before .put-frame .ensures)
+returns c =
+    let after-put-frame = c .before .before in
+    let after-with-character = after-put-frame .before .before .before .before in
+    let after-none = after-with-character .before .before in
+    let start = after-none .before .before in
+    begins (now (start .args .image)) _ _ _ (start .pre) (after-none .none .ensures) (after-with-character .with-character .ensures) (after-put-frame .put-frame .ensures)
 
 pub begin-spec : {M : Type 1} → statement M
 begin-spec =

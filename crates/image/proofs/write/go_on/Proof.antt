@@ -20,16 +20,22 @@ slice-read-count : tie.Need-slice-read-count
 slice-read-count c = omega (arith, long (c .before .before))
 
 slice-read-sum : tie.Need-slice-read-sum
-slice-read-sum c = omega (arith, long (c .before .before .before))
+slice-read-sum c =
+    let start = c .before .before .before in
+    omega (arith, long (start))
 
 slice-read-faulty : tie.Need-slice-read-faulty
-slice-read-faulty c = omega (arith, long (c .before .before .before .before))
+slice-read-faulty c =
+    let start = c .before .before .before .before in
+    omega (arith, long (start))
 
 flag-byte-requires : tie.Need-flag-byte-requires
 flag-byte-requires c κs = search needs
 
 put-stamp-requires : tie.Need-put-stamp-requires
-put-stamp-requires c κs = long (c .before .before .before .before .before .before)
+put-stamp-requires c κs =
+    let start = c .before .before .before .before .before .before in
+    long (start)
 
 cast-if1 : tie.Need-cast-if1
 cast-if1 c = search needs
@@ -41,28 +47,48 @@ add-at : tie.Need-add-at
 add-at c = search needs
 
 slice-write-image : tie.Need-slice-write-image
-slice-write-image c = omega (arith, c .if1 .taken, stamped-length (now (c .before .before .before .before .before .before .before .before .before .before .args .image)) (c .before .before .before .before .before .before .before .before .before .before .pre) _ _ _ (search needs) (c .before .before .before .before .before .flag-byte .ensures) (c .before .before .before .put-stamp .ensures))
+slice-write-image c =
+    let after-put-stamp = c .before .before .before in
+    let after-flag-byte = after-put-stamp .before .before in
+    let start = after-flag-byte .before .before .before .before .before in
+    omega (arith, c .if1 .taken, stamped-length (now (start .args .image)) (start .pre) _ _ _ (search needs) (after-flag-byte .flag-byte .ensures) (after-put-stamp .put-stamp .ensures))
 
 add-image : tie.Need-add-image
 add-image c = search needs
 
 slice-write-image-2 : tie.Need-slice-write-image-2
-slice-write-image-2 c = simp length-set (omega (arith, stamped-length (now (c .before .before .before .before .before .before .before .before .before .before .args .image)) (c .before .before .before .before .before .before .before .before .before .before .pre) _ _ _ (search needs) (c .before .before .before .before .before .flag-byte .ensures) (c .before .before .before .put-stamp .ensures)))
+slice-write-image-2 c =
+    let after-put-stamp = c .before .before .before in
+    let after-flag-byte = after-put-stamp .before .before in
+    let start = after-flag-byte .before .before .before .before .before in
+    simp length-set (omega (arith, stamped-length (now (start .args .image)) (start .pre) _ _ _ (search needs) (after-flag-byte .flag-byte .ensures) (after-put-stamp .put-stamp .ensures)))
 
 same-length : tie.Need-same-length
 same-length c = search needs
 
 returns : tie.Need-returns
-returns c = goes-on (now (c .before .before .before .before .before .before .before .before .before .before .args .image)) (c .before .before .before .before .before .before .before .before .before .before .pre) _ _ _ (search needs) (c .before .before .before .before .before .flag-byte .ensures) (c .before .before .before .put-stamp .ensures) (c .if1 .taken)
+returns c =
+    let after-put-stamp = c .before .before .before in
+    let after-flag-byte = after-put-stamp .before .before in
+    let start = after-flag-byte .before .before .before .before .before in
+    goes-on (now (start .args .image)) (start .pre) _ _ _ (search needs) (after-flag-byte .flag-byte .ensures) (after-put-stamp .put-stamp .ensures) (c .if1 .taken)
 
 slice-write-image-3 : tie.Need-slice-write-image-3
-slice-write-image-3 c = omega (arith, stamped-length (now (c .before .before .before .before .before .before .before .before .before .before .args .image)) (c .before .before .before .before .before .before .before .before .before .before .pre) _ _ _ (search needs) (c .before .before .before .before .before .flag-byte .ensures) (c .before .before .before .put-stamp .ensures))
+slice-write-image-3 c =
+    let after-put-stamp = c .before .before .before in
+    let after-flag-byte = after-put-stamp .before .before in
+    let start = after-flag-byte .before .before .before .before .before in
+    omega (arith, stamped-length (now (start .args .image)) (start .pre) _ _ _ (search needs) (after-flag-byte .flag-byte .ensures) (after-put-stamp .put-stamp .ensures))
 
 same-length-2 : tie.Need-same-length-2
 same-length-2 c = search needs
 
 returns-2 : tie.Need-returns-2
-returns-2 c = goes-past (now (c .before .before .before .before .before .before .before .before .before .before .args .image)) (c .before .before .before .before .before .before .before .before .before .before .pre) _ _ _ (search needs) (c .before .before .before .before .before .flag-byte .ensures) (c .before .before .before .put-stamp .ensures) (c .if1 .left)
+returns-2 c =
+    let after-put-stamp = c .before .before .before in
+    let after-flag-byte = after-put-stamp .before .before in
+    let start = after-flag-byte .before .before .before .before .before in
+    goes-past (now (start .args .image)) (start .pre) _ _ _ (search needs) (after-flag-byte .flag-byte .ensures) (after-put-stamp .put-stamp .ensures) (c .if1 .left)
 
 pub go-on-spec : {M : Type 1} → statement M
 go-on-spec =

@@ -18,7 +18,11 @@ same-length : tie.Need-same-length
 same-length c = search needs
 
 returns : tie.Need-returns
-returns c = puts-board _ _ _ (c .before .before .before .before .before .before .before .before .before .pre) (c .before .before .before .before .before .before .put-state .ensures) (c .before .before .put-frame .ensures)
+returns c =
+    let after-put-frame = c .before .before in
+    let after-put-state = after-put-frame .before .before .before .before in
+    let start = after-put-state .before .before .before in
+    puts-board _ _ _ (start .pre) (after-put-state .put-state .ensures) (after-put-frame .put-frame .ensures)
 
 pub put-board-spec : {M : Type 1} → statement M
 put-board-spec = tie.close (tie.spec put-state-requires put-frame-requires same-length returns)

@@ -45,7 +45,14 @@ stamp : (c : tie.Start) → c .args .frame .last < 2 ^ 32
 stamp c = search needs
 
 returns : tie.Need-returns
-returns c = puts-frame _ (now (c .before .before .before .before .before .before .before .before .before .before .args .image)) (c .before .before .before .before .before .before .before .before .before .before .pre) (stamp (c .before .before .before .before .before .before .before .before .before .before)) (c .before .before .before .before .before .before .before .before .flag-byte .ensures) (c .before .before .before .before .before .before .before .flag-byte2 .ensures) (c .before .before .before .before .before .before .flag-byte3 .ensures) (c .before .before .before .before .before .frame-row .ensures) (c .before .before .fill .ensures)
+returns c =
+    let after-fill = c .before .before in
+    let after-frame-row = after-fill .before .before .before in
+    let after-flag-byte3 = after-frame-row .before in
+    let after-flag-byte2 = after-flag-byte3 .before in
+    let after-flag-byte = after-flag-byte2 .before in
+    let start = after-flag-byte .before .before in
+    puts-frame _ (now (start .args .image)) (start .pre) (stamp (start)) (after-flag-byte .flag-byte .ensures) (after-flag-byte2 .flag-byte2 .ensures) (after-flag-byte3 .flag-byte3 .ensures) (after-frame-row .frame-row .ensures) (after-fill .fill .ensures)
 
 pub put-frame-spec : {M : Type 1} → statement M
 put-frame-spec =

@@ -28,7 +28,11 @@ typed : (c : tie.Start) → Typed (c .args .state)
 typed c = record { codes = search needs; counter = search needs; offset = search needs; measured = search needs }
 
 returns : tie.Need-returns
-returns c = puts-state _ _ (typed (c .before .before .before .before .before .before .before .before .before)) (c .before .before .before .before .before .state-row .ensures) (c .before .before .fill .ensures)
+returns c =
+    let after-fill = c .before .before in
+    let after-state-row = after-fill .before .before .before in
+    let start = after-state-row .before .before .before .before in
+    puts-state _ _ (typed (start)) (after-state-row .state-row .ensures) (after-fill .fill .ensures)
 
 pub put-state-spec : {M : Type 1} → statement M
 put-state-spec =

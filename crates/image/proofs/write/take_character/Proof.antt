@@ -26,16 +26,24 @@ same-length : tie.Need-same-length
 same-length c = search needs
 
 returns : tie.Need-returns
-returns c = open-taken _ _ _ _ _ (c .before .before .before .before .if1 .taken) (c .before .before .go-on .ensures)
+returns c =
+    let after-go-on = c .before .before in
+    let after-1 = after-go-on .before .before in
+    open-taken _ _ _ _ _ (after-1 .if1 .taken) (after-go-on .go-on .ensures)
 
 begin-requires : tie.Need-begin-requires
-begin-requires c κs = long (c .before .before .before .before)
+begin-requires c κs =
+    let start = c .before .before .before .before in
+    long (start)
 
 same-length-2 : tie.Need-same-length-2
 same-length-2 c = search needs
 
 returns-2 : tie.Need-returns-2
-returns-2 c = first-taken _ _ _ _ _ (c .before .before .before .before .if1 .left) (c .before .before .begin .ensures)
+returns-2 c =
+    let after-begin = c .before .before in
+    let after-else1 = after-begin .before .before in
+    first-taken _ _ _ _ _ (after-else1 .if1 .left) (after-begin .begin .ensures)
 
 pub take-character-spec : {M : Type 1} → statement M
 take-character-spec =

@@ -52,13 +52,19 @@ same-length : tie.Need-same-length
 same-length c = search needs
 
 returns-4 : tie.Need-returns-4
-returns-4 c = written-still _ _ (c .before .before .before .before .enum-told4 .given .1) (c .before .before .put-board .ensures)
+returns-4 c =
+    let after-put-board = c .before .before in
+    let after-enum-told4 = after-put-board .before .before in
+    written-still _ _ (after-enum-told4 .enum-told4 .given .1) (after-put-board .put-board .ensures)
 
 same-length-2 : tie.Need-same-length-2
 same-length-2 c = search needs
 
 returns-5 : tie.Need-returns-5
-returns-5 c = written-over _ _ (c .before .before .before .before .before .outcome .given .1) (c .before .before .put-board2 .ensures)
+returns-5 c =
+    let after-put-board2 = c .before .before in
+    let after-outcome = after-put-board2 .before .before .before in
+    written-over _ _ (after-outcome .outcome .given .1) (after-put-board2 .put-board2 .ensures)
 
 pub finish-spec : {M : Type 1} → statement M
 finish-spec =

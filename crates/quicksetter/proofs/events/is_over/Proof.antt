@@ -19,7 +19,9 @@ is-over-requires : tie.Need-is-over-requires
 is-over-requires c κs = search needs
 
 returns : tie.Need-returns
-returns c = over-in _ _ _ (c .before .frame-in .ensures) (rw (c .before .before .plate-from .ensures) at (c .is-over .ensures))
+returns c =
+    let after-plate-from = c .before .before in
+    over-in _ _ _ (c .before .frame-in .ensures) (rw (after-plate-from .plate-from .ensures) at (c .is-over .ensures))
 
 pub is-over-spec : {M : Type 1} → statement M
 is-over-spec = tie.close (tie.spec plate-from-requires frame-in-requires is-over-requires returns)

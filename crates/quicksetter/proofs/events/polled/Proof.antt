@@ -13,7 +13,9 @@ use Rattle.quicksetter.proofs.events.is_over.Reads as is-over-reads
 use Rattle.quicksetter.proofs.events.shut.Reads as shut-reads
 
 is-over-requires : tie.Need-is-over-requires
-is-over-requires c κs = omega (arith, good _ (c .before .before .before .before .pre .image) .all)
+is-over-requires c κs =
+    let start = c .before .before .before .before in
+    omega (arith, good _ (start .pre .image) .all)
 
 shut-requires : tie.Need-shut-requires
 shut-requires c κs = search needs
@@ -28,13 +30,20 @@ same-length-3 : tie.Need-same-length-3
 same-length-3 c = search needs
 
 returns : tie.Need-returns
-returns c = c .before .before .before .before .before .before .shut .ensures _ (sym (c .before .before .before .before .before .before .before .before .before .before .before .is-over .ensures) ∙ c .before .before .before .before .before .before .before .before .before .before .if1 .taken)
+returns c =
+    let after-shut = c .before .before .before .before .before .before in
+    let after-1 = after-shut .before .before .before .before in
+    let after-is-over = after-1 .before in
+    after-shut .shut .ensures _ (sym (after-is-over .is-over .ensures) ∙ after-1 .if1 .taken)
 
 same-length-4 : tie.Need-same-length-4
 same-length-4 c = search needs
 
 returns-2 : tie.Need-returns-2
-returns-2 c = nothing-over _ (now (c .before .before .before .before .before .before .args .image)) _ _ (c .before .before .before .before .before .before .pre) _ (λ i. (c .before .before .before .before .before .slice-known .given i) .fits) (sym (c .before .is-over .ensures) ∙ c .if1 .left)
+returns-2 c =
+    let after-slice-known = c .before .before .before .before .before in
+    let start = after-slice-known .before in
+    nothing-over _ (now (start .args .image)) _ _ (start .pre) _ (λ i. (after-slice-known .slice-known .given i) .fits) (sym (c .before .is-over .ensures) ∙ c .if1 .left)
 
 pub polled-spec : {M : Type 1} → statement M
 polled-spec =

@@ -19,7 +19,10 @@ none-requires : tie.Need-none-requires
 none-requires c κs = search needs
 
 put-frame-requires : tie.Need-put-frame-requires
-put-frame-requires c κs = omega (arith, as-long (now (c .before .before .before .before .before .before .before .before .before .before .before .before .before .before .before .args .image)) ((good _ (c .before .before .before .before .before .before .before .before .before .before .before .before .before .before .before .pre .image)) .all) (c .before .before .before .before .before .before .before .before .answered .ensures .state))
+put-frame-requires c κs =
+    let after-answered = c .before .before .before .before .before .before .before .before in
+    let start = after-answered .before .before .before .before .before .before .before in
+    omega (arith, as-long (now (start .args .image)) ((good _ (start .pre .image)) .all) (after-answered .answered .ensures .state))
 
 same-length : tie.Need-same-length
 same-length c = search needs
@@ -31,7 +34,12 @@ same-length-3 : tie.Need-same-length-3
 same-length-3 c = search needs
 
 returns : tie.Need-returns
-returns c = λ tick o. put-away _ (now (c .before .before .before .before .before .before .before .before .before .before .before .before .before .before .before .before .before .before .args .image)) _ _ (c .before .before .before .before .before .before .before .before .before .before .before .before .before .before .before .before .before .before .pre) tick o (c .before .before .before .before .none .ensures) (c .before .before .before .before .before .before .before .before .before .before .before .answered .ensures) (c .before .before .put-frame .ensures)
+returns c =
+    let after-put-frame = c .before .before in
+    let after-none = after-put-frame .before .before in
+    let after-answered = after-none .before .before .before .before .before .before .before in
+    let start = after-answered .before .before .before .before .before .before .before in
+    λ tick o. put-away _ (now (start .args .image)) _ _ (start .pre) tick o (after-none .none .ensures) (after-answered .answered .ensures) (after-put-frame .put-frame .ensures)
 
 pub shut-spec : {M : Type 1} → statement M
 shut-spec =

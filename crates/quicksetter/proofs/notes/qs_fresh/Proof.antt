@@ -25,13 +25,18 @@ add-result : tie.Need-add-result
 add-result c = search needs
 
 returns : tie.Need-returns
-returns c = no-plate _ _ (sym (rw (c .before .before .plate-from .ensures) at (c .before .is-ok .ensures)) ∙ not-true _ (c .if1 .taken))
+returns c =
+    let after-plate-from = c .before .before in
+    no-plate _ _ (sym (rw (after-plate-from .plate-from .ensures) at (c .before .is-ok .ensures)) ∙ not-true _ (c .if1 .taken))
 
 add-result-2 : tie.Need-add-result-2
 add-result-2 c = search needs
 
 returns-2 : tie.Need-returns-2
-returns-2 c = no-length _ _ (sym (rw (c .before .before .before .plate-from .ensures) at (c .before .before .is-ok .ensures)) ∙ not-false _ (c .before .if1 .left)) (c .if2 .taken)
+returns-2 c =
+    let after-is-ok = c .before .before in
+    let after-plate-from = after-is-ok .before in
+    no-length _ _ (sym (rw (after-plate-from .plate-from .ensures) at (after-is-ok .is-ok .ensures)) ∙ not-false _ (c .before .if1 .left)) (c .if2 .taken)
 
 slice-aggregate-fill : tie.Need-slice-aggregate-fill
 slice-aggregate-fill c = search needs
@@ -61,7 +66,17 @@ same-length : tie.Need-same-length
 same-length c = search needs
 
 returns-3 : tie.Need-returns-3
-returns-3 c = freshened _ (now (c .before .before .before .before .before .before .before .before .before .before .before .before .before .before .before .before .args .image)) (sym (rw (c .before .before .before .before .before .before .before .before .before .before .before .before .before .before .plate-from .ensures) at (c .before .before .before .before .before .before .before .before .before .before .before .before .before .is-ok .ensures)) ∙ not-false _ (c .before .before .before .before .before .before .before .before .before .before .before .before .if1 .left)) (c .before .before .before .before .before .before .before .before .before .before .before .if2 .left) (c .before .before .before .before .before .before .before .before .fill .ensures) (c .before .before .before .before .before .fresh .ensures) (c .before .before .before .before .none .ensures) (c .before .before .put-board .ensures)
+returns-3 c =
+    let after-put-board = c .before .before in
+    let after-none = after-put-board .before .before in
+    let after-fresh = after-none .before in
+    let after-fill = after-fresh .before .before .before in
+    let after-else2 = after-fill .before .before .before in
+    let after-else1 = after-else2 .before in
+    let after-is-ok = after-else1 .before in
+    let after-plate-from = after-is-ok .before in
+    let start = after-plate-from .before .before in
+    freshened _ (now (start .args .image)) (sym (rw (after-plate-from .plate-from .ensures) at (after-is-ok .is-ok .ensures)) ∙ not-false _ (after-else1 .if1 .left)) (after-else2 .if2 .left) (after-fill .fill .ensures) (after-fresh .fresh .ensures) (after-none .none .ensures) (after-put-board .put-board .ensures)
 
 pub qs-fresh-spec : {M : Type 1} → statement M
 qs-fresh-spec =

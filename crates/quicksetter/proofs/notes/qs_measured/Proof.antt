@@ -17,7 +17,10 @@ same-length : tie.Need-same-length
 same-length c = search needs
 
 returns : tie.Need-returns
-returns c = λ m w. rw (c .before .before .before .before .plate-from .ensures) at (c .before .before .tell .ensures m w)
+returns c =
+    let after-tell = c .before .before in
+    let after-plate-from = after-tell .before .before in
+    λ m w. rw (after-plate-from .plate-from .ensures) at (after-tell .tell .ensures m w)
 
 pub qs-measured-spec : {M : Type 1} → statement M
 qs-measured-spec = tie.close (tie.spec plate-from-requires tell-requires same-length returns)

@@ -39,13 +39,21 @@ told-requires : tie.Need-told-requires
 told-requires c κs = search needs
 
 finish-requires : tie.Need-finish-requires
-finish-requires c κs = good _ (fine (c .before .before .before .before)) .all
+finish-requires c κs =
+    let after-else1 = c .before .before .before .before in
+    good _ (fine (after-else1)) .all
 
 same-length-2 : tie.Need-same-length-2
 same-length-2 c = search needs
 
 returns-2 : tie.Need-returns-2
-returns-2 c = λ m w. finished-here _ (now (c .before .before .before .before .before .before .before .before .before .before .before .args .image)) m w _ (fine (c .before .before .before .before .before .before .before)) (c .before .before .before .before .before .board-in .ensures) (c .before .before .before .before .told .ensures) (c .before .before .finish .ensures)
+returns-2 c =
+    let after-finish = c .before .before in
+    let after-told = after-finish .before .before in
+    let after-board-in = after-told .before in
+    let after-else1 = after-board-in .before .before in
+    let start = after-else1 .before .before .before .before in
+    λ m w. finished-here _ (now (start .args .image)) m w _ (fine (after-else1)) (after-board-in .board-in .ensures) (after-told .told .ensures) (after-finish .finish .ensures)
 
 pub tell-spec : {M : Type 1} → statement M
 tell-spec =

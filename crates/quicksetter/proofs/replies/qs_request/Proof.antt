@@ -22,7 +22,9 @@ same-length c = search needs
 
 -- src/replies.rt:32:1
 returns : tie.Need-returns
-returns c = writes (c .before .before .before .write-request .result) (c .before .before .before .write-request .ensures) (c .written-number .ensures)
+returns c =
+    let after-write-request = c .before .before .before in
+    writes (after-write-request .write-request .result) (after-write-request .write-request .ensures) (c .written-number .ensures)
 
 pub qs-request-spec : {M : Type 1} → statement M
 qs-request-spec =

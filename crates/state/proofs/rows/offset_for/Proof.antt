@@ -17,16 +17,24 @@ cast-result : tie.Need-cast-result
 cast-result c = search needs
 
 rem-result : tie.Need-rem-result
-rem-result c = some _ (c .before .before .pre .0) (c .before .size .ensures)
+rem-result c =
+    let start = c .before .before in
+    some _ (start .pre .0) (c .before .size .ensures)
 
 sub-result : tie.Need-sub-result
-sub-result c = omega (arith, rest _ (c .before .before .pre .0) (c .before .size .ensures) (c .before .before .args .state .measured))
+sub-result c =
+    let start = c .before .before in
+    omega (arith, rest _ (start .pre .0) (c .before .size .ensures) (start .args .state .measured))
 
 rem-result-2 : tie.Need-rem-result-2
-rem-result-2 c = some _ (c .before .before .pre .0) (c .before .size .ensures)
+rem-result-2 c =
+    let start = c .before .before in
+    some _ (start .pre .0) (c .before .size .ensures)
 
 cast-result-2 : tie.Need-cast-result-2
-cast-result-2 c = omega (arith, low _ (c .before .before .pre .0) (c .before .size .ensures), rest _ (c .before .before .pre .0) (c .before .size .ensures) (c .before .before .args .wanted + c .before .size .result - (c .before .before .args .state .measured % c .before .size .result)))
+cast-result-2 c =
+    let start = c .before .before in
+    omega (arith, low _ (start .pre .0) (c .before .size .ensures), rest _ (start .pre .0) (c .before .size .ensures) (start .args .wanted + c .before .size .result - (start .args .state .measured % c .before .size .result)))
 
 returns : tie.Need-returns
 unfolding offsetFor

@@ -14,7 +14,9 @@ same-length : tie.Need-same-length
 same-length c = search needs
 
 returns : tie.Need-returns
-returns c = λ p l m d. told-46 p _ l m d _ (c .accepted .ensures) (c .before .before .before .put-bytes3 .ensures)
+returns c =
+    let after-put-bytes3 = c .before .before .before in
+    λ p l m d. told-46 p _ l m d _ (c .accepted .ensures) (after-put-bytes3 .put-bytes3 .ensures)
 
 pub read-counter-spec : {M : Type 1} → statement M
 read-counter-spec =

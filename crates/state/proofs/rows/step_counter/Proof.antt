@@ -18,7 +18,11 @@ accepted-requires : tie.Need-accepted-requires
 accepted-requires c κs = search needs
 
 returns : tie.Need-returns
-returns c = λ p l m d w. wraps-47 p _ l m d w (c .before .before .with-counter .result) (c .before .before .before .queued .result) (c .accepted .ensures) (eq-eqb _ _ (c .before .before .before .before .if1 .taken)) (c .before .before .before .queued .ensures) (c .before .before .with-counter .ensures l) (c .before .with-faults .ensures l)
+returns c =
+    let after-with-counter = c .before .before in
+    let after-queued = after-with-counter .before in
+    let after-1 = after-queued .before in
+    λ p l m d w. wraps-47 p _ l m d w (after-with-counter .with-counter .result) (after-queued .queued .result) (c .accepted .ensures) (eq-eqb _ _ (after-1 .if1 .taken)) (after-queued .queued .ensures) (after-with-counter .with-counter .ensures l) (c .before .with-faults .ensures l)
 
 add-with-counter : tie.Need-add-with-counter
 add-with-counter c = search needs
@@ -30,7 +34,9 @@ accepted-requires-2 : tie.Need-accepted-requires-2
 accepted-requires-2 c κs = search needs
 
 returns-2 : tie.Need-returns-2
-returns-2 c = λ p l m d w. steps-47 p _ l m d w (c .accepted2 .ensures) (ne-eqb _ _ (c .before .before .before .if1 .left)) (c .before .with-counter2 .ensures l)
+returns-2 c =
+    let after-else1 = c .before .before .before in
+    λ p l m d w. steps-47 p _ l m d w (c .accepted2 .ensures) (ne-eqb _ _ (after-else1 .if1 .left)) (c .before .with-counter2 .ensures l)
 
 pub step-counter-spec : {M : Type 1} → statement M
 step-counter-spec =

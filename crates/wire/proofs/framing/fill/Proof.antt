@@ -36,8 +36,7 @@ loop-less : tie.Need-loop-less Inv-loop μ-loop
 loop-less c = search needs
 
 loop-again : tie.Need-loop-again Inv-loop μ-loop
-loop-again c =
-    let u = c .before .before in
+loop-again c = let u = c .before .before in
     let s = u .before .args .src .now in
     let d = u .before .args .dst .now in (
       search needs,
@@ -50,9 +49,10 @@ same-length c = search needs
 
 returns : tie.Need-returns Inv-loop μ-loop
 returns c =
-    let s = c .before .before .args .src .now in
+    let start = c .before .before in
+    let s = start .args .src .now in
     let e : c .before .loop .i ≡ length s = omega arith in
-    (simp (take-length) at (rw e at (c .before .loop .inv .2))) ∙ sym (put-front (c .before .before .args .dst .now) s)
+    (simp (take-length) at (rw e at (c .before .loop .inv .2))) ∙ sym (put-front (start .args .dst .now) s)
 
 pub fill-spec : {M : Type 1} → statement M
 fill-spec =

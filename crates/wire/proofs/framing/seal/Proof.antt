@@ -38,7 +38,8 @@ same-length c = search needs
 
 returns : tie.Need-returns
 returns c =
-    let a = c .before .before .before .before .args in
+    let start = c .before .before .before .before in
+    let a = start .args in
     rw (c .xor-from .ensures) (sealed-round (a .address) (a .command) (a .n) (a .buffer .now) (search needs))
 
 pub seal-spec : {M : Type 1} → statement M

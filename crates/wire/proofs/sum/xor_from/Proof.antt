@@ -29,14 +29,15 @@ loop-less : tie.Need-loop-less Inv-loop μ-loop
 loop-less c = search needs
 
 loop-again : tie.Need-loop-again Inv-loop μ-loop
-loop-again c =
-    let u = c .before .before in
+loop-again c = let u = c .before .before in
     let s = u .before .args .s .now in
     (search needs, xor-more s (u .loop .i) (u .loop .sum) (search needs) ∙ u .loop .inv .1)
 
 returns : tie.Need-returns Inv-loop μ-loop
 unfolding xorFrom
-returns c = rw (drop-of-length-le (c .before .before .args .s .now) (c .loop-test .left)) at (c .before .loop .inv .1)
+returns c =
+    let start = c .before .before in
+    rw (drop-of-length-le (start .args .s .now) (c .loop-test .left)) at (c .before .loop .inv .1)
 
 pub xor-from-spec : {M : Type 1} → statement M
 xor-from-spec =

@@ -28,10 +28,12 @@ wide-requires c κs = search needs
 
 returns-3 : tie.Need-returns-3
 returns-3 c d x e f =
-    let t = c .before .before .before .args in
+    let after-else1 = c .before .before in
+    let start = after-else1 .before in
+    let t = start .args in
     ap (λ (k : ℕ). eqb (k - t .base) (c .wide .result)) (sym f)
     ∙ ap (λ (k : ℕ). eqb (length x - t .base) k) (c .wide .ensures ∙ sym e)
-    ∙ count-past (t .base) d x (rw f (c .before .before .if1 .left)) (rw f (c .before .if2 .left))
+    ∙ count-past (t .base) d x (rw f (after-else1 .if1 .left)) (rw f (c .before .if2 .left))
 
 pub counted-fits-spec : {M : Type 1} → statement M
 counted-fits-spec = tie.close (tie.spec returns sub-more cast-if2 returns-2 wide-requires returns-3)

@@ -29,7 +29,9 @@ unfolding lengthFits
 returns c x f = rw (c .before .wanted .given .1, f)
 
 returns-2 : tie.Need-returns-2
-returns-2 c x f = rw (c .before .before .before .wanted2 .given .1) (c .counted-fits .ensures _ x (sym (c .before .byte-at .ensures)) f)
+returns-2 c x f =
+    let after-wanted2 = c .before .before .before in
+    rw (after-wanted2 .wanted2 .given .1) (c .counted-fits .ensures _ x (sym (c .before .byte-at .ensures)) f)
 
 returns-3 : tie.Need-returns-3
 unfolding lengthFits

@@ -25,11 +25,15 @@ cast-if2 c = search needs
 
 returns : tie.Need-returns
 unfolding over
-returns c = λ s kept e. rw (ap (λ (l : Line). l .begun) e, ap (λ (l : Line). l .last) e) (simp (c .before .before .before .before .if1 .taken, le-leb _ _ (c .if2 .taken), sym (c .before .gap .ensures)))
+returns c =
+    let after-1 = c .before .before .before .before in
+    λ s kept e. rw (ap (λ (l : Line). l .begun) e, ap (λ (l : Line). l .last) e) (simp (after-1 .if1 .taken, le-leb _ _ (c .if2 .taken), sym (c .before .gap .ensures)))
 
 returns-2 : tie.Need-returns-2
 unfolding over
-returns-2 c = λ s kept e. rw (ap (λ (l : Line). l .begun) e, ap (λ (l : Line). l .last) e) (simp (c .before .before .before .before .if1 .taken, lt-leb _ _ (c .if2 .left), sym (c .before .gap .ensures)))
+returns-2 c =
+    let after-1 = c .before .before .before .before in
+    λ s kept e. rw (ap (λ (l : Line). l .begun) e, ap (λ (l : Line). l .last) e) (simp (after-1 .if1 .taken, lt-leb _ _ (c .if2 .left), sym (c .before .gap .ensures)))
 
 returns-3 : tie.Need-returns-3
 unfolding over

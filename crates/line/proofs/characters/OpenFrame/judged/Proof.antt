@@ -17,25 +17,23 @@ is-addressed-requires c κs = search needs
 
 returns-2 : tie.Need-returns-2
 returns-2 c =
-    let long = c .before .before .before in
+    let after-else1 = c .before .before .before in
+    let long = after-else1 in
     for-another _ _ (long .if1 .left) (sym (c .before .is-addressed .ensures) ∙ not-true _ (c .if2 .taken))
 
 returns-3 : tie.Need-returns-3
-returns-3 c =
-    let ours = c .before in
+returns-3 c = let ours = c .before in
     let long = ours .before .before .before in
     parity-fault _ _ (long .if1 .left) (sym (ours .before .is-addressed .ensures) ∙ not-false _ (ours .if2 .left)) (c .if3 .taken)
 
 returns-4 : tie.Need-returns-4
-returns-4 c =
-    let clean = c .before .before in
+returns-4 c = let clean = c .before .before in
     let ours = clean .before in
     let long = ours .before .before .before in
     wrong-sum _ _ (long .if1 .left) (sym (ours .before .is-addressed .ensures) ∙ not-false _ (ours .if2 .left)) (clean .if3 .left) (ne-eqb _ _ (c .if4 .taken))
 
 returns-5 : tie.Need-returns-5
-returns-5 c =
-    let summed = c .before in
+returns-5 c = let summed = c .before in
     let clean = summed .before .before in
     let ours = clean .before in
     let long = ours .before .before .before in
@@ -49,8 +47,7 @@ row-of-requires : tie.Need-row-of-requires
 row-of-requires c κs = search needs
 
 returns-6 : tie.Need-returns-6
-returns-6 c =
-    let row = c .before .before in
+returns-6 c = let row = c .before .before in
     let short = row .before .before in
     let summed = short .before in
     let clean = summed .before .before in
@@ -67,7 +64,9 @@ length-fits-requires c κs = search needs
 
 returns-7 : tie.Need-returns-7
 returns-7 c =
-    let known = c .before .before .before in
+    let after-data-part = c .before .before in
+    let after-else6 = after-data-part .before in
+    let known = after-else6 in
     let row = known .before .before in
     let short = row .before .before in
     let summed = short .before in
@@ -75,12 +74,14 @@ returns-7 c =
     let ours = clean .before in
     let long = ours .before .before .before in
     wrong-length _ _ (long .if1 .left) (sym (ours .before .is-addressed .ensures) ∙ not-false _ (ours .if2 .left)) (clean .if3 .left) (eq-eqb _ _ (summed .if4 .left))
-    (short .if5 .left) (row .row-of .result) (row .row-of .ensures) (not-false _ (known .if6 .left)) (c .before .before .data-part .ensures .0) (c .before .length-fits .ensures)
+    (short .if5 .left) (row .row-of .result) (row .row-of .ensures) (not-false _ (known .if6 .left)) (after-data-part .data-part .ensures .0) (c .before .length-fits .ensures)
     (not-true _ (c .if7 .taken))
 
 returns-8 : tie.Need-returns-8
 returns-8 c =
-    let known = c .before .before .before in
+    let after-data-part = c .before .before in
+    let after-else6 = after-data-part .before in
+    let known = after-else6 in
     let row = known .before .before in
     let short = row .before .before in
     let summed = short .before in
@@ -88,7 +89,7 @@ returns-8 c =
     let ours = clean .before in
     let long = ours .before .before .before in
     requested _ _ (long .if1 .left) (sym (ours .before .is-addressed .ensures) ∙ not-false _ (ours .if2 .left)) (clean .if3 .left) (eq-eqb _ _ (summed .if4 .left))
-    (short .if5 .left) (row .row-of .result) (row .row-of .ensures) (not-false _ (known .if6 .left)) (c .before .before .data-part .ensures .0) (c .before .length-fits .ensures)
+    (short .if5 .left) (row .row-of .result) (row .row-of .ensures) (not-false _ (known .if6 .left)) (after-data-part .data-part .ensures .0) (c .before .length-fits .ensures)
     (not-false _ (c .if7 .left))
 
 pub judged-spec : {M : Type 1} → statement M

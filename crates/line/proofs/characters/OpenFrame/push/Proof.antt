@@ -17,10 +17,14 @@ same-length : tie.Need-same-length
 same-length c = search needs
 
 returns : tie.Need-returns
-returns c = has-room _ _ _ _ _ (c .before .before .before .pre) (c .if1 .taken)
+returns c =
+    let start = c .before .before .before in
+    has-room _ _ _ _ _ (start .pre) (c .if1 .taken)
 
 returns-2 : tie.Need-returns-2
-returns-2 c = has-none _ _ _ _ _ (c .before .before .before .pre) (c .if1 .left)
+returns-2 c =
+    let start = c .before .before .before in
+    has-none _ _ _ _ _ (start .pre) (c .if1 .left)
 
 pub push-spec : {M : Type 1} → statement M
 push-spec = tie.close (tie.spec cast-at slice-write-kept add-next same-length returns returns-2)

@@ -16,29 +16,54 @@ returns-2 c = simp (le-leb _ _ (c .before .before .if1 .left), lt-leb _ _ (c .if
 
 returns-3 : tie.Need-returns-3
 unfolding plateOk
-returns-3 c = simp (le-leb _ _ (c .before .before .before .before .if1 .left), le-leb _ _ (c .before .before .if2 .left), lt-leb _ _ (c .if3 .taken))
+returns-3 c =
+    let after-else2 = c .before .before in
+    let after-else1 = after-else2 .before .before in
+    simp (le-leb _ _ (after-else1 .if1 .left), le-leb _ _ (after-else2 .if2 .left), lt-leb _ _ (c .if3 .taken))
 
 returns-4 : tie.Need-returns-4
 unfolding plateOk
-returns-4 c = simp (le-leb _ _ (c .before .before .before .before .before .before .if1 .left), le-leb _ _ (c .before .before .before .before .if2 .left), le-leb _ _ (c .before .before .if3 .left), lt-leb _ _ (c .if4 .taken))
+returns-4 c =
+    let after-else3 = c .before .before in
+    let after-else2 = after-else3 .before .before in
+    let after-else1 = after-else2 .before .before in
+    simp (le-leb _ _ (after-else1 .if1 .left), le-leb _ _ (after-else2 .if2 .left), le-leb _ _ (after-else3 .if3 .left), lt-leb _ _ (c .if4 .taken))
 
 returns-5 : tie.Need-returns-5
 unfolding plateOk
-returns-5 c = simp (le-leb _ _ (c .before .before .before .before .before .before .before .before .if1 .left), le-leb _ _ (c .before .before .before .before .before .before .if2 .left), le-leb _ _ (c .before .before .before .before .if3 .left), le-leb _ _ (c .before .before .if4 .left), lt-leb _ _ (c .if5 .taken))
+returns-5 c =
+    let after-else4 = c .before .before in
+    let after-else3 = after-else4 .before .before in
+    let after-else2 = after-else3 .before .before in
+    let after-else1 = after-else2 .before .before in
+    simp (le-leb _ _ (after-else1 .if1 .left), le-leb _ _ (after-else2 .if2 .left), le-leb _ _ (after-else3 .if3 .left), le-leb _ _ (after-else4 .if4 .left), lt-leb _ _ (c .if5 .taken))
 
 ticks-ok-requires : tie.Need-ticks-ok-requires
 ticks-ok-requires c κs = search needs
 
 returns-6 : tie.Need-returns-6
 unfolding plateOk
-returns-6 c = simp (le-leb _ _ (c .before .before .before .before .before .before .before .before .before .before .if1 .left), le-leb _ _ (c .before .before .before .before .before .before .before .before .if2 .left), le-leb _ _ (c .before .before .before .before .before .before .if3 .left), le-leb _ _ (c .before .before .before .before .if4 .left), le-leb _ _ (c .before .before .if5 .left), sym (c .before .ticks-ok .ensures) ∙ not-true _ (c .if6 .taken))
+returns-6 c =
+    let after-else5 = c .before .before in
+    let after-else4 = after-else5 .before .before in
+    let after-else3 = after-else4 .before .before in
+    let after-else2 = after-else3 .before .before in
+    let after-else1 = after-else2 .before .before in
+    simp (le-leb _ _ (after-else1 .if1 .left), le-leb _ _ (after-else2 .if2 .left), le-leb _ _ (after-else3 .if3 .left), le-leb _ _ (after-else4 .if4 .left), le-leb _ _ (after-else5 .if5 .left), sym (c .before .ticks-ok .ensures) ∙ not-true _ (c .if6 .taken))
 
 pause-ok-requires : tie.Need-pause-ok-requires
 pause-ok-requires c κs = search needs
 
 returns-7 : tie.Need-returns-7
 unfolding plateOk
-returns-7 c = simp (le-leb _ _ (c .before .before .before .before .before .before .before .before .before .before .before .if1 .left), le-leb _ _ (c .before .before .before .before .before .before .before .before .before .if2 .left), le-leb _ _ (c .before .before .before .before .before .before .before .if3 .left), le-leb _ _ (c .before .before .before .before .before .if4 .left), le-leb _ _ (c .before .before .before .if5 .left), sym (c .before .before .ticks-ok .ensures) ∙ not-false _ (c .before .if6 .left), sym (c .pause-ok .ensures))
+returns-7 c =
+    let after-ticks-ok = c .before .before in
+    let after-else5 = after-ticks-ok .before in
+    let after-else4 = after-else5 .before .before in
+    let after-else3 = after-else4 .before .before in
+    let after-else2 = after-else3 .before .before in
+    let after-else1 = after-else2 .before .before in
+    simp (le-leb _ _ (after-else1 .if1 .left), le-leb _ _ (after-else2 .if2 .left), le-leb _ _ (after-else3 .if3 .left), le-leb _ _ (after-else4 .if4 .left), le-leb _ _ (after-else5 .if5 .left), sym (after-ticks-ok .ticks-ok .ensures) ∙ not-false _ (c .before .if6 .left), sym (c .pause-ok .ensures))
 
 pub is-ok-spec : {M : Type 1} → statement M
 is-ok-spec =
