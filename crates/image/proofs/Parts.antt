@@ -22,7 +22,35 @@ pub state-front : (img : List ℕ) → stateIn (take 21 img) ≡ stateIn img
 unfolding stateIn
 state-front img =
     let front : (i : ℕ) → i < 21 → arg (take 21 img) i ≡ arg img i = λ i h. getD-take 21 img i 0 h in
-    rw (little-at (take 21 img) 4, little-at (take 21 img) 8, little-at (take 21 img) 12, little-at img 4, little-at img 8, little-at img 12, front 0 (omega arith), front 1 (omega arith), front 2 (omega arith), front 3 (omega arith), front 4 (omega arith), front 5 (omega arith), front 6 (omega arith), front 7 (omega arith), front 8 (omega arith), front 9 (omega arith), front 10 (omega arith), front 11 (omega arith), front 12 (omega arith), front 13 (omega arith), front 14 (omega arith), front 15 (omega arith), front 16 (omega arith), front 17 (omega arith), front 18 (omega arith), front 19 (omega arith), front 20 (omega arith))
+    rw (
+      little-at (take 21 img) 4,
+      little-at (take 21 img) 8,
+      little-at (take 21 img) 12,
+      little-at img 4,
+      little-at img 8,
+      little-at img 12,
+      front 0 (omega arith),
+      front 1 (omega arith),
+      front 2 (omega arith),
+      front 3 (omega arith),
+      front 4 (omega arith),
+      front 5 (omega arith),
+      front 6 (omega arith),
+      front 7 (omega arith),
+      front 8 (omega arith),
+      front 9 (omega arith),
+      front 10 (omega arith),
+      front 11 (omega arith),
+      front 12 (omega arith),
+      front 13 (omega arith),
+      front 14 (omega arith),
+      front 15 (omega arith),
+      front 16 (omega arith),
+      front 17 (omega arith),
+      front 18 (omega arith),
+      front 19 (omega arith),
+      front 20 (omega arith),
+    )
 
 pub same-front : (a b : List ℕ) → take 21 a ≡ take 21 b → stateIn a ≡ stateIn b
 same-front a b e = sym (state-front a) ∙ ap stateIn e ∙ state-front b

@@ -156,7 +156,23 @@ unfolding frameIn frameRow
 frame-again f img h k =
     let row : List ℕ = flagByte (f .begun) ∷ flagByte (f .longer) ∷ flagByte (f .parity) ∷ low4 (f .last) (f .sum ∷ f .len ∷ []) in
     let at : (j : ℕ) → j < 9 → arg (put img 21 row) (21 + j) ≡ arg row j = λ j l. put-at img 21 row (omega arith) j l in
-    rw (little-at (put img 21 row) 24, at 0 (omega arith), at 1 (omega arith), at 2 (omega arith), at 3 (omega arith), at 4 (omega arith), at 5 (omega arith), at 6 (omega arith), at 7 (omega arith), at 8 (omega arith), flag-again (f .begun), flag-again (f .longer), flag-again (f .parity), number-again (f .last) k)
+    rw (
+      little-at (put img 21 row) 24,
+      at 0 (omega arith),
+      at 1 (omega arith),
+      at 2 (omega arith),
+      at 3 (omega arith),
+      at 4 (omega arith),
+      at 5 (omega arith),
+      at 6 (omega arith),
+      at 7 (omega arith),
+      at 8 (omega arith),
+      flag-again
+          (f .begun),
+      flag-again (f .longer),
+      flag-again (f .parity),
+      number-again (f .last) k,
+    )
 
 pub line-row : (f : OpenFrame) (kept : List ℕ) → Fits f kept
     → lineBytes (lineOf f kept) ≡ frameBytes f

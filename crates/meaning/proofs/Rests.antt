@@ -7,7 +7,8 @@ use lib.Dec.{T, ltb}
 use lib.ListN.{length}
 use Rattle.meaning.specs.Bytes.{pick}
 use Rattle.meaning.specs.State.{Plate, State, withCodes, withCounter, withOffset, withQueue}
-use Rattle.meaning.specs.Commands.{Command, c42, c43, c46, c47, c49, c4A, c4B, c4C, c4D, c4E, c4F, c50, c53, unknown, commandOf, Answer, refuse, accept, quiet, error, onField, readPosition, setPosition, readCounter, stepCounter, clearCounter, readField, storeField, fieldStatus, create, modify, delete, shapeField, memoryStatus, setCode, readFault, reset, worked}
+use Rattle.meaning.specs.Commands.{Command, c42, c43, c46, c47, c49, c4A, c4B, c4C, c4D, c4E, c4F, c50, c53, unknown, commandOf, Answer, refuse, accept}
+use Rattle.meaning.specs.Commands.{quiet, error, onField, readPosition, setPosition, readCounter, stepCounter, clearCounter, readField, storeField, fieldStatus, create, modify, delete, shapeField, memoryStatus, setCode, readFault, reset, worked}
 use Rattle.meaning.specs.Characters.{Frame}
 use Rattle.meaning.specs.Frames.{commandByte, dataOf, ours, judged, short, elsewhere, answered, ending, still, outcome, leaves, work}
 use Rattle.meaning.specs.Demands.{meant}

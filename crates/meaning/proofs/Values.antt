@@ -7,7 +7,8 @@ use lib.ListN.{replicate}
 use Rattle.meaning.specs.Bytes.{zeros, put, blank, among, number, bytes3, bytes4, xorAll, xorFrom, same}
 use Rattle.meaning.specs.State.{Plate, State, none, plateOk, fresh, withCodes, withCounter, withOffset, withMeasured, withQueue, withLock, withLine, locks, queueable, apart, stateOk, code, queued, noted, poweredOn, position, offsetFor, ownByte}
 use Rattle.meaning.specs.Fields.{blocks, coded, codeNo, writable, exists, table, fieldCount, used, sound, freeBlocks, statusAt, survey, clear, putStatus}
-use Rattle.meaning.specs.Commands.{commandOf, lengthFits, counted, row, asked, Answer, refuse, accept, error, choose, wrongCode, readPosition, setPosition, readCounter, stepCounter, clearCounter, onField, readField, storeField, fieldStatus, create, resize, modify, delete, shapeField, freeByte, memoryStatus, setCode, readFault, reset}
+use Rattle.meaning.specs.Commands.{commandOf, lengthFits, counted, row, asked, Answer, refuse, accept, error, choose, wrongCode, readPosition, setPosition, readCounter, stepCounter}
+use Rattle.meaning.specs.Commands.{clearCounter, onField, readField, storeField, fieldStatus, create, resize, modify, delete, shapeField, freeByte, memoryStatus, setCode, readFault, reset}
 use Rattle.meaning.specs.Characters.{gap, over, more}
 use Rattle.meaning.specs.Frames.{commandByte, dataOf, ours, judged, elsewhere, answered, ending, still, warned}
 use Rattle.meaning.specs.Run.{poll, measured, power-on, step, lends, refusedBy}

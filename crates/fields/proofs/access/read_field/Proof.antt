@@ -20,7 +20,8 @@ entry c =
     start
 
 -- past the `let` the field is there
-said : (c : tie.After-found) → OpenTo (entry (c .before .before) .args .codes) (arg (entry (c .before .before) .args .request .now) 3) (entry (c .before .before) .args .total) (entry (c .before .before) .args .memory .now) (arg (entry (c .before .before) .args .request .now) 0) (Field (c .found .given .0 .0) (c .found .given .0 .1 .0) (c .found .given .0 .1 .1 .0))
+said : (c : tie.After-found) → OpenTo (entry (c .before .before) .args .codes) (arg (entry (c .before .before) .args .request .now) 3) (entry (c .before .before) .args .total) (entry (c .before .before) .args .memory .now)
+    (arg (entry (c .before .before) .args .request .now) 0) (Field (c .found .given .0 .0) (c .found .given .0 .1 .0) (c .found .given .0 .1 .1 .0))
 said c =
     let after-open-field = c .before .before in
     let a = entry (c .before .before) .args in

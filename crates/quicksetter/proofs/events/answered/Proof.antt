@@ -56,7 +56,12 @@ part-judged-end c =
     let after-frame-in = c .before .before .before in
     let after-frame-in = after-frame-in in
     let start = after-frame-in .before .before .before .before .before .before in
-    omega (arith, at-most (plateFrom (start .args .total) (start .args .bits) (start .args .address) (start .args .ticks) (start .args .pause)) (now (start .args .image)) (now (start .args .memory)) (now (start .args .room)) (start .pre) (after-frame-in .frame-in .ensures), good _ (start .pre .image) .all)
+    omega (
+      arith,
+      at-most (plateFrom (start .args .total) (start .args .bits) (start .args .address) (start .args .ticks) (start .args .pause)) (now (start .args .image)) (now (start .args .memory)) (now (start .args .room)) (start .pre)
+          (after-frame-in .frame-in .ensures),
+      good _ (start .pre .image) .all,
+    )
 
 judged-requires : tie.Need-judged-requires
 judged-requires c κs = search needs
@@ -97,7 +102,10 @@ returns c = let after-refuse = c .before .before in
     let after-plate-from = after-frame-in .before .before in
     let after-slice-known = after-plate-from .before .before .before in
     let start = after-slice-known .before in
-    refused-in (plateFrom (start .args .total) (start .args .bits) (start .args .address) (start .args .ticks) (start .args .pause)) (now (start .args .image)) (now (start .args .memory)) (now (start .args .room)) (start .pre) (after-frame-in .frame-in .ensures) (after-judged .judged .result) _ (λ i. (after-slice-known .slice-known .given i) .fits) (rw (after-plate-from .plate-from .ensures) at (after-own-byte .own-byte .ensures (stateWith (stateIn (now (start .args .image))) none))) (sym (after-judged .judged .ensures)) (no-request (after-judged .judged .result) (at-match-keys2 .match .keys2)) (rw (after-plate-from .plate-from .ensures, after-state-in .state-in .ensures, after-code .code .ensures) at (after-refuse .refuse .ensures))
+    refused-in (plateFrom (start .args .total) (start .args .bits) (start .args .address) (start .args .ticks) (start .args .pause)) (now (start .args .image)) (now (start .args .memory)) (now (start .args .room)) (start .pre)
+    (after-frame-in .frame-in .ensures) (after-judged .judged .result) _ (λ i. (after-slice-known .slice-known .given i) .fits)
+    (rw (after-plate-from .plate-from .ensures) at (after-own-byte .own-byte .ensures (stateWith (stateIn (now (start .args .image))) none))) (sym (after-judged .judged .ensures))
+    (no-request (after-judged .judged .result) (at-match-keys2 .match .keys2)) (rw (after-plate-from .plate-from .ensures, after-state-in .state-in .ensures, after-code .code .ensures) at (after-refuse .refuse .ensures))
 
 served-requires : tie.Need-served-requires
 served-requires c κs =
@@ -107,7 +115,8 @@ served-requires c κs =
     let after-frame-in = after-judged .before .before .before .before .before in
     let after-plate-from = after-frame-in .before .before in
     let start = after-plate-from .before .before .before .before in
-    rw (after-plate-from .plate-from .ensures) (servable (plateFrom (start .args .total) (start .args .bits) (start .args .address) (start .args .ticks) (start .args .pause)) (now (start .args .image)) (now (start .args .memory)) (now (start .args .room)) (start .pre) (after-frame-in .frame-in .ensures) _ (sym (after-judged .judged .ensures) ∙ after-judgement .judgement .given .1))
+    rw (after-plate-from .plate-from .ensures) (servable (plateFrom (start .args .total) (start .args .bits) (start .args .address) (start .args .ticks) (start .args .pause)) (now (start .args .image)) (now (start .args .memory))
+    (now (start .args .room)) (start .pre) (after-frame-in .frame-in .ensures) _ (sym (after-judged .judged .ensures) ∙ after-judgement .judgement .given .1))
 
 same-length-3 : tie.Need-same-length-3
 same-length-3 c = search needs
@@ -128,7 +137,9 @@ returns-2 c =
     let after-frame-in = after-own-byte .before .before in
     let after-plate-from = after-frame-in .before .before in
     let start = after-plate-from .before .before .before .before in
-    request-in (plateFrom (start .args .total) (start .args .bits) (start .args .address) (start .args .ticks) (start .args .pause)) (now (start .args .image)) (now (start .args .memory)) (now (start .args .room)) (start .pre) (after-frame-in .frame-in .ensures) _ (sym (after-judged .judged .ensures) ∙ after-judgement .judgement .given .1) (rw (after-plate-from .plate-from .ensures) at (after-own-byte .own-byte .ensures (stateWith (stateIn (now (start .args .image))) none))) (rw (after-plate-from .plate-from .ensures) at (after-served .served .ensures))
+    request-in (plateFrom (start .args .total) (start .args .bits) (start .args .address) (start .args .ticks) (start .args .pause)) (now (start .args .image)) (now (start .args .memory)) (now (start .args .room)) (start .pre)
+    (after-frame-in .frame-in .ensures) _ (sym (after-judged .judged .ensures) ∙ after-judgement .judgement .given .1)
+    (rw (after-plate-from .plate-from .ensures) at (after-own-byte .own-byte .ensures (stateWith (stateIn (now (start .args .image))) none))) (rw (after-plate-from .plate-from .ensures) at (after-served .served .ensures))
 
 pub answered-spec : {M : Type 1} → statement M
 answered-spec =

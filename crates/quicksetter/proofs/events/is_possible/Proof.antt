@@ -74,7 +74,13 @@ returns-4 c = let after-else3 = c .before .before in
     let after-else2 = after-plate-from .before in
     let after-number-at = after-else2 .before in
     let after-else1 = after-number-at .before in
-    simp (fine after-else1, le-leb _ _ (rw (after-number-at .number-at .ensures) at (after-else2 .if2 .left)), sym (rw (after-plate-from .plate-from .ensures) at (after-is-ok .is-ok .ensures)) ∙ not-false _ (after-else3 .if3 .left), sym (rw (c .before .number-at2 .ensures) at (c .offset-fits .ensures)))
+    simp (
+      fine after-else1,
+      le-leb _ _ (rw (after-number-at .number-at .ensures) at (after-else2 .if2 .left)),
+      sym (rw (after-plate-from .plate-from .ensures) at (after-is-ok .is-ok .ensures)) ∙ not-false _ (after-else3 .if3 .left),
+      sym
+          (rw (c .before .number-at2 .ensures) at (c .offset-fits .ensures)),
+    )
 
 pub is-possible-spec : {M : Type 1} → statement M
 is-possible-spec =

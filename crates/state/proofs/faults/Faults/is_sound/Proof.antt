@@ -57,7 +57,13 @@ returns-6 c =
     let after-may-precede2 = after-else4 .before in
     let after-else2 = after-may-precede2 .before .before .before in
     let after-may-precede = after-else2 .before in
-    sound-four _ (simp (sym (after-may-precede .may-precede .ensures) ∙ not-false _ (after-else2 .if2 .left), sym (after-may-precede2 .may-precede2 .ensures) ∙ not-false _ (after-else4 .if4 .left), sym (after-may-precede3 .may-precede3 .ensures) ∙ not-false _ (c .before .if5 .left), sym (c .may-precede4 .ensures)))
+    sound-four _ (simp (
+      sym (after-may-precede .may-precede .ensures) ∙ not-false _ (after-else2 .if2 .left),
+      sym (after-may-precede2 .may-precede2 .ensures) ∙ not-false _ (after-else4 .if4 .left),
+      sym
+          (after-may-precede3 .may-precede3 .ensures) ∙ not-false _ (c .before .if5 .left),
+      sym (c .may-precede4 .ensures),
+    ))
 
 pub is-sound-spec : {M : Type 1} → statement M
 is-sound-spec =
