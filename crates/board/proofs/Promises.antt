@@ -198,6 +198,7 @@ quicks : {a b : Board} {x y : Bool} → a ≡ b → x ≡ y → _≡_ {A = Quick
 quicks i j = rw (i, j)
 
 pub quick-tight : (p : Plate) (b : Board) (kept : List ℕ) (g : Call) (x y : Quick) (k l : List ℕ) → Quickly p b kept g x k → Quickly p b kept g y l → (x ≡ y) × (k ≡ l)
+unfolding Quickly
 quick-tight p b kept g x y k l = go (x .went) (y .went) refl refl
   where
     go : (u v : Bool) → x .went ≡ u → y .went ≡ v → QuicklyBy u p b kept g (x .board) k → QuicklyBy v p b kept g (y .board) l → (x ≡ y) × (k ≡ l)

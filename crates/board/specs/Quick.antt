@@ -28,5 +28,5 @@ abbrev pub QuicklyBy : Bool → Plate → Board → List ℕ → Call → Board 
 QuicklyBy true p b kept g b′ kept′ = ClosesNone p b kept g b′ kept′
 QuicklyBy false p b kept g b′ kept′ = ClosesOne p b kept g b′ kept′
 
-abbrev pub Quickly : Plate → Board → List ℕ → Call → Quick → List ℕ → Type 0
+unfoldable pub Quickly : Plate → Board → List ℕ → Call → Quick → List ℕ → Type 0
 Quickly p b kept g r kept′ = QuicklyBy (r .went) p b kept g (r .board) kept′

@@ -22,10 +22,10 @@ use Rattle.tape.specs.Kinds.{Said}
 use Rattle.tape.specs.Text.{badLine}
 use Rattle.tape.specs.Answers.{Stage, opening, running, ended, Turn, badRecord, turn}
 use Rattle.tape.specs.Passes as passes
-use Rattle.tape.specs.Passes.{Pass, pass, stopped, after, heard, nothing, said, longestLine}
+use Rattle.tape.specs.Passes.{Pass, pass, stopped, after, nextRecord, incomplete, says, longestLine}
 use Rattle.tape.proofs.Outputs.{put-nil}
 use Rattle.tape.proofs.Streams.{pass-enough}
-use Rattle.turns.specs.Turns.{keptIn, isEnded, lastOf}
+use Rattle.turns.specs.Turns.{stageKept, isEnded, lastOf}
 use Rattle.passes.specs.Beginnings.{Working, goes-on, begins, Idle}
 use Rattle.passes.specs.Holding.{Held, holds, heldAfter, heldBy}
 use Rattle.passes.specs.Sessions.{largestImage, stageOf, stopTold, phaseAfter, eatenBy, Plays, Steady, Ready, passOver, heldOver, Stands, Eats, Lends, passFrom, heldFrom, GoesOn, Refuses}
@@ -157,12 +157,12 @@ module _ (s : Session) (window kept m w out : List ℕ) (used : ℕ) (ready : Re
         (held-full (length window) (length out - used) (s .place) window (holds (stageOf s kept m) kept w) h) d
 
     module _ (space : longestLine ≤ length out - used) where
-      eats-more : (r : Eaten) → heard window ≡ nothing → r ≡ record { session = s; read = 0; used = used; stop = More } → Eats s window kept m w out used r kept m w out
+      eats-more : (r : Eaten) → nextRecord window ≡ incomplete → r ≡ record { session = s; read = 0; used = used; stop = More } → Eats s window kept m w out used r kept m w out
       eats-more r e d =
           eats-stopped passes.more r (pass-more (length window) (length out - used) (stageOf s kept m) (s .place) window space e)
           (held-more (length window) (length out - used) (s .place) window (holds (stageOf s kept m) kept w) space e) d
 
-      begin-pass : (x : Said) → heard window ≡ said x → let k = turn opening (s .place) x in
+      begin-pass : (x : Said) → nextRecord window ≡ says x → let k = turn opening (s .place) x in
           passOver s window kept m out used
           ≡ after (k .stage) (k .printed) (wholeLength window) (pass (length window) (length out - used - length (k .printed)) (k .stage) (s .place + wholeLength window) (drop (wholeLength window) window))
       begin-pass x e = rw first (pass-turn (length window) (length out - used) opening (s .place) window x space e)
@@ -176,7 +176,7 @@ module _ (s : Session) (window kept m w out : List ℕ) (used : ℕ) (ready : Re
           let l : heldOver s window kept m w out used ≡ untouched
           = rw first
           (held-bad (length window) (length out - used) (s .place) window untouched x space (f .heard) (ap isEnded k)
-          ∙ held-parts (ap (lastOf opening) k) (ap (λ (v : Stage). put kept 0 (keptIn v)) k ∙ put-nil kept 0) (put-nil w 0)) in
+          ∙ held-parts (ap (lastOf opening) k) (ap (λ (v : Stage). put kept 0 (stageKept v)) k ∙ put-nil kept 0) (put-nil w 0)) in
           let d = g .eaten in
           record {
             stage = rw (d, q);
@@ -271,7 +271,7 @@ module _ (s : Session) (window kept m w out : List ℕ) (used : ℕ) (ready : Re
         let t = begins .turned (s .place) in
         let k : (turn opening (s .place) x) .stage ≡ began = ap (λ (y : Turn). y .stage) t in
         let h : heldAfter (holds opening kept w) (s .place) x ≡ holds began kept w
-        = held-parts (ap (lastOf opening) k) (ap (λ (v : Stage). put kept 0 (keptIn v)) k ∙ put-nil kept 0) (put-nil w 0) in
+        = held-parts (ap (lastOf opening) k) (ap (λ (v : Stage). put kept 0 (stageKept v)) k ∙ put-nil kept 0) (put-nil w 0) in
         let q : heldBy (length window) (length out - used - 0) (s .place + n) (drop n window) (holds began kept w) ≡ heldFrom p b (s .place) window next kept m w out used
         = rw (same-space, begins .whole, blank, fresh-board kept)
         (held-enough (length window) (suc (length window)) (length out - used) (s .place + n) (drop n window) (holds began kept w) shorter (omega (arith, shorter))) in

@@ -12,7 +12,7 @@ use Rattle.tape.specs.Records.{wholeLength}
 use Rattle.tape.specs.Kinds.{Said}
 use Rattle.tape.specs.Answers.{Stage, turn}
 use Rattle.tape.specs.Reader.{readAt}
-use Rattle.tape.specs.Passes.{Heard, nothing, said, heard, frontBy, longestLine, onFront}
+use Rattle.tape.specs.Passes.{Heard, incomplete, says, nextRecord, nextRecordBy, longestLine, onNextRecord}
 use Rattle.turns.specs.Turns.{isEnded}
 use Rattle.passes.specs.Holding.{Held, holds, heldAfter, heldBy}
 
@@ -24,23 +24,23 @@ module _ (n space at : ℕ) (t : List ℕ) (h : Held) where
   unfolding heldBy
   held-full i = rw (lt-ltb space longestLine i)
 
-  pub held-more : longestLine ≤ space → heard t ≡ nothing → heldBy (suc n) space at t h ≡ h
-  unfolding heldBy onFront
+  pub held-more : longestLine ≤ space → nextRecord t ≡ incomplete → heldBy (suc n) space at t h ≡ h
+  unfolding heldBy onNextRecord
   held-more i e = rw (le-ltb space longestLine i, e)
 
-  module _ (x : Said) (i : longestLine ≤ space) (e : heard t ≡ said x) where
+  module _ (x : Said) (i : longestLine ≤ space) (e : nextRecord t ≡ says x) where
     pub held-bad : isEnded ((turn (h .stage) at x) .stage) ≡ true → heldBy (suc n) space at t h ≡ heldAfter h at x
-    unfolding heldBy onFront
+    unfolding heldBy onNextRecord
     held-bad k = rw (le-ltb space longestLine i, e, k)
 
     pub held-good : isEnded ((turn (h .stage) at x) .stage) ≡ false
         → heldBy (suc n) space at t h ≡ heldBy n (space - length ((turn (h .stage) at x) .printed)) (at + wholeLength t) (drop (wholeLength t) t) (heldAfter h at x)
-    unfolding heldBy onFront
+    unfolding heldBy onNextRecord
     held-good k = rw (le-ltb space longestLine i, e, k)
 
 -- the bound on the records does not matter
 pub held-enough : (n m space at : ℕ) (t : List ℕ) (h : Held) → length t < n → length t < m → heldBy n space at t h ≡ heldBy m space at t h
-unfolding heldBy onFront readAt frontBy
+unfolding heldBy onNextRecord readAt nextRecordBy
 held-enough zero m space at t h i j = absurd (omega arith)
 held-enough (suc n) zero space at t h i j = absurd (omega arith)
 held-enough (suc n) (suc m) space at [] h i j = refl
@@ -49,9 +49,9 @@ held-enough (suc n) (suc m) space at (b ∷ t) h i j =
     let u = drop k (b ∷ t) in
     let short : length u < length (b ∷ t) = omega (arith, length-drop k (b ∷ t)) in
     ap (λ (y : Held). pick (ltb space longestLine) h y)
-    (go (heard (b ∷ t)) (λ x. held-enough n m (space - length ((turn (h .stage) at x) .printed)) (at + k) u (heldAfter h at x) (omega (arith, short)) (omega (arith, short))))
+    (go (nextRecord (b ∷ t)) (λ x. held-enough n m (space - length ((turn (h .stage) at x) .printed)) (at + k) u (heldAfter h at x) (omega (arith, short)) (omega (arith, short))))
   where
     go : {f g : Said → Held} (r : Heard) → ((x : Said) → f x ≡ g x)
-        → onFront r h (λ x. pick (isEnded ((turn (h .stage) at x) .stage)) (heldAfter h at x) (f x)) ≡ onFront r h (λ x. pick (isEnded ((turn (h .stage) at x) .stage)) (heldAfter h at x) (g x))
-    go nothing same = refl
-    go (said x) same = ap (λ (y : Held). pick (isEnded ((turn (h .stage) at x) .stage)) (heldAfter h at x) y) (same x)
+        → onNextRecord r h (λ x. pick (isEnded ((turn (h .stage) at x) .stage)) (heldAfter h at x) (f x)) ≡ onNextRecord r h (λ x. pick (isEnded ((turn (h .stage) at x) .stage)) (heldAfter h at x) (g x))
+    go incomplete same = refl
+    go (says x) same = ap (λ (y : Held). pick (isEnded ((turn (h .stage) at x) .stage)) (heldAfter h at x) y) (same x)

@@ -20,12 +20,12 @@ use Rattle.tape.specs.Records.{wholeLength}
 use Rattle.tape.specs.Kinds.{Said, unfit}
 use Rattle.tape.specs.Answers.{Stage, opening, running, ended, Turn, badRecord, turn}
 use Rattle.tape.specs.Passes as passes
-use Rattle.tape.specs.Passes.{Pass, pass, stopped, after, onFront, heard, nothing, said, longestLine}
+use Rattle.tape.specs.Passes.{Pass, pass, stopped, after, onNextRecord, nextRecord, incomplete, says, longestLine}
 use Rattle.tape.specs.Reader.{Printed}
 use Rattle.tape.proofs.Outputs.{put-nil}
 use Rattle.tape.proofs.Texts.{same-size, joined}
 use Rattle.turns.specs.Hearing.{Past}
-use Rattle.turns.specs.Turns.{Sound, runs, keptIn, isEnded, lastOf, quickly, Quiet, Waits, Quickens, Turns}
+use Rattle.turns.specs.Turns.{Sound, runs, stageKept, isEnded, lastOf, quickly, Quiet, Waits, Quickens, Turns}
 use Rattle.turns.proofs.Tight.{not-both}
 use Rattle.passes.specs.Holding.{Held, holds, heldAfter, heldBy}
 use Rattle.passes.proofs.Holding.{held-parts, held-full, held-more, held-bad, held-good}
@@ -45,14 +45,14 @@ module _ (n space : ℕ) (w : Stage) (at : ℕ) (t : List ℕ) where
   unfolding pass
   pass-full h = rw (lt-ltb space longestLine h)
 
-  pub pass-more : longestLine ≤ space → heard t ≡ nothing → pass (suc n) space w at t ≡ stopped w passes.more
-  unfolding pass onFront
+  pub pass-more : longestLine ≤ space → nextRecord t ≡ incomplete → pass (suc n) space w at t ≡ stopped w passes.more
+  unfolding pass onNextRecord
   pass-more h e = rw (le-ltb space longestLine h, e)
 
-  pub pass-turn : (x : Said) → longestLine ≤ space → heard t ≡ said x
+  pub pass-turn : (x : Said) → longestLine ≤ space → nextRecord t ≡ says x
       → pass (suc n) space w at t
       ≡ after ((turn w at x) .stage) ((turn w at x) .printed) (wholeLength t) (pass n (space - length ((turn w at x) .printed)) ((turn w at x) .stage) (at + wholeLength t) (drop (wholeLength t) t))
-  unfolding pass onFront
+  unfolding pass onNextRecord
   pass-turn x h e = rw (le-ltb space longestLine h, e)
 
 -- a pass that so much was read and printed before
@@ -156,7 +156,7 @@ module _ {p : Plate} {place : ℕ} {window : List ℕ} {from : ℕ} {kept₀ m�
       halted passes.full r refl (g .whole ∙ ap (before (g .read) (g .text)) (pass-full (g .fuel) (length out - used) here (place + at) (drop at window) h))
       (g .held ∙ held-full (g .fuel) (length out - used) (place + at) (drop at window) now h) d
 
-  pub halts-more : (r : Played) → longestLine ≤ length out - used → heard (drop at window) ≡ nothing
+  pub halts-more : (r : Played) → longestLine ≤ length out - used → nextRecord (drop at window) ≡ incomplete
       → r ≡ record { board = record { state = s; frame = f }; at = at; used = used; stop = More }
       → Plays p all lent from window out₀ start r kept m w out
   halts-more r h e d =
@@ -165,7 +165,7 @@ module _ {p : Plate} {place : ℕ} {window : List ℕ} {from : ℕ} {kept₀ m�
 
   -- a bad record
   pub ends : {kept′ m′ w′ out′ : List ℕ} (s′ : State) (f′ : OpenFrame) (x : Said) (end : ℕ) (r : Played)
-      → longestLine ≤ length out - used → heard (drop at window) ≡ said x → (done x) .stage ≡ ended → Printed ((done x) .printed) out used end out′
+      → longestLine ≤ length out - used → nextRecord (drop at window) ≡ says x → (done x) .stage ≡ ended → Printed ((done x) .printed) out used end out′
       → Sound p (record { state = s′; frame = f′ }) kept′ m′ w′ → holds (runs p s′ f′ kept′ m′) kept′ w′ ≡ heldAfter now (place + at) x
       → r ≡ record { board = record { state = s′; frame = f′ }; at = at; used = end; stop = Over }
       → Plays p all lent from window out₀ start r kept′ m′ w′ out′
@@ -186,7 +186,7 @@ module _ {p : Plate} {place : ℕ} {window : List ℕ} {from : ℕ} {kept₀ m�
 
   -- a good record
   goes : {kept′ m′ w′ out′ : List ℕ} {s′ : State} {f′ : OpenFrame} (n : ℕ) (x : Said) (next used′ : ℕ)
-      → g .fuel ≡ n → longestLine ≤ length out - used → heard (drop at window) ≡ said x → (done x) .stage ≡ runs p s′ f′ kept′ m′
+      → g .fuel ≡ n → longestLine ≤ length out - used → nextRecord (drop at window) ≡ says x → (done x) .stage ≡ runs p s′ f′ kept′ m′
       → Printed ((done x) .printed) out used used′ out′ → Sound p (record { state = s′; frame = f′ }) kept′ m′ w′ → holds (runs p s′ f′ kept′ m′) kept′ w′ ≡ heldAfter now (place + at) x → Past at window next
       → Going p place window from kept₀ m₀ w₀ out₀ start s₀ f₀ kept′ m′ w′ out′ s′ f′ next used′
   goes zero x next used′ z h e k pr sound l past = absurd (omega (arith, g .enough, past .onward, past .inside))
@@ -216,7 +216,7 @@ module _ {p : Plate} {place : ℕ} {window : List ℕ} {from : ℕ} {kept₀ m�
       }
 
   pub goes-on : {kept′ m′ w′ out′ : List ℕ} {s′ : State} {f′ : OpenFrame} (x : Said) (next used′ : ℕ)
-      → longestLine ≤ length out - used → heard (drop at window) ≡ said x → (done x) .stage ≡ runs p s′ f′ kept′ m′
+      → longestLine ≤ length out - used → nextRecord (drop at window) ≡ says x → (done x) .stage ≡ runs p s′ f′ kept′ m′
       → Printed ((done x) .printed) out used used′ out′ → Sound p (record { state = s′; frame = f′ }) kept′ m′ w′ → holds (runs p s′ f′ kept′ m′) kept′ w′ ≡ heldAfter now (place + at) x → Past at window next
       → Going p place window from kept₀ m₀ w₀ out₀ start s₀ f₀ kept′ m′ w′ out′ s′ f′ next used′
   goes-on x next used′ = goes (g .fuel) x next used′ refl
@@ -225,14 +225,14 @@ module _ {p : Plate} {place : ℕ} {window : List ℕ} {from : ℕ} {kept₀ m�
   quiet-past x next q past = past (quiet-fits s q)
 
   -- a record that closes no frame
-  pub quiet-goes : {kept′ : List ℕ} {f′ : OpenFrame} (x : Said) (next : ℕ) → longestLine ≤ length out - used → heard (drop at window) ≡ said x
+  pub quiet-goes : {kept′ : List ℕ} {f′ : OpenFrame} (x : Said) (next : ℕ) → longestLine ≤ length out - used → nextRecord (drop at window) ≡ says x
       → Quiet p f kept x f′ kept′ → ((x ≡ unfit → ⊥) → Past at window next)
       → Going p place window from kept₀ m₀ w₀ out₀ start s₀ f₀ kept′ m w out s f′ next used
   quiet-goes x next h e q past =
       let t = q .turned s m (place + at) in
       goes-on x next used h e (ap (λ (y : Turn). y .stage) t) (no-text out used (ap (λ (y : Turn). y .printed) t) (omega (arith, g .printed .within, same-size (g .printed))))
       (record { within = q .within s m (g .sound .within); room = g .sound .room })
-      (held-parts (sym (ap (λ (y : Turn). lastOf here (y .stage)) t)) (q .bytes ∙ sym (ap (λ (y : Turn). put kept 0 (keptIn (y .stage))) t)) (sym (ap (put w 0) (q .silent s m) ∙ put-nil w 0)))
+      (held-parts (sym (ap (λ (y : Turn). lastOf here (y .stage)) t)) (q .bytes ∙ sym (ap (λ (y : Turn). put kept 0 (stageKept (y .stage))) t)) (sym (ap (put w 0) (q .silent s m) ∙ put-nil w 0)))
       (quiet-past x next q past)
 
   unfit-ends : (x : Said) → x ≡ unfit → isEnded ((done x) .stage) ≡ true
@@ -240,7 +240,7 @@ module _ {p : Plate} {place : ℕ} {window : List ℕ} {from : ℕ} {kept₀ m�
   unfit-ends x u = rw u
 
   -- any other record: a bad one, a good one
-  module _ {keptq kept′ m′ w′ out′ : List ℕ} (x : Said) (q : Turned) (same : keptq ≡ kept) (h : longestLine ≤ length out - used) (e : heard (drop at window) ≡ said x)
+  module _ {keptq kept′ m′ w′ out′ : List ℕ} (x : Said) (q : Turned) (same : keptq ≡ kept) (h : longestLine ≤ length out - used) (e : nextRecord (drop at window) ≡ says x)
       (t : Turns p (runs p s f keptq m) (place + at) x keptq w out used q kept′ m′ w′ out′) where
     turns : Turns p here (place + at) x kept w out used q kept′ m′ w′ out′
     turns = rw same at t

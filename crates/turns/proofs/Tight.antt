@@ -5,45 +5,41 @@ use mathlib.Core.Bool.{Bool, true, false}
 use mathlib.Core.List.{List, []}
 use native.Mathlib.Omega.{arith}
 use lib.Dec.{T}
-use lib.ListN.{length, take}
 use Rattle.meaning.specs.Bytes.{put}
 use Rattle.meaning.specs.State as meaning
 use Rattle.meaning.specs.State.{fresh}
 use Rattle.wire.proofs.Tight.{one-outcome}
 use Rattle.line.specs.declared.plate.Plate.{Plate}
-use Rattle.line.specs.declared.characters.OpenFrame.{OpenFrame}
-use Rattle.line.specs.Line.{plateOf, lineOf}
-use Rattle.line.proofs.Tight.{same-line-same-frame, put-long}
-use Rattle.state.specs.declared.state.State.{State}
+use Rattle.line.specs.Line.{plateOf}
 use Rattle.board.specs.declared.limits.Board.{Board}
 use Rattle.board.specs.Board.{stateOf}
+use Rattle.board.specs.declared.quick.Quick.{Quick}
+use Rattle.board.proofs.Quickening.{fits-told}
 use Rattle.board.proofs.Promises.{same-state-same-board}
 use Rattle.tape.specs.Kinds.{Said}
 use Rattle.tape.specs.Answers.{Stage, opening, running, ended, Turn}
 use Rattle.tape.proofs.Tight.{eventBack, event-back, printed-tight}
-use Rattle.turns.specs.Hearing.{Told, not-yet, tells, toldOf, toldAt}
+use Rattle.turns.specs.Hearing.{Readout, not-yet, tells, readoutOf, readoutAt}
 use Rattle.turns.specs.Openings.{openedBy}
-use Rattle.turns.specs.Turns.{Quiet, Quickens, Turns}
+use Rattle.turns.specs.Turns.{Quiet, QuickensBy, Quickens, Turns}
 use Rattle.turns.specs.declared.reading.Heard.{Heard}
 use Rattle.turns.specs.declared.reading.Heard.the-variants.{Nothing, Said as Tells}
 use Rattle.turns.specs.declared.opening.Opened.{Opened}
-use Rattle.turns.specs.declared.answering.Pace.{Pace}
-use Rattle.turns.specs.declared.answering.Pace.the-variants.{Went, Slow}
 use Rattle.turns.specs.declared.answering.Turned.{Turned}
 
 -- what is told leads back to what was heard
-abbrev toldBack : Told → Heard
-toldBack not-yet = Nothing
-toldBack (tells x n) = Tells (eventBack x) n
+abbrev readoutBack : Readout → Heard
+readoutBack not-yet = Nothing
+readoutBack (tells x n) = Tells (eventBack x) n
 
-told-back : (h : Heard) → toldBack (toldOf h) ≡ h
-told-back Nothing = refl
-told-back (Tells e n) = rw (event-back e)
+readout-back : (h : Heard) → readoutBack (readoutOf h) ≡ h
+readout-back Nothing = refl
+readout-back (Tells e n) = rw (event-back e)
 
-pub hear-tight : (at : ℕ) (window : List ℕ) (a b : Heard) → toldOf a ≡ toldAt at window → toldOf b ≡ toldAt at window → a ≡ b
-hear-tight at window a b p q = one-outcome toldOf toldBack told-back (toldAt at window) a b p q
+pub hear-tight : (at : ℕ) (window : List ℕ) (a b : Heard) → readoutOf a ≡ readoutAt at window → readoutOf b ≡ readoutAt at window → a ≡ b
+hear-tight at window a b p q = one-outcome readoutOf readoutBack readout-back (readoutAt at window) a b p q
 
-pub open-tight : (window : List ℕ) (a b : Opened) → a ≡ openedBy (toldAt 0 window) → b ≡ openedBy (toldAt 0 window) → a ≡ b
+pub open-tight : (window : List ℕ) (a b : Opened) → a ≡ openedBy (readoutAt 0 window) → b ≡ openedBy (readoutAt 0 window) → a ≡ b
 open-tight window a b p q = p ∙ sym q
 
 -- the state of a running board
@@ -55,20 +51,26 @@ stateIn s ended = s
 pub not-both : true ≡ false → ⊥
 not-both e = subst (λ (b : Bool). T b) e tt
 
-module _ (p : Plate) (f : OpenFrame) (kept : List ℕ) (x : Said) (s : State) (all : length kept ≡ 135) where
-  quiet-tight : {g h : OpenFrame} {k l : List ℕ} → Quiet p f kept x g k → Quiet p f kept x h l → (g ≡ h) × (k ≡ l)
-  quiet-tight {g} {h} {k} {l} a b =
-      let t = ap (λ (y : Turn). stateIn (fresh (plateOf p)) (y .stage)) (sym (a .turned s [] 0) ∙ b .turned s [] 0) in
-      let line : lineOf g k ≡ lineOf h l = ap (λ (y : meaning.State). y .line) t in
-      let same : k ≡ l = a .bytes ∙ ap (λ (y : meaning.Line). put kept 0 (y .kept)) line ∙ sym (b .bytes) in
-      let long : 135 ≤ length k = rw (a .bytes) (omega (arith, all, put-long kept (take (g .len) k))) in
-      (same-line-same-frame g h k (a .few) (b .few) long (line ∙ ap (lineOf h) (sym same)), same)
+quicks : {a b : Board} {x y : Bool} → a ≡ b → x ≡ y → _≡_ {A = Quick} (record { board = a; went = x }) (record { board = b; went = y })
+quicks i j = rw (i, j)
 
-  pub quick-tight : (a b : Pace) (k l : List ℕ) → Quickens p f kept x a k → Quickens p f kept x b l → (a ≡ b) × (k ≡ l)
-  quick-tight (Went g) (Went h) k l a b = let t = quiet-tight a b in (ap Went (t .0), t .1)
-  quick-tight (Went g) Slow k l a b = absurd (not-both (sym (a .quick s) ∙ b .slow s))
-  quick-tight Slow (Went h) k l a b = absurd (not-both (sym (b .quick s) ∙ a .slow s))
-  quick-tight Slow Slow k l a b = (refl, a .bytes ∙ sym (b .bytes))
+module _ (p : Plate) (b : Board) (kept : List ℕ) (x : Said) where
+  quiet-tight : {c e : Board} {k l : List ℕ} → Quiet p b kept x c k → Quiet p b kept x e l → (c ≡ e) × (k ≡ l)
+  quiet-tight {c} {e} {k} {l} h i =
+      let s : stateOf c k ≡ stateOf e l = ap (λ (y : Turn). stateIn (fresh (plateOf p)) (y .stage)) (sym (h .turned [] 0) ∙ i .turned [] 0) in
+      let same : k ≡ l = h .bytes ∙ ap (λ (y : meaning.State). put kept 0 (y .line .kept)) s ∙ sym (i .bytes) in
+      let f = fits-told c k (h .fits) in
+      (same-state-same-board c e k (f .few) (fits-told e l (i .fits) .few) (omega (arith, f .all)) (s ∙ ap (stateOf e) (sym same)), same)
+
+  pub quick-tight : (a c : Quick) (k l : List ℕ) → Quickens p b kept x a k → Quickens p b kept x c l → (a ≡ c) × (k ≡ l)
+  unfolding Quickens
+  quick-tight a c k l = go (a .went) (c .went) refl refl
+    where
+      go : (u v : Bool) → a .went ≡ u → c .went ≡ v → QuickensBy u p b kept x (a .board) k → QuickensBy v p b kept x (c .board) l → (a ≡ c) × (k ≡ l)
+      go true true i j h e = let t = quiet-tight h e in (quicks (t .0) (i ∙ sym j), t .1)
+      go false false i j h e = (quicks (h .board ∙ sym (e .board)) (i ∙ sym j), h .bytes ∙ sym (e .bytes))
+      go true false i j h e = absurd (not-both (sym (h .quick) ∙ e .slow))
+      go false true i j h e = absurd (not-both (sym (e .quick) ∙ h .slow))
 
 -- what a record's outcome is made of
 pub record Alike (r t : Turned) (kept′ kept″ m′ m″ w′ w″ out′ out″ : List ℕ) : Type 0 where

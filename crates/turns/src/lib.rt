@@ -4,7 +4,6 @@ mod answering;
 mod opening;
 mod reading;
 
-pub use answering::Pace;
 pub use answering::Turned;
 pub use answering::quick;
 pub use answering::turn;

@@ -2,6 +2,7 @@
 use mathlib.Core.Path.{refl, sym, _∙_}
 use Rattle.line.specs.Line.{Fits}
 use Rattle.meaning.specs.Run.{closes}
+use Rattle.board.specs.Quick.{Quickly}
 use Rattle.board.proofs.Quickening.{fits-told, taken-quickly}
 use borrow.Author.Needs.{needs}
 use Rattle.board.proofs.limits.Board.quick_character.Statement.{statement}
@@ -14,7 +15,7 @@ is-over-requires : tie.Need-is-over-requires
 is-over-requires c κs = search needs
 
 returns : tie.Need-returns
-unfolding closes
+unfolding closes Quickly
 returns c = record { one = sym (c .before .is-over .ensures _ _ refl) ∙ c .if1 .taken; board = refl; bytes = refl }
 
 with-character-requires : tie.Need-with-character-requires
@@ -24,6 +25,7 @@ same-length : tie.Need-same-length
 same-length c = search needs
 
 returns-2 : tie.Need-returns-2
+unfolding Quickly
 returns-2 c =
     let w = c .before .before in
     let e = w .before .before in
