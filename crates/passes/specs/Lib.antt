@@ -1,4 +1,4 @@
--- The definitions of `answers`, file by file.
+-- The definitions of `passes`, file by file.
 pub mod Holding
 pub mod Beginnings
 pub mod Sessions

@@ -6,6 +6,7 @@ use crate::session::Session;
 use crate::session::Stop;
 use board::Board;
 use line::Plate;
+use tape::LONGEST_LINE;
 use turns::Opened;
 use turns::open;
 
@@ -38,7 +39,7 @@ pub fn begin(session: Session, window: &[u8], space: usize) -> Begun
     let Phase::Opening = phase else {
         return with_board(plate, board, Way::Works { from: 0 });
     };
-    if space < 413 {
+    if space < LONGEST_LINE {
         return with_board(plate, board, Way::Stops { why: Stop::Full });
     }
     match open(window) {

@@ -5,7 +5,6 @@ use mathlib.Core.Bool.{Bool, true, false}
 use mathlib.Core.List.{List, []}
 use native.Mathlib.Omega.{arith}
 use lib.Dec.{T}
-use Rattle.meaning.specs.Bytes.{put}
 use Rattle.meaning.specs.State as meaning
 use Rattle.meaning.specs.State.{fresh}
 use Rattle.wire.proofs.Tight.{one-outcome}
@@ -13,15 +12,13 @@ use Rattle.line.specs.declared.plate.Plate.{Plate}
 use Rattle.line.specs.Line.{plateOf}
 use Rattle.board.specs.declared.limits.Board.{Board}
 use Rattle.board.specs.Board.{stateOf}
-use Rattle.board.specs.declared.quick.Quick.{Quick}
-use Rattle.board.proofs.Quickening.{fits-told}
 use Rattle.board.proofs.Promises.{same-state-same-board}
 use Rattle.tape.specs.Kinds.{Said}
-use Rattle.tape.specs.Answers.{Stage, opening, running, ended, Turn}
+use Rattle.tape.specs.Answers.{Stage, opening, running, ended}
 use Rattle.tape.proofs.Tight.{eventBack, event-back, printed-tight}
 use Rattle.turns.specs.Hearing.{Readout, not-yet, tells, readoutOf, readoutAt}
 use Rattle.turns.specs.Openings.{openedBy}
-use Rattle.turns.specs.Turns.{Quiet, QuickensBy, Quickens, Turns}
+use Rattle.turns.specs.Turns.{quickly, Turns}
 use Rattle.turns.specs.declared.reading.Heard.{Heard}
 use Rattle.turns.specs.declared.reading.Heard.the-variants.{Nothing, Said as Tells}
 use Rattle.turns.specs.declared.opening.Opened.{Opened}
@@ -51,26 +48,9 @@ stateIn s ended = s
 pub not-both : true ≡ false → ⊥
 not-both e = subst (λ (b : Bool). T b) e tt
 
-quicks : {a b : Board} {x y : Bool} → a ≡ b → x ≡ y → _≡_ {A = Quick} (record { board = a; went = x }) (record { board = b; went = y })
-quicks i j = rw (i, j)
-
-module _ (p : Plate) (b : Board) (kept : List ℕ) (x : Said) where
-  quiet-tight : {c e : Board} {k l : List ℕ} → Quiet p b kept x c k → Quiet p b kept x e l → (c ≡ e) × (k ≡ l)
-  quiet-tight {c} {e} {k} {l} h i =
-      let s : stateOf c k ≡ stateOf e l = ap (λ (y : Turn). stateIn (fresh (plateOf p)) (y .stage)) (sym (h .turned [] 0) ∙ i .turned [] 0) in
-      let same : k ≡ l = h .bytes ∙ ap (λ (y : meaning.State). put kept 0 (y .line .kept)) s ∙ sym (i .bytes) in
-      let f = fits-told c k (h .fits) in
-      (same-state-same-board c e k (f .few) (fits-told e l (i .fits) .few) (omega (arith, f .all)) (s ∙ ap (stateOf e) (sym same)), same)
-
-  pub quick-tight : (a c : Quick) (k l : List ℕ) → Quickens p b kept x a k → Quickens p b kept x c l → (a ≡ c) × (k ≡ l)
-  unfolding Quickens
-  quick-tight a c k l = go (a .went) (c .went) refl refl
-    where
-      go : (u v : Bool) → a .went ≡ u → c .went ≡ v → QuickensBy u p b kept x (a .board) k → QuickensBy v p b kept x (c .board) l → (a ≡ c) × (k ≡ l)
-      go true true i j h e = let t = quiet-tight h e in (quicks (t .0) (i ∙ sym j), t .1)
-      go false false i j h e = (quicks (h .board ∙ sym (e .board)) (i ∙ sym j), h .bytes ∙ sym (e .bytes))
-      go true false i j h e = absurd (not-both (sym (h .quick) ∙ e .slow))
-      go false true i j h e = absurd (not-both (sym (e .quick) ∙ h .slow))
+pub closes-none-tight : (p : Plate) (b : Board) (x : Said) (a c : Bool) → ((kept : List ℕ) → a ≡ quickly (plateOf p) (stateOf b kept) x)
+    → ((kept : List ℕ) → c ≡ quickly (plateOf p) (stateOf b kept) x) → a ≡ c
+closes-none-tight p b x a c h i = h [] ∙ sym (i [])
 
 -- what a record's outcome is made of
 pub record Alike (r t : Turned) (kept′ kept″ m′ m″ w′ w″ out′ out″ : List ℕ) : Type 0 where

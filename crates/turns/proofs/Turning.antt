@@ -1,7 +1,7 @@
 -- What one record does to a running board. Assumes nothing.
 use Prim.Native.Nat.{ℕ, _+_, _≤_, _<_}
 use mathlib.Core.Path.{_≡_, refl, sym, ap, _∙_}
-use mathlib.Core.Bool.{Bool, true, false, not}
+use mathlib.Core.Bool.{Bool, true, false, not, false≢true}
 use mathlib.Core.List.{List, [], _∷_}
 use native.Mathlib.Omega.{arith}
 use native.Mathlib.Nat.{add-zero}
@@ -11,6 +11,7 @@ use types.Run.{OneOf, miss}
 use denote.Enum.Declared.{tagOf}
 use Rattle.meaning.specs.Bytes.{pick, put, zeros}
 use Rattle.meaning.specs.State as meaning
+use Rattle.meaning.specs.Characters.{over}
 use Rattle.meaning.specs.Frames.{Outcome, still}
 use Rattle.meaning.specs.Run.{Call, character, poll, measured, fault, power-on, step, closes}
 use Rattle.meaning.proofs.Limits.{replies-fit}
@@ -21,11 +22,10 @@ use Rattle.board.specs.declared.limits.Board.{Board}
 use Rattle.board.specs.declared.limits.Outcome.the-variants.{Over, Still}
 use Rattle.board.specs.declared.limits.Stepped.{Stepped}
 use Rattle.board.specs.Board as board
-use Rattle.board.specs.Board.{stateOf, replyLength, refusalOn}
+use Rattle.board.specs.Board.{stateOf, fitsIn, replyLength, refusalOn}
 use Rattle.board.specs.Promises.{DoesStep}
-use Rattle.board.specs.declared.quick.Quick.{Quick}
-use Rattle.board.specs.Quick.{ClosesNone, ClosesOne, QuicklyBy, Quickly}
-use Rattle.board.proofs.Quickening.{quiet-step, quick-steps}
+use Rattle.board.specs.Quick.{TakesIn, ClosesNone}
+use Rattle.board.proofs.Quickening.{quiet-step, taken-quickly, polled-quickly, quick-steps}
 use Rattle.board.proofs.Stepping.{held-on}
 use Rattle.board.proofs.Promises.{does-step, unrefused, stays-within}
 use Rattle.tape.specs.declared.kinds.Event.{Event}
@@ -39,8 +39,11 @@ use Rattle.tape.specs.Reader.{saidOf, Printed}
 use Rattle.tape.specs.Passes.{longestLine}
 use Rattle.tape.proofs.Outputs.{put-nil}
 use Rattle.tape.proofs.kinds.Event.{the-type}
-use Rattle.turns.specs.Turns.{Sound, runs, quickly, Quiet, Waits, QuickensBy, Quickens, CallsBoard, NotCalled, Turns, Fitting, Answered}
+use Rattle.turns.specs.Turns.{Sound, runs, quickly, Quiet, CallsBoard, NotCalled, Turns, Fitting, Answered}
 use Rattle.turns.specs.declared.answering.Turned.{Turned}
+
+not-both : true ≡ false → ⊥
+not-both e = false≢true (sym e)
 
 -- a call that closes nothing brings no reply
 silent-still : (p : meaning.Plate) (s : meaning.State) (m : List ℕ) (g : Call) → closes p s g ≡ false → (step p s m g) .reply ≡ []
@@ -68,22 +71,30 @@ module _ (p : Plate) (b : Board) (kept : List ℕ) (g : Call) (told : quickly (p
         (quick-steps (plateOf p) b kept m (zeros 134) g (unrefused (plateOf p) b kept m (length (zeros 134)) g h wide) q);
   }
 
-  left-waiting : {b′ : Board} {kept′ : List ℕ} → ClosesOne (plateOf p) b kept g b′ kept′ → Waits p b kept (call g) b′ kept′
-  left-waiting q = record { slow = told ∙ ap not (q .one); board = q .board; bytes = q .bytes }
+-- what is quick closes nothing
+quick-open : (t : Bool) → not t ≡ true → t ≡ false
+quick-open true e = absurd (not-both (sym e))
+quick-open false e = refl
 
-  quickens : (t : Bool) (b′ : Board) (kept′ : List ℕ) → QuicklyBy t (plateOf p) b kept g b′ kept′ → QuickensBy t p b kept (call g) b′ kept′
-  quickens true b′ kept′ q = went-quiet q
-  quickens false b′ kept′ q = left-waiting q
+pub quiet-character : (p : Plate) (b : Board) (kept : List ℕ) (e : Event) (t v : ℕ) (bad : Bool) {b′ : Board} {kept′ : List ℕ}
+    → quickly (plateOf p) (stateOf b kept) (saidOf e) ≡ true → e ≡ event.Character t v bad → TakesIn b kept t v bad b′ kept′ → Quiet p b kept (saidOf e) b′ kept′
+unfolding closes
+quiet-character p b kept e t v bad q k x =
+    let o : over (plateOf p) (stateOf b kept) t ≡ false = quick-open (over (plateOf p) (stateOf b kept) t) (rw k at q) in
+    rw k (went-quiet p b kept (character t v bad) refl (taken-quickly (plateOf p) b kept t o x))
 
-pub quick-character : (p : Plate) (b : Board) (kept : List ℕ) (t v : ℕ) (bad : Bool) (r : Quick) (kept′ : List ℕ)
-    → Quickly (plateOf p) b kept (character t v bad) r kept′ → Quickens p b kept (call (character t v bad)) r kept′
-unfolding closes Quickly Quickens
-quick-character p b kept t v bad r kept′ q = quickens p b kept (character t v bad) refl (r .went) (r .board) kept′ q
-
-pub quick-poll : (p : Plate) (b : Board) (kept : List ℕ) (t : ℕ) (r : Quick) (kept′ : List ℕ)
-    → Quickly (plateOf p) b kept (poll t) r kept′ → Quickens p b kept (call (poll t)) r kept′
-unfolding closes Quickly Quickens
-quick-poll p b kept t r kept′ q = quickens p b kept (poll t) refl (r .went) (r .board) kept′ q
+-- a quick record that is no character is a poll, and changes nothing
+pub quiet-poll : (p : Plate) (b : Board) (kept : List ℕ) (e : Event) → quickly (plateOf p) (stateOf b kept) (saidOf e) ≡ true
+    → OneOf (0 ∷ 2 ∷ 3 ∷ 4 ∷ 5 ∷ 6 ∷ []) (tagOf the-type e) → fitsIn b kept ≡ true → Quiet p b kept (saidOf e) b kept
+unfolding closes
+quiet-poll p b kept (event.Plate t q a u w) k i f = absurd (not-both (sym k))
+quiet-poll p b kept (event.Character t v bad) k i f = absurd (miss (0 ∷ 2 ∷ 3 ∷ 4 ∷ 5 ∷ 6 ∷ []) 1 tt i)
+quiet-poll p b kept (event.Poll t) k i f =
+    went-quiet p b kept (poll t) refl (polled-quickly (plateOf p) b kept t (quick-open (over (plateOf p) (stateOf b kept) t) k) f)
+quiet-poll p b kept (event.Measured n) k i f = absurd (not-both (sym k))
+quiet-poll p b kept (event.Fault c) k i f = absurd (not-both (sym k))
+quiet-poll p b kept event.PowerOn k i f = absurd (not-both (sym k))
+quiet-poll p b kept event.Unfit k i f = absurd (not-both (sym k))
 
 -- a record of another kind
 pub other-kind : (e : Event) (p : meaning.Plate) (s : meaning.State) → OneOf (0 ∷ 3 ∷ 4 ∷ 5 ∷ 6 ∷ []) (tagOf the-type e) → quickly p s (saidOf e) ≡ false

@@ -11,7 +11,6 @@ use Rattle.meaning.specs.Run.{Call, character, poll, measured, fault, power-on,
 use Rattle.line.specs.declared.plate.Plate.{Plate}
 use Rattle.line.specs.Line.{plateOf}
 use Rattle.board.specs.declared.limits.Board.{Board}
-use Rattle.board.specs.declared.quick.Quick.{Quick}
 use Rattle.board.specs.declared.limits.Stepped.{Stepped}
 use Rattle.board.specs.Board as board
 use Rattle.board.specs.Board.{stateOf, fitsIn, replyLength}
@@ -75,19 +74,6 @@ pub record Quiet (p : Plate) (b : Board) (kept : List ℕ) (x : Said) (b′ : Bo
   pub bytes : kept′ ≡ put kept 0 ((stateOf b′ kept′) .line .kept)
   pub fits : fitsIn b′ kept′ ≡ true
   pub within : (m : List ℕ) → Within (plateOf p) b kept m → Within (plateOf p) b′ kept′ m
-
--- any other
-pub record Waits (p : Plate) (b : Board) (kept : List ℕ) (x : Said) (b′ : Board) (kept′ : List ℕ) : Type 0 where
-  pub slow : quickly (plateOf p) (stateOf b kept) x ≡ false
-  pub board : b′ ≡ b
-  pub bytes : kept′ ≡ kept
-
-abbrev pub QuickensBy : Bool → Plate → Board → List ℕ → Said → Board → List ℕ → Type 0
-QuickensBy true p b kept x b′ kept′ = Quiet p b kept x b′ kept′
-QuickensBy false p b kept x b′ kept′ = Waits p b kept x b′ kept′
-
-unfoldable pub Quickens : Plate → Board → List ℕ → Said → Quick → List ℕ → Type 0
-Quickens p b kept x r kept′ = QuickensBy (r .went) p b kept x (r .board) kept′
 
 -- what a record leaves of a board in the stage v, of the lent bytes and of the reply room, and what it prints
 pub record Turns (p : Plate) (v : Stage) (place : ℕ) (x : Said) (kept w out : List ℕ) (used : ℕ) (r : Turned) (kept′ m′ w′ out′ : List ℕ) : Type 0 where

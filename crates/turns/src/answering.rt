@@ -1,17 +1,17 @@
 // One record of a running board: what the board answers, what is printed.
 ghost use mathlib.Core.Path.{_≡_};
 ghost use mathlib.Core.Bool.{true, false};
-ghost use Prim.Native.Nat.{_+_, _≤_};
+ghost use mathlib.Core.List.{List};
+ghost use Prim.Native.Nat.{ℕ, _+_, _≤_};
 ghost use lib.ListN.{length};
 ghost use Rattle.line.specs.Line.{plateOf};
-ghost use Rattle.board.specs.Board.{stateOf, fitsIn, replyLength};
+ghost use Rattle.board.specs.Board.{stateOf, replyLength};
 ghost use Rattle.tape.specs.Answers.{running};
 ghost use Rattle.tape.specs.Reader.{saidOf};
 ghost use Rattle.tape.specs.Passes.{longestLine};
-ghost use Rattle.turns.specs.Turns.{Sound, Quickens, Calls, Turns, Fitting, Answered};
+ghost use Rattle.turns.specs.Turns.{Sound, quickly, Calls, Turns, Fitting, Answered};
 use board::Board;
 use board::Outcome;
-use board::Quick;
 use board::Stepped;
 use line::Plate;
 use tape::Event;
@@ -30,19 +30,18 @@ struct Called {
     bad: bool,
 }
 
-// Most records are characters inside a frame: they close none, and no refusal has to be tried.
-pub fn quick(plate: Plate, board: Board, event: Event, kept: &mut [u8]) -> Quick
-    requires { ⌜ fitsIn board (now kept) ≡ true ⌝ }
-    ensures { λ r. ⌜ Quickens plate board (now (kept .entry)) (saidOf event) r (now (kept .exit)) ⌝ }
+// Most records are characters inside a frame, or polls: what closes no frame need not be turned here, since it prints nothing.
+pub fn closes_none(plate: Plate, board: Board, event: Event) -> bool
+    ensures { λ r. ⌜ ((kept : List ℕ) → r ≡ quickly (plateOf plate) (stateOf board kept) (saidOf event)) ⌝ }
 {
     match event {
         Event::Character {
             tick,
-            value,
-            parity,
-        } => board.quick_character(plate, tick, value, parity, kept),
-        Event::Poll { tick } => board.quick_poll(plate, tick),
-        _ => Quick { board, went: false },
+            value: _,
+            parity: _,
+        } => !board.is_over(plate, tick),
+        Event::Poll { tick } => !board.is_over(plate, tick),
+        _ => false,
     }
 }
 

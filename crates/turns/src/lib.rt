@@ -5,7 +5,7 @@ mod opening;
 mod reading;
 
 pub use answering::Turned;
-pub use answering::quick;
+pub use answering::closes_none;
 pub use answering::turn;
 pub use opening::Opened;
 pub use opening::open;
