@@ -27,7 +27,7 @@ use Rattle.board.specs.declared.limits.Board.{Board}
 use Rattle.board.specs.declared.limits.Outcome as code
 use Rattle.board.specs.declared.limits.Stepped.{Stepped}
 use Rattle.board.specs.Board.{stateOf, fitsIn, refusalOn, refusedAs, calledOn, outcomeOf, ReadsOldest, Steps}
-use Rattle.board.specs.Promises.{DoesStep, Within, Reached, start, next}
+use Rattle.board.specs.Promises.{DoesStep, Within, SinceFresh, start, next}
 use Rattle.meaning.proofs.Choices.{told-true, true-told, pick-same}
 use Rattle.board.proofs.Bounding.{lends-poll}
 use Rattle.board.specs.declared.faults.Oldest.{Oldest}
@@ -87,13 +87,13 @@ stays-within p b k m w g {r} {k′} h wide s =
     }
 
 -- so a host that only calls, from fresh, never meets a refusal
-pub reached-within : (p : Plate) {b : Board} {k m : List ℕ} → Reached p b k m → Within p b k m
-reached-within p (start b k m i j l n e) =
+pub since-fresh-within : (p : Plate) {b : Board} {k m : List ℕ} → SinceFresh p b k m → Within p b k m
+since-fresh-within p (start b k m i j l n e) =
     record { plate = i; state = rw e (told-true (stateOk p (fresh p)) (fresh-within p)); few = n; places = j; size = l }
-reached-within p (next b k m w g r k′ m′ w′ h wide s) = stays-within p b k m w g (reached-within p h) wide s
+since-fresh-within p (next b k m w g r k′ m′ w′ h wide s) = stays-within p b k m w g (since-fresh-within p h) wide s
 
-pub never-refused : (p : Plate) (b : Board) (k m : List ℕ) (n : ℕ) (g : Call) → Reached p b k m → 134 ≤ n → refusalOn p b k m n g ≡ 0
-never-refused p b k m n g h wide = unrefused p b k m n g (reached-within p h) wide
+pub never-refused : (p : Plate) (b : Board) (k m : List ℕ) (n : ℕ) (g : Call) → SinceFresh p b k m → 134 ≤ n → refusalOn p b k m n g ≡ 0
+never-refused p b k m n g h wide = unrefused p b k m n g (since-fresh-within p h) wide
 
 boards : {s t : State} {f g : OpenFrame} → s ≡ t → f ≡ g → _≡_ {A = Board} (record { state = s; frame = f }) (record { state = t; frame = g })
 boards i j = rw (i, j)

@@ -11,14 +11,14 @@ use turns::Opened;
 use turns::open;
 
 // It stops at once, for want of space or of bytes; the first record is bad; or a board works from a place of the window on.
-pub enum Way {
+pub(crate) enum Way {
     Stops { why: Stop },
     Bad,
     Works { from: usize },
 }
 
 // .. and the board that works, if one does.
-pub struct Begun {
+pub(crate) struct Begun {
     pub plate: Plate,
     pub board: Board,
     pub way: Way,
@@ -30,7 +30,7 @@ fn with_board(plate: Plate, board: Board, way: Way) -> Begun
     Begun { plate, board, way }
 }
 
-pub fn begin(session: Session, window: &[u8], space: usize) -> Begun
+pub(crate) fn begin(session: Session, window: &[u8], space: usize) -> Begun
     ensures { λ r. ⌜ BeginsWith session (now (window .entry)) space r ⌝ }
 {
     let plate = session.plate;

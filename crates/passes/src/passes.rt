@@ -27,7 +27,7 @@ use turns::hear;
 use turns::turn;
 
 // A running board after a pass: how far the window was read, how much of the output is used.
-pub struct Played {
+pub(crate) struct Played {
     pub board: Board,
     pub at: usize,
     pub used: usize,

@@ -9,6 +9,7 @@ ghost use Rattle.tape.specs.Reader.{Printed};
 // The longest line: a tick of ten digits, 134 bytes of a reply, and the line's end; and the longest of a bad record: `bad `, a place of twenty digits,
 // and the line's end.
 pub const LONGEST_LINE: usize = 413;
+
 pub const LONGEST_BAD_LINE: usize = 25;
 
 // How many decimal digits a tick has.

@@ -190,9 +190,13 @@ loop-again-3 c =
     let v = k .before .before .before .before .before .before .loop .inv in
     let space = k .before .before .before .before .before .if1 .left in
     let h = hears-as _ _ _ _ (k .before .before .before .before .hear .ensures) (k .before .before .event .given .1) in
-    let l = t .turn .kept in
-    (l .1 .1 .1 .1 .0 ∙ v .0, l .1 .1 .1 .1 .1 .0 ∙ v .1, l .1 .1 .1 .1 .1 .1 .0 ∙ v .2, l .1 .1 .1 .1 .1 .1 .1 .0 ∙ v .3,
-    turn-goes (v .4) _ _ space (sym (h .heard)) (t .turn .ensures) _ (c .if3 .left) (h .next))
+    let l = t .turn .kept in (
+      l .1 .1 .1 .1 .0 ∙ v .0,
+      l .1 .1 .1 .1 .1 .0 ∙ v .1,
+      l .1 .1 .1 .1 .1 .1 .0 ∙ v .2,
+      l .1 .1 .1 .1 .1 .1 .1 .0 ∙ v .3,
+      turn-goes (v .4) _ _ space (sym (h .heard)) (t .turn .ensures) _ (c .if3 .left) (h .next),
+    )
 
 pub play-spec : {M : Type 1} → statement M
 play-spec =
