@@ -13,16 +13,16 @@ use Rattle.passes.specs.declared.session.Phase.{Phase}
 use Rattle.passes.specs.declared.session.Phase.the-variants.{Ended}
 use Rattle.passes.specs.declared.session.Session.{Session}
 use Rattle.passes.specs.declared.passes.Eaten.{Eaten}
-use Rattle.passes.specs.Sessions.{largestImage, Starts, Ready, Eats}
+use Rattle.passes.specs.Sessions.{largestImage, AtTapeStart, ReadyForPass, Eats}
 use Rattle.passes.proofs.session.Phase.{the-type}
 use Rattle.answer.specs.Program.{Leaves, Buffers}
 
 pub not-ended : (f : Phase) → OneOf (0 ∷ 1 ∷ []) (tagOf the-type f) → f ≡ Ended → ⊥
 not-ended f k e = miss (0 ∷ 1 ∷ []) 2 tt (rw e at k)
 
-module _ (s : Session) (kept m w out : List ℕ) (used : ℕ) (ready : Ready s [] kept m w out used) where
+module _ (s : Session) (kept m w out : List ℕ) (used : ℕ) (ready : ReadyForPass s [] kept m w out used) where
   -- a window of bytes, at a place that is not too far
-  pub with-window : (window : List ℕ) → s .place < 9223372036854775808 → length window ≤ 65536 → Ready s window kept m w out used
+  pub with-window : (window : List ℕ) → s .place < 9223372036854775808 → length window ≤ 65536 → ReadyForPass s window kept m w out used
   with-window window h l = record {
     steady = ready .steady;
     lent = ready .lent;
@@ -32,8 +32,8 @@ module _ (s : Session) (kept m w out : List ℕ) (used : ℕ) (ready : Ready s [
     place = omega arith;
   }
 
-  -- the room written out
-  pub emptied : Ready s [] kept m w out 0
+  -- the output written
+  pub emptied : ReadyForPass s [] kept m w out 0
   emptied = record { steady = ready .steady; lent = ready .lent; size = ready .size; room = ready .room; space = omega arith; place = ready .place }
 
   pub eaten-leaves : (window part : List ℕ) (at : ℕ) (r : Eaten) (kept′ m′ w′ out′ : List ℕ) → s .place < 9223372036854775808 → length window ≤ 65536
@@ -57,7 +57,7 @@ pub part-fits : (window : List ℕ) (at : ℕ) → at ≤ length window → at +
 part-fits window at h = simp (length-take, length-drop) (omega arith)
 
 -- at the first byte
-pub ready-first : (s : Session) (window kept m w out out′ : List ℕ) (used : ℕ) → Buffers window kept m w out → Starts s → Printed firstLine out 0 used out′ → Ready s [] kept m w out′ used
+pub ready-first : (s : Session) (window kept m w out out′ : List ℕ) (used : ℕ) → Buffers window kept m w out → AtTapeStart s → Printed firstLine out 0 used out′ → ReadyForPass s [] kept m w out′ used
 ready-first s window kept m w out out′ used b t p = record {
   steady = rw (t .phase) (b .blank);
   lent = b .kept-size;

@@ -5,7 +5,7 @@ use mathlib.Core.List.{List, []}
 use lib.ListN.{length, take}
 use Rattle.meaning.specs.Bytes.{zeros}
 use Rattle.passes.specs.declared.session.Phase.the-variants.{Ended}
-use Rattle.passes.specs.Sessions.{largestImage, Ready}
+use Rattle.passes.specs.Sessions.{largestImage, ReadyForPass}
 use Rattle.answer.specs.declared.Fed.{Fed}
 
 -- bytes that were read stand behind those that the window had
@@ -18,7 +18,7 @@ pub record Refills (window : List ℕ) (have r : ℕ) (window′ : List ℕ) : T
 pub record Leaves (r : Fed) (window kept m w out : List ℕ) : Type 0 where
   pub inside : r .at ≤ length window
   pub space : r .used ≤ length out
-  pub ready : (r .session .phase ≡ Ended → ⊥) → Ready (r .session) [] kept m w out (r .used)
+  pub ready : (r .session .phase ≡ Ended → ⊥) → ReadyForPass (r .session) [] kept m w out (r .used)
 
 -- the buffers at the start
 pub record Buffers (window kept m w out : List ℕ) : Type 0 where
@@ -26,4 +26,4 @@ pub record Buffers (window kept m w out : List ℕ) : Type 0 where
   pub kept-size : length kept ≡ 135
   pub blank : m ≡ zeros largestImage
   pub reply-size : 134 ≤ length w
-  pub room-size : length out ≡ 65536
+  pub output-size : length out ≡ 65536

@@ -1,5 +1,5 @@
 // The answer program: reads a tape on standard input and prints the replies (01, "The answer program"). The bytes at hand lie in a window of
-// 65,536 bytes and the lines are gathered in a room of as many, so a tape may have any length. What is printed of a window is proved in the
+// 65,536 bytes and the lines are gathered in an output of as many, so a tape may have any length. What is printed of a window is proved in the
 // crate `passes`; what is read and written is tested.
 ghost use mathlib.Core.Path.{_≡_};
 ghost use mathlib.Core.List.{[]};
@@ -7,14 +7,16 @@ ghost use Prim.Native.Nat.{_+_, _-_, _≤_, _<_};
 ghost use lib.ListN.{length};
 ghost use Rattle.meaning.specs.Bytes.{part, put};
 ghost use Rattle.answer.specs.Program.{Refills, Leaves, Buffers};
-ghost use Rattle.passes.specs.Sessions.{Ready};
+ghost use Rattle.tape.specs.Text.{longestBadLine};
+ghost use Rattle.passes.specs.Sessions.{ReadyForPass};
 use libc::STDIN_FILENO;
 use libc::STDOUT_FILENO;
 use passes::Phase;
 use passes::Session;
 use passes::Stop;
+use tape::LONGEST_BAD_LINE;
 
-// What a window came to: where the tape stands, how far the window was read, how much of the room is used.
+// What a window came to: where the tape stands, how far the window was read, how much of the output is used.
 struct Fed {
     session: Session,
     at: usize,
@@ -27,7 +29,7 @@ fn flush(out: &[u8], used: usize)
     io::write_all(STDOUT_FILENO, &out[..used]);
 }
 
-// Eats what the window has, and writes the room out whenever it is full. Each pass that is stopped for want of space has read a record, so the
+// Eats what the window has, and writes the output whenever it is full. Each pass that is stopped for want of space has read a record, so the
 // window's length bounds the turns.
 fn feed(
     first: Session,
@@ -38,7 +40,7 @@ fn feed(
     out: &mut [u8],
     start: usize,
 ) -> Fed
-    requires { ⌜ Ready first [] (now kept) (now memory) (now reply) (now out) start ⌝ }
+    requires { ⌜ ReadyForPass first [] (now kept) (now memory) (now reply) (now out) start ⌝ }
     requires { ⌜ length (now window) ≤ 65536 ⌝ }
     ensures { λ r. ⌜ Leaves r (now (window .entry)) (now (kept .exit)) (now (memory .exit)) (now (reply .exit)) (now (out .exit)) ⌝ }
 {
@@ -91,11 +93,11 @@ fn shift(window: &mut [u8], from: usize, to: usize) -> usize
     to - from
 }
 
-// The end of the tape: what is left is a record cut short, and the room is written out.
+// The end of the tape: what is left is a record cut short, and the output is written.
 fn end(session: Session, rest: &[u8], out: &mut [u8], used: usize)
-    requires { ⌜ (used ≤ length (now out)) × (25 ≤ length (now out)) ⌝ }
+    requires { ⌜ (used ≤ length (now out)) × (longestBadLine ≤ length (now out)) ⌝ }
 {
-    if out.len() - used < 25 {
+    if out.len() - used < LONGEST_BAD_LINE {
         flush(out, used);
         let last = passes::finish(session, rest, out, 0);
         flush(out, last);

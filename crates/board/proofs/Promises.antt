@@ -3,7 +3,7 @@ use Prim.Native.Nat.{ℕ, _≤_}
 use native.Mathlib.Omega.{arith}
 use native.Mathlib.Decide.{ℕ-discrete}
 use mathlib.Core.Path.{_≡_, refl, sym, ap, _∙_}
-use mathlib.Core.Bool.{Bool, true, false, false≢true}
+use mathlib.Core.Bool.{Bool, true, false}
 use mathlib.Core.List.{List, []}
 use borrow.Author.Tests.{le-leb, eq-eqb, le-ltb, eqb-true}
 use lib.Dec.{eqb, leb}
@@ -12,6 +12,7 @@ use Rattle.meaning.specs.Bytes.{pick, put, both, zeros}
 use Rattle.meaning.specs.State as meaning
 use Rattle.meaning.specs.State.{Plate, Line, stateOk, fresh}
 use Rattle.meaning.specs.Fields.{memoryLength}
+use Rattle.meaning.specs.Characters.{over}
 use Rattle.meaning.specs.Run as run
 use Rattle.meaning.specs.Run.{Call, Held, step, called, refusedBy, lends}
 use Rattle.meaning.proofs.Puts.{length-put}
@@ -26,14 +27,13 @@ use Rattle.board.specs.declared.limits.Board.{Board}
 use Rattle.board.specs.declared.limits.Outcome as code
 use Rattle.board.specs.declared.limits.Stepped.{Stepped}
 use Rattle.board.specs.Board.{stateOf, fitsIn, refusalOn, refusedAs, calledOn, outcomeOf, ReadsOldest, Steps}
-use Rattle.board.specs.Promises.{DoesStep, Within, Reached, start, next}
+use Rattle.board.specs.Promises.{DoesStep, Within, SinceFresh, start, next}
 use Rattle.meaning.proofs.Choices.{told-true, true-told, pick-same}
 use Rattle.board.proofs.Bounding.{lends-poll}
 use Rattle.board.specs.declared.faults.Oldest.{Oldest}
-use Rattle.board.specs.declared.quick.Quick.{Quick}
-use Rattle.board.specs.Quick.{ClosesNone, ClosesOne, QuicklyBy, Quickly}
+use Rattle.board.specs.Quick.{TakesIn}
 use Rattle.board.proofs.Stepping.{held-on, same-len}
-use Rattle.board.proofs.Quickening.{fits-told, told-fits}
+use Rattle.board.proofs.Quickening.{fits-told}
 
 -- where nothing is refused, the call does the meaning's step
 module _ (p : Plate) (b : Board) (k m w : List ℕ) {r : Stepped} {k′ m′ w′ : List ℕ} where
@@ -87,13 +87,13 @@ stays-within p b k m w g {r} {k′} h wide s =
     }
 
 -- so a host that only calls, from fresh, never meets a refusal
-pub reached-within : (p : Plate) {b : Board} {k m : List ℕ} → Reached p b k m → Within p b k m
-reached-within p (start b k m i j l n e) =
+pub since-fresh-within : (p : Plate) {b : Board} {k m : List ℕ} → SinceFresh p b k m → Within p b k m
+since-fresh-within p (start b k m i j l n e) =
     record { plate = i; state = rw e (told-true (stateOk p (fresh p)) (fresh-within p)); few = n; places = j; size = l }
-reached-within p (next b k m w g r k′ m′ w′ h wide s) = stays-within p b k m w g (reached-within p h) wide s
+since-fresh-within p (next b k m w g r k′ m′ w′ h wide s) = stays-within p b k m w g (since-fresh-within p h) wide s
 
-pub never-refused : (p : Plate) (b : Board) (k m : List ℕ) (n : ℕ) (g : Call) → Reached p b k m → 134 ≤ n → refusalOn p b k m n g ≡ 0
-never-refused p b k m n g h wide = unrefused p b k m n g (reached-within p h) wide
+pub never-refused : (p : Plate) (b : Board) (k m : List ℕ) (n : ℕ) (g : Call) → SinceFresh p b k m → 134 ≤ n → refusalOn p b k m n g ≡ 0
+never-refused p b k m n g h wide = unrefused p b k m n g (since-fresh-within p h) wide
 
 boards : {s t : State} {f g : OpenFrame} → s ≡ t → f ≡ g → _≡_ {A = Board} (record { state = s; frame = f }) (record { state = t; frame = g })
 boards i j = rw (i, j)
@@ -194,26 +194,11 @@ is-open-tight b x y h i = h [] ∙ sym (i [])
 
 -- ---- the quick way
 
-quicks : {a b : Board} {x y : Bool} → a ≡ b → x ≡ y → _≡_ {A = Quick} (record { board = a; went = x }) (record { board = b; went = y })
-quicks i j = rw (i, j)
+pub is-over-tight : (p : Plate) (b : Board) (t : ℕ) (x y : Bool) → ((kept : List ℕ) → x ≡ over p (stateOf b kept) t) → ((kept : List ℕ) → y ≡ over p (stateOf b kept) t) → x ≡ y
+is-over-tight p b t x y h i = h [] ∙ sym (i [])
 
-pub quick-tight : (p : Plate) (b : Board) (kept : List ℕ) (g : Call) (x y : Quick) (k l : List ℕ) → Quickly p b kept g x k → Quickly p b kept g y l → (x ≡ y) × (k ≡ l)
-quick-tight p b kept g x y k l = go (x .went) (y .went) refl refl
-  where
-    go : (u v : Bool) → x .went ≡ u → y .went ≡ v → QuicklyBy u p b kept g (x .board) k → QuicklyBy v p b kept g (y .board) l → (x ≡ y) × (k ≡ l)
-    go true true i j h e =
-        let s : stateOf (x .board) k ≡ stateOf (y .board) l = h .state [] ∙ sym (e .state []) in
-        let same : k ≡ l = h .bytes ∙ ap (λ (z : meaning.State). put kept 0 (z .line .kept)) s ∙ sym (e .bytes) in
-        let f = fits-told (x .board) k (h .fits) in
-        let f′ = fits-told (y .board) l (e .fits) in
-        (quicks (same-state-same-board (x .board) (y .board) k (f .few) (f′ .few) (omega (arith, f .all)) (s ∙ ap (stateOf (y .board)) (sym same))) (i ∙ sym j), same)
-    go false false i j h e = (quicks (h .board ∙ sym (e .board)) (i ∙ sym j), h .bytes ∙ sym (e .bytes))
-    go true false i j h e = absurd (false≢true (sym (h .none) ∙ e .one))
-    go false true i j h e = absurd (false≢true (sym (e .none) ∙ h .one))
-
--- with the places unlent
-pub quick-poll-tight : (p : Plate) (b : Board) (g : Call) (x y : Quick) → b .frame .len ≤ 135
-    → ((kept : List ℕ) → fitsIn b kept ≡ true → Quickly p b kept g x kept) → ((kept : List ℕ) → fitsIn b kept ≡ true → Quickly p b kept g y kept) → x ≡ y
-quick-poll-tight p b g x y few h i =
-    let e = told-fits b (zeros 135) few (length-replicate {A = ℕ} 135 0) in
-    quick-tight p b (zeros 135) g x y (zeros 135) (zeros 135) (h (zeros 135) e) (i (zeros 135) e) .0
+pub with-character-tight : (b : Board) (kept : List ℕ) (t v : ℕ) (bad : Bool) (x y : Board) (k l : List ℕ) → TakesIn b kept t v bad x k → TakesIn b kept t v bad y l → (x ≡ y) × (k ≡ l)
+with-character-tight b kept t v bad x y k l h i =
+    let same : k ≡ l = h .bytes ∙ sym (i .bytes) in
+    let f = fits-told x k (h .fits) in
+    (same-state-same-board x y k (f .few) (fits-told y l (i .fits) .few) (omega (arith, f .all)) (h .state ∙ sym (i .state) ∙ ap (stateOf y) (sym same)), same)

@@ -1,4 +1,4 @@
--- The quick way: what it leaves is what the call leaves, where nothing is refused. Assumes nothing.
+-- A call that closes no frame leaves what the quick way leaves, where nothing is refused. Assumes nothing.
 use Prim.Native.Nat.{ℕ, _≤_}
 use native.Mathlib.Omega.{arith}
 use mathlib.Core.Path.{_≡_, refl, sym, ap, _∙_}
@@ -20,9 +20,8 @@ use Rattle.line.proofs.Tight.{put-long}
 use Rattle.state.proofs.Answering.{put-nothing}
 use Rattle.board.specs.declared.limits.Board.{Board}
 use Rattle.board.specs.declared.limits.Outcome.the-variants.{Still}
-use Rattle.board.specs.declared.quick.Quick.{Quick}
 use Rattle.board.specs.Board.{stateOf, fitsIn, refusalOn, Steps}
-use Rattle.board.specs.Quick.{ClosesNone, ClosesOne, QuicklyBy, Quickly}
+use Rattle.board.specs.Quick.{TakesIn, ClosesNone}
 use Rattle.board.proofs.Stepping.{put-own, stepped}
 
 -- what the frame's number and the lent places are within
@@ -46,21 +45,31 @@ quiet-step p s m (measured n) e = refl
 quiet-step p s m (fault c) e = refl
 quiet-step p s m power-on e = refl
 
-module _ (p : Plate) (b : Board) (kept : List ℕ) (t : ℕ) where
-  pub taken-quickly : {v : ℕ} {bad : Bool} {f : OpenFrame} {kept′ : List ℕ} → over p (stateOf b kept) t ≡ false
-      → Extends (more (pick (b .frame .begun) (lineOf (b .frame) kept) none) t v bad) kept f kept′ → length kept′ ≡ 135
-      → ClosesNone p b kept (character t v bad) (record { state = b .state; frame = f }) kept′
-  unfolding step closes upTo still taken withLine
-  taken-quickly {v} {bad} {f} {kept′} o x all = record {
+-- the open frame takes a character in, as the meaning does
+pub takes-in : (b : Board) (kept : List ℕ) (t v : ℕ) (bad : Bool) {f : OpenFrame} {kept′ : List ℕ}
+    → Extends (more (pick (b .frame .begun) (lineOf (b .frame) kept) none) t v bad) kept f kept′ → length kept′ ≡ 135
+    → TakesIn b kept t v bad (record { state = b .state; frame = f }) kept′
+unfolding taken withLine
+takes-in b kept t v bad {f} {kept′} x all = record {
+  state = rw (x .line);
+  bytes = x .bytes;
+  fits = told-fits (record { state = b .state; frame = f }) kept′ (x .few) all;
+}
+
+-- the meaning's step, where no frame is over
+module _ (p : Plate) (b : Board) (kept : List ℕ) (t : ℕ) (o : over p (stateOf b kept) t ≡ false) where
+  pub taken-quickly : {v : ℕ} {bad : Bool} {b′ : Board} {kept′ : List ℕ} → TakesIn b kept t v bad b′ kept′ → ClosesNone p b kept (character t v bad) b′ kept′
+  unfolding step closes upTo still
+  taken-quickly x = record {
     none = o;
-    state = λ m. rw (o, x .line);
-    bytes = x .bytes ∙ ap (λ (l : meaning.Line). put kept 0 (l .kept)) (sym (x .line));
-    fits = told-fits (record { state = b .state; frame = f }) kept′ (x .few) all;
+    state = λ m. rw o (x .state);
+    bytes = x .bytes ∙ ap (λ (s : meaning.State). put kept 0 (s .line .kept)) (sym (x .state));
+    fits = x .fits;
   }
 
-  pub polled-quickly : over p (stateOf b kept) t ≡ false → fitsIn b kept ≡ true → ClosesNone p b kept (poll t) b kept
+  pub polled-quickly : fitsIn b kept ≡ true → ClosesNone p b kept (poll t) b kept
   unfolding step closes upTo still
-  polled-quickly o fits = record { none = o; state = λ m. rw o; bytes = put-own kept (b .frame .len); fits = fits }
+  polled-quickly fits = record { none = o; state = λ m. rw o; bytes = put-own kept (b .frame .len); fits = fits }
 
 -- .. so where nothing is refused, the quick way is the call
 pub quick-steps : (p : Plate) (b : Board) (k m w : List ℕ) (g : Call) {b′ : Board} {k′ : List ℕ} → refusalOn p b k m (length w) g ≡ 0

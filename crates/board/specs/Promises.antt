@@ -29,7 +29,7 @@ pub record Within (p : Plate) (b : Board) (kept m : List ℕ) : Type 0 where
   pub size : length m ≡ memoryLength (p .total)
 
 -- what a host holds that starts fresh with a good plate, 135 places and a memory of the right size, and only calls, with room enough
-pub data Reached (p : Plate) : Board → List ℕ → List ℕ → Type 0 where
-  start : (b : Board) (kept m : List ℕ) → plateOk p ≡ true → length kept ≡ 135 → length m ≡ memoryLength (p .total) → b .frame .len ≤ 135 → stateOf b kept ≡ fresh p → Reached p b kept m
-  next : (b : Board) (kept m w : List ℕ) (g : Call) (r : Stepped) (kept′ m′ w′ : List ℕ) → Reached p b kept m → 134 ≤ length w
-      → Steps p b kept m w g r kept′ m′ w′ → Reached p (r .board) kept′ m′
+pub data SinceFresh (p : Plate) : Board → List ℕ → List ℕ → Type 0 where
+  start : (b : Board) (kept m : List ℕ) → plateOk p ≡ true → length kept ≡ 135 → length m ≡ memoryLength (p .total) → b .frame .len ≤ 135 → stateOf b kept ≡ fresh p → SinceFresh p b kept m
+  next : (b : Board) (kept m w : List ℕ) (g : Call) (r : Stepped) (kept′ m′ w′ : List ℕ) → SinceFresh p b kept m → 134 ≤ length w
+      → Steps p b kept m w g r kept′ m′ w′ → SinceFresh p (r .board) kept′ m′

@@ -22,5 +22,4 @@ pub use limits::Board;
 pub use limits::Outcome;
 pub use limits::Stepped;
 pub use limits::refusal;
-pub use quick::Quick;
 pub use rows::leaves_state;

@@ -9,13 +9,13 @@ use board::Board;
 use line::Plate;
 
 // The board after the last character, and that character's stamp.
-pub struct Sent {
+pub(crate) struct Sent {
     pub board: Board,
     pub last: u32,
 }
 
 // 01, "pause × ticks-per-bit": the gap that closes a frame, in ticks.
-pub fn pause_of(plate: Plate) -> u32
+pub(crate) fn pause_of(plate: Plate) -> u32
     requires { ⌜ plateOk (plateOf plate) ≡ true ⌝ }
     ensures { λ r. ⌜ r ≡ plate .pause * plate .ticks ⌝ }
 {
@@ -23,7 +23,7 @@ pub fn pause_of(plate: Plate) -> u32
 }
 
 // The first character ends at `tick`, each further one a spacing after the last.
-pub fn send(
+pub(crate) fn send(
     plate: Plate,
     board: Board,
     tick: u32,

@@ -22,13 +22,13 @@ use Rattle.tape.specs.Kinds.{Said}
 use Rattle.tape.specs.Text.{badLine}
 use Rattle.tape.specs.Answers.{Stage, opening, running, ended, Turn, badRecord, turn}
 use Rattle.tape.specs.Passes as passes
-use Rattle.tape.specs.Passes.{Pass, pass, stopped, after, heard, nothing, said, longestLine}
+use Rattle.tape.specs.Passes.{Pass, pass, stopped, after, nextRecord, incomplete, says, longestLine}
 use Rattle.tape.proofs.Outputs.{put-nil}
 use Rattle.tape.proofs.Streams.{pass-enough}
-use Rattle.turns.specs.Turns.{keptIn, isEnded, lastOf}
+use Rattle.turns.specs.Turns.{stageKept, isEnded, lastOf}
 use Rattle.passes.specs.Beginnings.{Working, goes-on, begins, Idle}
-use Rattle.passes.specs.Holding.{Held, holds, heldAfter, heldBy}
-use Rattle.passes.specs.Sessions.{largestImage, stageOf, stopTold, phaseAfter, eatenBy, Plays, Steady, Ready, passOver, heldOver, Stands, Eats, Lends, passFrom, heldFrom, GoesOn, Refuses}
+use Rattle.passes.specs.Holding.{LentState, lentState, lentAfter, lentBy}
+use Rattle.passes.specs.Sessions.{largestImage, stageOf, stopTold, phaseAfter, eatenBy, Plays, Steady, ReadyForPass, passOver, lentOver, Stands, Eats, Lends, passFrom, lentFrom, GoesOn, EndsBad}
 use Rattle.turns.specs.Openings.{Begins, Fails}
 use Rattle.passes.specs.declared.session.Phase.{Phase}
 use Rattle.passes.specs.declared.session.Phase.the-variants.{Opening, Running, Ended}
@@ -55,9 +55,9 @@ module _ (p : Plate) (b : Board) (place : ℕ) (window : List ℕ) (from : ℕ) 
 
   module _ (r : Played) (kept′ mp w′ out′ : List ℕ)
       (played : Plays p (pass (suc (length window)) (length out - used) (running (plateOf p) (stateOf b kept) (take n m)) (place + from) (drop from window))
-      (heldBy (suc (length window)) (length out - used) (place + from) (drop from window) (holds (running (plateOf p) (stateOf b kept) (take n m)) kept w))
+      (lentBy (suc (length window)) (length out - used) (place + from) (drop from window) (lentState (running (plateOf p) (stateOf b kept) (take n m)) kept w))
       from window out used r kept′ mp w′ out′) where
-    plays : Plays p (passFrom p b place window from kept m out used) (heldFrom p b place window from kept m w out used) from window out used r kept′ mp w′ out′
+    plays : Plays p (passFrom p b place window from kept m out used) (lentFrom p b place window from kept m w out used) from window out used r kept′ mp w′ out′
     plays = rw here at played
 
     -- the front comes back
@@ -71,7 +71,7 @@ module _ (p : Plate) (b : Board) (place : ℕ) (window : List ℕ) (from : ℕ) 
 
     -- the board's numbers, and the memory behind its front
     at-work-still : (s : Session) (f : Phase)
-        → Stands ((heldFrom p b place window from kept m w out used) .stage) s m (record { phase = f; plate = p; board = r .board; place = place + r .at }) kept′ (mp ++ drop n m)
+        → Stands ((lentFrom p b place window from kept m w out used) .stage) s m (record { phase = f; plate = p; board = r .board; place = place + r .at }) kept′ (mp ++ drop n m)
     at-work-still s f =
         rw (← plays .held)
         (record {
@@ -93,8 +93,8 @@ module _ (p : Plate) (b : Board) (place : ℕ) (window : List ℕ) (from : ℕ) 
           stop = plays .stop;
           printed = plays .printed;
           stands = λ s. at-work-still s (phaseAfter (r .stop));
-          bytes = ap (λ (h : Held). h .kept) (plays .held);
-          reply = ap (λ (h : Held). h .room) (plays .held);
+          bytes = ap (λ (h : LentState). h .kept) (plays .held);
+          reply = ap (λ (h : LentState). h .room) (plays .held);
           steady = steady (r .stop);
         })
 
@@ -105,7 +105,7 @@ at-work Opening p b kept m w k h = absurd (k refl)
 at-work Running p b kept m w k h = refl
 at-work Ended p b kept m w k h = absurd h
 
-module _ (s : Session) (window kept m w out : List ℕ) (used : ℕ) (ready : Ready s window kept m w out used) where
+module _ (s : Session) (window kept m w out : List ℕ) (used : ℕ) (ready : ReadyForPass s window kept m w out used) where
   lends : s .phase ≡ Running → Lends (s .plate) (s .board) (s .place) window 0 kept m w out used
   lends e = record { playable = record { sound = rw e at (ready .steady); starts = omega arith; space = ready .space; places = ready .place }; size = ready .size }
 
@@ -113,7 +113,7 @@ module _ (s : Session) (window kept m w out : List ℕ) (used : ℕ) (ready : Re
       → Eats s window kept m w out used r kept′ m′ w′ out′
   eats-on r kept′ m′ w′ out′ e g =
       let q : passFrom (s .plate) (s .board) (s .place) window 0 kept m out used ≡ passOver s window kept m out used = rw (add-zero (s .place), e) in
-      let l : heldFrom (s .plate) (s .board) (s .place) window 0 kept m w out used ≡ heldOver s window kept m w out used = rw (add-zero (s .place), e) in
+      let l : lentFrom (s .plate) (s .board) (s .place) window 0 kept m w out used ≡ lentOver s window kept m w out used = rw (add-zero (s .place), e) in
       record {
         stage = g .stage ∙ ap (λ (x : Pass). x .stage) q;
         place = g .next ∙ ap (λ (x : Pass). s .place + (0 + x .read)) q ∙ rw zero-add;
@@ -122,21 +122,21 @@ module _ (s : Session) (window kept m w out : List ℕ) (used : ℕ) (ready : Re
         stop = g .stop ∙ ap (λ (x : Pass). stopTold (x .stop)) q;
         printed = rw q at (g .printed);
         stands = rw l at (g .stands s);
-        bytes = g .bytes ∙ ap (λ (h : Held). h .kept) l;
-        reply = g .reply ∙ ap (λ (h : Held). h .room) l;
+        bytes = g .bytes ∙ ap (λ (h : LentState). h .kept) l;
+        reply = g .reply ∙ ap (λ (h : LentState). h .room) l;
         steady = g .steady;
       }
 
   -- ---- before the plate
   module _ (first : s .phase ≡ Opening) where
-    abbrev untouched : Held
-    untouched = holds opening kept w
+    abbrev untouched : LentState
+    untouched = lentState opening kept w
 
-    eats-stopped : (why : passes.Stop) (r : Eaten) → passOver s window kept m out used ≡ stopped (stageOf s kept m) why → heldOver s window kept m w out used ≡ holds (stageOf s kept m) kept w
+    eats-stopped : (why : passes.Stop) (r : Eaten) → passOver s window kept m out used ≡ stopped (stageOf s kept m) why → lentOver s window kept m w out used ≡ lentState (stageOf s kept m) kept w
         → r ≡ record { session = s; read = 0; used = used; stop = stopTold why } → Eats s window kept m w out used r kept m w out
     unfolding stopped
     eats-stopped why r q l d =
-        let u : heldOver s window kept m w out used ≡ untouched = l ∙ rw first in
+        let u : lentOver s window kept m w out used ≡ untouched = l ∙ rw first in
         rw d
         (record {
           stage = sym (ap (λ (x : Pass). x .stage) q);
@@ -146,37 +146,37 @@ module _ (s : Session) (window kept m w out : List ℕ) (used : ℕ) (ready : Re
           stop = rw q;
           printed = no-text out used (ap (λ (x : Pass). x .printed) q) (ready .space);
           stands = rw u (record { plate = refl; board = refl; memory = refl });
-          bytes = sym (ap (λ (h : Held). h .kept) u);
-          reply = sym (ap (λ (h : Held). h .room) u);
+          bytes = sym (ap (λ (h : LentState). h .kept) u);
+          reply = sym (ap (λ (h : LentState). h .room) u);
           steady = λ h. ready .steady;
         })
 
     eats-full : (r : Eaten) → length out - used < longestLine → r ≡ record { session = s; read = 0; used = used; stop = Full } → Eats s window kept m w out used r kept m w out
     eats-full r h d =
         eats-stopped passes.full r (pass-full (length window) (length out - used) (stageOf s kept m) (s .place) window h)
-        (held-full (length window) (length out - used) (s .place) window (holds (stageOf s kept m) kept w) h) d
+        (held-full (length window) (length out - used) (s .place) window (lentState (stageOf s kept m) kept w) h) d
 
     module _ (space : longestLine ≤ length out - used) where
-      eats-more : (r : Eaten) → heard window ≡ nothing → r ≡ record { session = s; read = 0; used = used; stop = More } → Eats s window kept m w out used r kept m w out
+      eats-more : (r : Eaten) → nextRecord window ≡ incomplete → r ≡ record { session = s; read = 0; used = used; stop = More } → Eats s window kept m w out used r kept m w out
       eats-more r e d =
           eats-stopped passes.more r (pass-more (length window) (length out - used) (stageOf s kept m) (s .place) window space e)
-          (held-more (length window) (length out - used) (s .place) window (holds (stageOf s kept m) kept w) space e) d
+          (held-more (length window) (length out - used) (s .place) window (lentState (stageOf s kept m) kept w) space e) d
 
-      begin-pass : (x : Said) → heard window ≡ said x → let k = turn opening (s .place) x in
+      begin-pass : (x : Said) → nextRecord window ≡ says x → let k = turn opening (s .place) x in
           passOver s window kept m out used
           ≡ after (k .stage) (k .printed) (wholeLength window) (pass (length window) (length out - used - length (k .printed)) (k .stage) (s .place + wholeLength window) (drop (wholeLength window) window))
       begin-pass x e = rw first (pass-turn (length window) (length out - used) opening (s .place) window x space e)
 
-      eats-bad : (r : Eaten) (out′ : List ℕ) → (x : Said) × Fails window x → Refuses s out used r out′ → Eats s window kept m w out used r kept m w out′
+      eats-bad : (r : Eaten) (out′ : List ℕ) → (x : Said) × Fails window x → EndsBad s out used r out′ → Eats s window kept m w out used r kept m w out′
       unfolding after badRecord
       eats-bad r out′ (x, f) g =
           let q : passOver s window kept m out used ≡ record { stage = ended; read = 0; printed = badLine (s .place); stop = passes.over }
           = begin-pass x (f .heard) ∙ rw (f .turned (s .place)) in
           let k : (turn opening (s .place) x) .stage ≡ ended = ap (λ (y : Turn). y .stage) (f .turned (s .place)) in
-          let l : heldOver s window kept m w out used ≡ untouched
+          let l : lentOver s window kept m w out used ≡ untouched
           = rw first
           (held-bad (length window) (length out - used) (s .place) window untouched x space (f .heard) (ap isEnded k)
-          ∙ held-parts (ap (lastOf opening) k) (ap (λ (v : Stage). put kept 0 (keptIn v)) k ∙ put-nil kept 0) (put-nil w 0)) in
+          ∙ held-parts (ap (lastOf opening) k) (ap (λ (v : Stage). put kept 0 (stageKept v)) k ∙ put-nil kept 0) (put-nil w 0)) in
           let d = g .eaten in
           record {
             stage = rw (d, q);
@@ -186,8 +186,8 @@ module _ (s : Session) (window kept m w out : List ℕ) (used : ℕ) (ready : Re
             stop = rw (d, q);
             printed = rw q (g .printed);
             stands = rw (d, l) (record { plate = refl; board = refl; memory = refl });
-            bytes = sym (ap (λ (h : Held). h .kept) l);
-            reply = sym (ap (λ (h : Held). h .room) l);
+            bytes = sym (ap (λ (h : LentState). h .kept) l);
+            reply = sym (ap (λ (h : LentState). h .room) l);
             steady = rw d (λ h. absurd (h refl));
           }
 
@@ -197,7 +197,7 @@ module _ (s : Session) (window kept m w out : List ℕ) (used : ℕ) (ready : Re
   eats-idle More r (first, i) d = eats-more first (i .0) r (i .1) d
   eats-idle Over r (first, i) d = absurd i
 
-  pub eats-none : (r : Eaten) (out′ : List ℕ) → (s .phase ≡ Opening) × (longestLine ≤ length out - used) × ((x : Said) × Fails window x) → Refuses s out used r out′
+  pub eats-none : (r : Eaten) (out′ : List ℕ) → (s .phase ≡ Opening) × (longestLine ≤ length out - used) × ((x : Said) × Fails window x) → EndsBad s out used r out′
       → Eats s window kept m w out used r kept m w out′
   eats-none r out′ (first, space, none) g = eats-bad first space r out′ none g
 
@@ -212,7 +212,7 @@ take-zeros (suc n) (suc k) h = ap (λ (l : List ℕ). 0 ∷ l) (take-zeros n k (
 abbrev ahead : ℕ → Pass → Pass
 ahead n q = record { stage = q .stage; read = n + q .read; printed = q .printed; stop = q .stop }
 
-module _ (s : Session) (window kept m w out : List ℕ) (used : ℕ) (ready : Ready s window kept m w out used) (first : s .phase ≡ Opening)
+module _ (s : Session) (window kept m w out : List ℕ) (used : ℕ) (ready : ReadyForPass s window kept m w out used) (first : s .phase ≡ Opening)
     (p : Plate) (next : ℕ) (x : Said) (begins : Begins window p next x) (b : Board) (fresh-board : (k : List ℕ) → stateOf b k ≡ fresh (plateOf p)) where
   blank : take (memoryLength (p .total)) m ≡ zeros (memoryLength (p .total))
   blank =
@@ -264,21 +264,21 @@ module _ (s : Session) (window kept m w out : List ℕ) (used : ℕ) (ready : Re
         = rw (same-space, begins .whole, blank, fresh-board kept) (pass-enough (length window) (suc (length window)) (length out - used) began (s .place + n) (drop n window) shorter (omega (arith, shorter))) in
         begin-pass s window kept m w out used ready first space x (begins .heard) ∙ rw (begins .turned (s .place), q, begins .whole)
 
-    held-begins : heldOver s window kept m w out used ≡ heldFrom p b (s .place) window next kept m w out used
+    held-begins : lentOver s window kept m w out used ≡ lentFrom p b (s .place) window next kept m w out used
     unfolding fresh meaning.none
     held-begins =
         let n = wholeLength window in
         let t = begins .turned (s .place) in
         let k : (turn opening (s .place) x) .stage ≡ began = ap (λ (y : Turn). y .stage) t in
-        let h : heldAfter (holds opening kept w) (s .place) x ≡ holds began kept w
-        = held-parts (ap (lastOf opening) k) (ap (λ (v : Stage). put kept 0 (keptIn v)) k ∙ put-nil kept 0) (put-nil w 0) in
-        let q : heldBy (length window) (length out - used - 0) (s .place + n) (drop n window) (holds began kept w) ≡ heldFrom p b (s .place) window next kept m w out used
+        let h : lentAfter (lentState opening kept w) (s .place) x ≡ lentState began kept w
+        = held-parts (ap (lastOf opening) k) (ap (λ (v : Stage). put kept 0 (stageKept v)) k ∙ put-nil kept 0) (put-nil w 0) in
+        let q : lentBy (length window) (length out - used - 0) (s .place + n) (drop n window) (lentState began kept w) ≡ lentFrom p b (s .place) window next kept m w out used
         = rw (same-space, begins .whole, blank, fresh-board kept)
-        (held-enough (length window) (suc (length window)) (length out - used) (s .place + n) (drop n window) (holds began kept w) shorter (omega (arith, shorter))) in
+        (held-enough (length window) (suc (length window)) (length out - used) (s .place + n) (drop n window) (lentState began kept w) shorter (omega (arith, shorter))) in
         rw first
-        (held-good (length window) (length out - used) (s .place) window (holds opening kept w) x space (begins .heard) (ap isEnded k)
-        ∙ ap (λ (y : Turn). heldBy (length window) (length out - used - length (y .printed)) (s .place + n) (drop n window) (heldAfter (holds opening kept w) (s .place) x)) t
-        ∙ ap (heldBy (length window) (length out - used - 0) (s .place + n) (drop n window)) h
+        (held-good (length window) (length out - used) (s .place) window (lentState opening kept w) x space (begins .heard) (ap isEnded k)
+        ∙ ap (λ (y : Turn). lentBy (length window) (length out - used - length (y .printed)) (s .place + n) (drop n window) (lentAfter (lentState opening kept w) (s .place) x)) t
+        ∙ ap (lentBy (length window) (length out - used - 0) (s .place + n) (drop n window)) h
         ∙ q)
 
     eats-plate : (r : Eaten) (kept′ m′ w′ out′ : List ℕ) → GoesOn p b (s .place) window next kept m w out used r kept′ m′ w′ out′
@@ -294,14 +294,14 @@ module _ (s : Session) (window kept m w out : List ℕ) (used : ℕ) (ready : Re
           stop = g .stop ∙ ap stopTold (sym (ap (λ (y : Pass). y .stop) a));
           printed = rw a (g .printed);
           stands = rw l (g .stands s);
-          bytes = g .bytes ∙ sym (ap (λ (h : Held). h .kept) l);
-          reply = g .reply ∙ sym (ap (λ (h : Held). h .room) l);
+          bytes = g .bytes ∙ sym (ap (λ (h : LentState). h .kept) l);
+          reply = g .reply ∙ sym (ap (λ (h : LentState). h .room) l);
           steady = g .steady;
         }
 
 -- ---- either
 
-module _ (s : Session) (window kept m w out : List ℕ) (used : ℕ) (ready : Ready s window kept m w out used) where
+module _ (s : Session) (window kept m w out : List ℕ) (used : ℕ) (ready : ReadyForPass s window kept m w out used) where
   at-work-now : (s .phase ≡ Opening → ⊥) → s .phase ≡ Running
   at-work-now k = at-work (s .phase) (s .plate) (s .board) kept m w k (ready .steady)
 

@@ -14,7 +14,7 @@ use Rattle.tape.specs.Answers.{Stage, opening, running, ended}
 use Rattle.tape.specs.Passes.{closing}
 use Rattle.tape.specs.Reader.{Printed}
 use Rattle.tape.proofs.Tight.{printed-tight}
-use Rattle.passes.specs.Sessions.{stageFrom, stageOf, noPlate, Starts, heldOver, Stands, Eats}
+use Rattle.passes.specs.Sessions.{stageFrom, stageOf, noPlate, AtTapeStart, lentOver, Stands, Eats}
 use Rattle.passes.specs.declared.session.Phase.{Phase}
 use Rattle.passes.specs.declared.session.Phase.the-variants.{Opening, Running, Ended}
 use Rattle.passes.specs.declared.session.Session.{Session}
@@ -25,7 +25,7 @@ sessions : {f f′ : Phase} {p p′ : Plate} {b b′ : Board} {n n′ : ℕ} →
     → _≡_ {A = Session} (record { phase = f; plate = p; board = b; place = n }) (record { phase = f′; plate = p′; board = b′; place = n′ })
 sessions i j k l = rw (i, j, k, l)
 
-pub start-tight : (a b : Session) → Starts a → Starts b → a ≡ b
+pub start-tight : (a b : Session) → AtTapeStart a → AtTapeStart b → a ≡ b
 start-tight a b i j =
     sessions (i .phase ∙ sym (j .phase)) (i .plate ∙ sym (j .plate)) (fresh-tight (plateOf noPlate) (a .board) (b .board) (i .board) (j .board)) (i .place ∙ sym (j .place))
 
@@ -86,7 +86,7 @@ pub eat-tight : (s : Session) (window kept m w out : List ℕ) (used : ℕ) {r t
     → Eats s window kept m w out used r kept′ m′ w′ out′ → Eats s window kept m w out used t kept″ m″ w″ out″ → Alike r t kept′ kept″ m′ m″ w′ w″ out′ out″
 eat-tight s window kept m w out used {r} {t} {kept′} {kept″} {m′} {m″} a b =
     let bytes : kept′ ≡ kept″ = a .bytes ∙ sym (b .bytes) in
-    let stands = stands-tight ((heldOver s window kept m w out used) .stage) s m (r .session) (t .session) kept′ m′ m″ (a .stands) (rw bytes (b .stands)) in
+    let stands = stands-tight ((lentOver s window kept m w out used) .stage) s m (r .session) (t .session) kept′ m′ m″ (a .stands) (rw bytes (b .stands)) in
     let phase = sym (phase-of (r .session) kept′ m′) ∙ ap phaseIn (a .stage ∙ sym (b .stage)) ∙ phase-of (t .session) kept″ m″ in
     let line = printed-tight (a .printed) (b .printed) in
     record {

@@ -8,7 +8,7 @@ use Rattle.line.specs.Line.{plateOf}
 use Rattle.board.specs.declared.limits.Board.{Board}
 use Rattle.board.specs.Board.{stateOf}
 use Rattle.tape.specs.Kinds.{Said}
-use Rattle.tape.specs.Passes.{heard, nothing, longestLine}
+use Rattle.tape.specs.Passes.{nextRecord, incomplete, longestLine}
 use Rattle.turns.specs.Openings.{Begins, Fails}
 use Rattle.passes.specs.declared.session.Phase.the-variants.{Opening}
 use Rattle.passes.specs.declared.session.Session.{Session}
@@ -26,7 +26,7 @@ pub data Working (s : Session) (window : List ℕ) (space : ℕ) (p : Plate) (b 
 -- before the plate: no space for a line, no whole record
 abbrev pub Idle : List ℕ → ℕ → Stop → Type 0
 Idle window space Full = space < longestLine
-Idle window space More = (longestLine ≤ space) × (heard window ≡ nothing)
+Idle window space More = (longestLine ≤ space) × (nextRecord window ≡ incomplete)
 Idle window space Over = ⊥
 
 abbrev pub BeginsBy : Session → List ℕ → ℕ → Plate → Board → Way → Type 0

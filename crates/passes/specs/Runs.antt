@@ -6,7 +6,7 @@ use lib.ListN.{length, drop}
 use Rattle.tape.specs.Text.{firstLine}
 use Rattle.tape.specs.Answers.{answersOf}
 use Rattle.tape.specs.Passes.{Feed, tapeOf, Settled, closing}
-use Rattle.passes.specs.Sessions.{stageOf, Starts, passOver, Eats}
+use Rattle.passes.specs.Sessions.{stageOf, AtTapeStart, passOver, Eats}
 use Rattle.passes.specs.declared.session.Session.{Session}
 use Rattle.passes.specs.declared.passes.Eaten.{Eaten}
 
@@ -17,7 +17,7 @@ pub record Stand : Type 0 where
   pub memory : List ℕ
   pub left : List ℕ
 
--- passes one after another: each over what is left and more bytes behind it, into a room with whatever space; the text is what they print
+-- passes one after another: each over what is left and more bytes behind it, into an output with whatever space; the text is what they print
 pub data Run : Stand → List Feed → Stand → List ℕ → Type 0 where
   rest : (a : Stand) → Run a [] a []
   pass : (a b : Stand) (f : Feed) (fs : List Feed) (text : List ℕ) (w out : List ℕ) (used : ℕ) (r : Eaten) (kept m w′ out′ : List ℕ) → f .space ≡ length out - used
@@ -28,5 +28,5 @@ pub data Run : Stand → List Feed → Stand → List ℕ → Type 0 where
 -- from the first byte to the last, in whatever parts: the first line, the lines of the passes and the end's line are those of the whole tape
 abbrev pub RunPrints : Type 0
 RunPrints =
-    (a b : Stand) (fs : List Feed) (text : List ℕ) → Starts (a .session) → a .left ≡ [] → Run a fs b text → Settled (stageOf (b .session) (b .kept) (b .memory)) (b .left)
+    (a b : Stand) (fs : List Feed) (text : List ℕ) → AtTapeStart (a .session) → a .left ≡ [] → Run a fs b text → Settled (stageOf (b .session) (b .kept) (b .memory)) (b .left)
     → firstLine ++ (text ++ closing (stageOf (b .session) (b .kept) (b .memory)) (b .session .place) (b .left)) ≡ answersOf (tapeOf fs)

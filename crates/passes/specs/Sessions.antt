@@ -17,7 +17,7 @@ use Rattle.tape.specs.Passes.{Pass, pass}
 use Rattle.tape.specs.Text.{badLine}
 use Rattle.tape.specs.Reader.{Printed}
 use Rattle.turns.specs.Turns.{Sound}
-use Rattle.passes.specs.Holding.{Held, holds, heldBy}
+use Rattle.passes.specs.Holding.{LentState, lentState, lentBy}
 use Rattle.passes.specs.declared.session.Phase.{Phase}
 use Rattle.passes.specs.declared.session.Phase.the-variants.{Opening, Running, Ended}
 use Rattle.passes.specs.declared.session.Session.{Session}
@@ -26,7 +26,7 @@ use Rattle.passes.specs.declared.session.Stop.the-variants.{More, Full, 
 use Rattle.passes.specs.declared.passes.Played.{Played}
 use Rattle.passes.specs.declared.passes.Eaten.{Eaten}
 
--- the lent memory has room for the largest plate; a board uses the front of it
+-- the lent memory is long enough for the largest plate; a board uses the front of it
 abbrev pub largestImage : ℕ
 largestImage = memoryLength 112
 
@@ -62,20 +62,20 @@ eatenBy p place end = record {
 abbrev pub noPlate : Plate
 noPlate = record { total = 0; bits = 0; address = 0; ticks = 0; pause = 0 }
 
-pub record Starts (s : Session) : Type 0 where
+pub record AtTapeStart (s : Session) : Type 0 where
   pub phase : s .phase ≡ Opening
   pub plate : s .plate ≡ noPlate
   pub board : (kept : List ℕ) → stateOf (s .board) kept ≡ fresh (plateOf noPlate)
   pub place : s .place ≡ 0
 
 -- what a pass of a running board leaves; h is what the lent bytes hold
-pub record Plays (p : Plate) (q : Pass) (h : Held) (from : ℕ) (window out : List ℕ) (used : ℕ) (r : Played) (kept′ m′ w′ out′ : List ℕ) : Type 0 where
+pub record Plays (p : Plate) (q : Pass) (h : LentState) (from : ℕ) (window out : List ℕ) (used : ℕ) (r : Played) (kept′ m′ w′ out′ : List ℕ) : Type 0 where
   pub read : r .at ≡ from + q .read
   pub inside : r .at ≤ length window
   pub stop : r .stop ≡ stopTold (q .stop)
   pub printed : Printed (q .printed) out used (r .used) out′
   pub stage : stageFrom (phaseAfter (r .stop)) p (r .board) kept′ m′ ≡ q .stage
-  pub held : holds (running (plateOf p) (stateOf (r .board) kept′) m′) kept′ w′ ≡ h
+  pub held : lentState (running (plateOf p) (stateOf (r .board) kept′) m′) kept′ w′ ≡ h
   pub sound : Sound p (r .board) kept′ m′ w′
 
 -- what each phase asks of the lent bytes: blank memory before the plate, then a board within its limits; after the end nothing is read
@@ -84,7 +84,7 @@ Steady Opening p b kept m w = m ≡ zeros largestImage
 Steady Running p b kept m w = Sound p b kept (take (memoryLength (p .total)) m) w
 Steady Ended p b kept m w = ⊥
 
-pub record Ready (s : Session) (window kept m w out : List ℕ) (used : ℕ) : Type 0 where
+pub record ReadyForPass (s : Session) (window kept m w out : List ℕ) (used : ℕ) : Type 0 where
   pub steady : Steady (s .phase) (s .plate) (s .board) kept m w
   pub lent : length kept ≡ 135
   pub size : length m ≡ largestImage
@@ -92,12 +92,12 @@ pub record Ready (s : Session) (window kept m w out : List ℕ) (used : ℕ) : T
   pub space : used ≤ length out
   pub place : s .place + length window < 2 ^ 64
 
--- the pass over a window with what space the room has, and what it leaves of the lent bytes
+-- the pass over a window with what space the output has, and what it leaves of the lent bytes
 abbrev pub passOver : Session → List ℕ → List ℕ → List ℕ → List ℕ → ℕ → Pass
 passOver s window kept m out used = pass (suc (length window)) (length out - used) (stageOf s kept m) (s .place) window
 
-abbrev pub heldOver : Session → List ℕ → List ℕ → List ℕ → List ℕ → List ℕ → ℕ → Held
-heldOver s window kept m w out used = heldBy (suc (length window)) (length out - used) (s .place) window (holds (stageOf s kept m) kept w)
+abbrev pub lentOver : Session → List ℕ → List ℕ → List ℕ → List ℕ → List ℕ → ℕ → LentState
+lentOver s window kept m w out used = lentBy (suc (length window)) (length out - used) (s .place) window (lentState (stageOf s kept m) kept w)
 
 -- the session's numbers where no plate came: as they were, and memory too
 pub record Unbegun (s : Session) (m : List ℕ) (s′ : Session) (m′ : List ℕ) : Type 0 where
@@ -126,9 +126,9 @@ pub record Eats (s : Session) (window kept m w out : List ℕ) (used : ℕ) (r :
   pub inside : r .read ≤ length window
   pub stop : r .stop ≡ stopTold ((passOver s window kept m out used) .stop)
   pub printed : Printed ((passOver s window kept m out used) .printed) out used (r .used) out′
-  pub stands : Stands ((heldOver s window kept m w out used) .stage) s m (r .session) kept′ m′
-  pub bytes : kept′ ≡ (heldOver s window kept m w out used) .kept
-  pub reply : w′ ≡ (heldOver s window kept m w out used) .room
+  pub stands : Stands ((lentOver s window kept m w out used) .stage) s m (r .session) kept′ m′
+  pub bytes : kept′ ≡ (lentOver s window kept m w out used) .kept
+  pub reply : w′ ≡ (lentOver s window kept m w out used) .room
   pub steady : (r .session .phase ≡ Ended → ⊥) → Steady (r .session .phase) (r .session .plate) (r .session .board) kept′ m′ w′
 
 -- a board at work
@@ -148,9 +148,9 @@ abbrev pub passFrom : Plate → Board → ℕ → List ℕ → ℕ → List ℕ 
 passFrom p b place window from kept m out used =
     pass (suc (length window)) (length out - used) (stageFrom Running p b kept (take (memoryLength (p .total)) m)) (place + from) (drop from window)
 
-abbrev pub heldFrom : Plate → Board → ℕ → List ℕ → ℕ → List ℕ → List ℕ → List ℕ → List ℕ → ℕ → Held
-heldFrom p b place window from kept m w out used =
-    heldBy (suc (length window)) (length out - used) (place + from) (drop from window) (holds (stageFrom Running p b kept (take (memoryLength (p .total)) m)) kept w)
+abbrev pub lentFrom : Plate → Board → ℕ → List ℕ → ℕ → List ℕ → List ℕ → List ℕ → List ℕ → ℕ → LentState
+lentFrom p b place window from kept m w out used =
+    lentBy (suc (length window)) (length out - used) (place + from) (drop from window) (lentState (stageFrom Running p b kept (take (memoryLength (p .total)) m)) kept w)
 
 pub record GoesOn (p : Plate) (b : Board) (place : ℕ) (window : List ℕ) (from : ℕ) (kept m w out : List ℕ) (used : ℕ) (r : Eaten) (kept′ m′ w′ out′ : List ℕ) : Type 0 where
   pub stage : stageOf (r .session) kept′ m′ ≡ (passFrom p b place window from kept m out used) .stage
@@ -159,12 +159,12 @@ pub record GoesOn (p : Plate) (b : Board) (place : ℕ) (window : List ℕ) (fro
   pub inside : r .read ≤ length window
   pub stop : r .stop ≡ stopTold ((passFrom p b place window from kept m out used) .stop)
   pub printed : Printed ((passFrom p b place window from kept m out used) .printed) out used (r .used) out′
-  pub stands : (s : Session) → Stands ((heldFrom p b place window from kept m w out used) .stage) s m (r .session) kept′ m′
-  pub bytes : kept′ ≡ (heldFrom p b place window from kept m w out used) .kept
-  pub reply : w′ ≡ (heldFrom p b place window from kept m w out used) .room
+  pub stands : (s : Session) → Stands ((lentFrom p b place window from kept m w out used) .stage) s m (r .session) kept′ m′
+  pub bytes : kept′ ≡ (lentFrom p b place window from kept m w out used) .kept
+  pub reply : w′ ≡ (lentFrom p b place window from kept m w out used) .room
   pub steady : (r .session .phase ≡ Ended → ⊥) → Steady (r .session .phase) (r .session .plate) (r .session .board) kept′ m′ w′
 
 -- the first record is bad
-pub record Refuses (s : Session) (out : List ℕ) (used : ℕ) (r : Eaten) (out′ : List ℕ) : Type 0 where
+pub record EndsBad (s : Session) (out : List ℕ) (used : ℕ) (r : Eaten) (out′ : List ℕ) : Type 0 where
   pub eaten : r ≡ record { session = record { phase = Ended; plate = s .plate; board = s .board; place = s .place }; read = 0; used = r .used; stop = Over }
   pub printed : Printed (badLine (s .place)) out used (r .used) out′

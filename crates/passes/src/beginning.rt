@@ -6,18 +6,19 @@ use crate::session::Session;
 use crate::session::Stop;
 use board::Board;
 use line::Plate;
+use tape::LONGEST_LINE;
 use turns::Opened;
 use turns::open;
 
 // It stops at once, for want of space or of bytes; the first record is bad; or a board works from a place of the window on.
-pub enum Way {
+pub(crate) enum Way {
     Stops { why: Stop },
     Bad,
     Works { from: usize },
 }
 
 // .. and the board that works, if one does.
-pub struct Begun {
+pub(crate) struct Begun {
     pub plate: Plate,
     pub board: Board,
     pub way: Way,
@@ -29,7 +30,7 @@ fn with_board(plate: Plate, board: Board, way: Way) -> Begun
     Begun { plate, board, way }
 }
 
-pub fn begin(session: Session, window: &[u8], space: usize) -> Begun
+pub(crate) fn begin(session: Session, window: &[u8], space: usize) -> Begun
     ensures { λ r. ⌜ BeginsWith session (now (window .entry)) space r ⌝ }
 {
     let plate = session.plate;
@@ -38,7 +39,7 @@ pub fn begin(session: Session, window: &[u8], space: usize) -> Begun
     let Phase::Opening = phase else {
         return with_board(plate, board, Way::Works { from: 0 });
     };
-    if space < 413 {
+    if space < LONGEST_LINE {
         return with_board(plate, board, Way::Stops { why: Stop::Full });
     }
     match open(window) {

@@ -8,9 +8,10 @@ ghost use Rattle.line.specs.Line.{plateOf};
 ghost use Rattle.board.specs.Board.{stateOf};
 ghost use Rattle.tape.specs.Answers.{running};
 ghost use Rattle.tape.specs.Passes.{pass, closing};
+ghost use Rattle.tape.specs.Text.{longestBadLine};
 ghost use Rattle.tape.specs.Reader.{Printed};
-ghost use Rattle.passes.specs.Holding.{holds, heldBy};
-ghost use Rattle.passes.specs.Sessions.{stageOf, phaseAfter, eatenBy, Plays, Playable, Lends, GoesOn, Refuses, Ready, Eats};
+ghost use Rattle.passes.specs.Holding.{lentState, lentBy};
+ghost use Rattle.passes.specs.Sessions.{stageOf, phaseAfter, eatenBy, Plays, Playable, Lends, GoesOn, EndsBad, ReadyForPass, Eats};
 use crate::beginning::Way;
 use crate::beginning::begin;
 use crate::session::Phase;
@@ -18,14 +19,15 @@ use crate::session::Session;
 use crate::session::Stop;
 use board::Board;
 use line::Plate;
+use tape::Event;
+use tape::LONGEST_LINE;
 use turns::Heard;
-use turns::Pace;
+use turns::closes_none;
 use turns::hear;
-use turns::quick;
 use turns::turn;
 
-// A running board after a pass: how far the window was read, how much of the room is used.
-pub struct Played {
+// A running board after a pass: how far the window was read, how much of the output is used.
+pub(crate) struct Played {
     pub board: Board,
     pub at: usize,
     pub used: usize,
@@ -64,29 +66,37 @@ fn play(
     start: usize,
 ) -> Played
     requires { ⌜ Playable plate first place (now window) from (now kept) (now memory) (now reply) (now out) start ⌝ }
-    ensures { λ r. ⌜ Plays plate (pass (suc (length (now (window .entry)))) (length (now (out .entry)) - start) (running (plateOf plate) (stateOf first (now (kept .entry))) (now (memory .entry))) (place + from) (drop from (now (window .entry)))) (heldBy (suc (length (now (window .entry)))) (length (now (out .entry)) - start) (place + from) (drop from (now (window .entry))) (holds (running (plateOf plate) (stateOf first (now (kept .entry))) (now (memory .entry))) (now (kept .entry)) (now (reply .entry)))) from (now (window .entry)) (now (out .entry)) start r (now (kept .exit)) (now (memory .exit)) (now (reply .exit)) (now (out .exit)) ⌝ }
+    ensures { λ r. ⌜ Plays plate (pass (suc (length (now (window .entry)))) (length (now (out .entry)) - start) (running (plateOf plate) (stateOf first (now (kept .entry))) (now (memory .entry))) (place + from) (drop from (now (window .entry)))) (lentBy (suc (length (now (window .entry)))) (length (now (out .entry)) - start) (place + from) (drop from (now (window .entry))) (lentState (running (plateOf plate) (stateOf first (now (kept .entry))) (now (memory .entry))) (now (kept .entry)) (now (reply .entry)))) from (now (window .entry)) (now (out .entry)) start r (now (kept .exit)) (now (memory .exit)) (now (reply .exit)) (now (out .exit)) ⌝ }
 {
     let mut board = first;
     let mut at = from;
     let mut used = start;
     loop {
-        if out.len() - used < 413 {
+        if out.len() - used < LONGEST_LINE {
             return halt(board, at, used, Stop::Full);
         }
         let Heard::Said { event, next } = hear(window, at) else {
             return halt(board, at, used, Stop::More);
         };
-        match quick(plate, board.frame, event, kept) {
-            Pace::Went(frame) => board.frame = frame,
-            Pace::Slow => {
-                let here = place + at as u64;
-                let turned = turn(plate, board, here, event, kept, memory, reply, out, used);
-                board = turned.board;
-                used = turned.used;
-                if turned.over {
-                    return halt(board, at, used, Stop::Over);
-                }
-            }
+        if closes_none(plate, board, event) {
+            at = next;
+            let Event::Character {
+                tick,
+                value,
+                parity,
+            } = event
+            else {
+                continue;
+            };
+            board = board.with_character(tick, value, parity, kept);
+            continue;
+        }
+        let here = place + at as u64;
+        let turned = turn(plate, board, here, event, kept, memory, reply, out, used);
+        board = turned.board;
+        used = turned.used;
+        if turned.over {
+            return halt(board, at, used, Stop::Over);
         }
         at = next;
     }
@@ -178,8 +188,8 @@ fn go_on(
 
 // 01, "prints the line `bad N` .. and ends".
 fn refuse(session: Session, out: &mut [u8], used: usize) -> Eaten
-    requires { ⌜ used + 25 ≤ length (now out) ⌝ }
-    ensures { λ r. ⌜ Refuses session (now (out .entry)) used r (now (out .exit)) ⌝ }
+    requires { ⌜ used + longestBadLine ≤ length (now out) ⌝ }
+    ensures { λ r. ⌜ EndsBad session (now (out .entry)) used r (now (out .exit)) ⌝ }
 {
     let end = tape::bad_line(session.place, out, used);
     let plate = session.plate;
@@ -193,7 +203,7 @@ fn refuse(session: Session, out: &mut [u8], used: usize) -> Eaten
     stopped(last, end, Stop::Over)
 }
 
-// A pass over the window: as many whole records as there is space for lines. The lines go into the room behind those that it holds.
+// A pass over the window: as many whole records as there is space for lines. The lines go behind those that the output holds.
 pub fn eat(
     session: Session,
     window: &[u8],
@@ -203,7 +213,7 @@ pub fn eat(
     out: &mut [u8],
     used: usize,
 ) -> Eaten
-    requires { ⌜ Ready session (now window) (now kept) (now memory) (now reply) (now out) used ⌝ }
+    requires { ⌜ ReadyForPass session (now window) (now kept) (now memory) (now reply) (now out) used ⌝ }
     ensures { λ r. ⌜ Eats session (now (window .entry)) (now (kept .entry)) (now (memory .entry)) (now (reply .entry)) (now (out .entry)) used r (now (kept .exit)) (now (memory .exit)) (now (reply .exit)) (now (out .exit)) ⌝ }
 {
     let begun = begin(session, window, out.len() - used);
@@ -228,7 +238,7 @@ pub fn eat(
 
 // The end of the tape: bytes that are left are a record cut short.
 pub fn finish(session: Session, rest: &[u8], out: &mut [u8], used: usize) -> usize
-    requires { ⌜ used + 25 ≤ length (now out) ⌝ }
+    requires { ⌜ used + longestBadLine ≤ length (now out) ⌝ }
     ensures { λ r. ⌜ ((kept m : List ℕ) → Printed (closing (stageOf session kept m) (session .place) (now (rest .entry))) (now (out .entry)) used r (now (out .exit))) ⌝ }
 {
     if rest.len() == 0 {

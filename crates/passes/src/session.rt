@@ -1,5 +1,5 @@
 // Where a tape stands between two of its parts.
-ghost use Rattle.passes.specs.Sessions.{Starts};
+ghost use Rattle.passes.specs.Sessions.{AtTapeStart};
 use board::Board;
 use line::Plate;
 
@@ -28,7 +28,7 @@ pub struct Session {
 impl Session {
     // A tape at its first byte.
     pub fn start() -> Session
-        ensures { λ r. ⌜ Starts r ⌝ }
+        ensures { λ r. ⌜ AtTapeStart r ⌝ }
     {
         let plate = Plate {
             total: 0,

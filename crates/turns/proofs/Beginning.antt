@@ -13,9 +13,9 @@ use Rattle.tape.specs.declared.kinds.Event.the-variants as event
 use Rattle.tape.specs.Kinds.{Said, plate, call, unfit}
 use Rattle.tape.specs.Answers.{turn, begun}
 use Rattle.tape.specs.Reader.{saidOf}
-use Rattle.tape.specs.Passes.{heard, said}
+use Rattle.tape.specs.Passes.{nextRecord, says}
 use Rattle.tape.proofs.kinds.Event.{the-type}
-use Rattle.turns.specs.Hearing.{Told, not-yet, tells, toldAt, Past, Hears}
+use Rattle.turns.specs.Hearing.{Readout, not-yet, tells, readoutAt, Past, Hears}
 use Rattle.turns.specs.Openings.{checked, begunBy, openedBy, Opens}
 use Rattle.turns.specs.declared.opening.Opened.{Opened}
 use Rattle.turns.specs.declared.opening.Opened.the-variants as opened
@@ -37,7 +37,7 @@ fitting (call g) = Unit
 fitting unfit = ⊥
 
 module _ (window : List ℕ) where
-  plate-opens : (p : Plate) (next : ℕ) → heard window ≡ said (plate p) → Past 0 window next → Opens window (checked p next)
+  plate-opens : (p : Plate) (next : ℕ) → nextRecord window ≡ says (plate p) → Past 0 window next → Opens window (checked p next)
   unfolding checked turn begun
   plate-opens p next h past = go (plateOk p) refl
     where
@@ -46,12 +46,12 @@ module _ (window : List ℕ) where
       go true e = (plate p, record { good = e; heard = h; turned = λ place. rw e; whole = rw zero-add at (past .whole); inside = past .inside })
       go false e = (plate p, record { heard = h; turned = λ place. rw e })
 
-  opens-told : (x : Told) → Hears 0 window x → Opens window (openedBy x)
+  opens-told : (x : Readout) → Hears 0 window x → Opens window (openedBy x)
   unfolding turn
   opens-told not-yet h = sym (h .heard)
   opens-told (tells (plate p) next) h = plate-opens p next (sym (h .heard)) (h .next (λ e. subst fitting e tt))
   opens-told (tells (call g) next) h = (call g, record { heard = sym (h .heard); turned = λ place. refl })
   opens-told (tells unfit next) h = (unfit, record { heard = sym (h .heard); turned = λ place. refl })
 
-  pub opens-as : (r v : Opened) → r ≡ openedBy (toldAt 0 window) → r ≡ v → Opens window v
-  opens-as r v e k = rw (sym k ∙ e) (opens-told (toldAt 0 window) (hears 0 window (toldAt 0 window) refl))
+  pub opens-as : (r v : Opened) → r ≡ openedBy (readoutAt 0 window) → r ≡ v → Opens window v
+  opens-as r v e k = rw (sym k ∙ e) (opens-told (readoutAt 0 window) (hears 0 window (readoutAt 0 window) refl))

@@ -1,33 +1,31 @@
 -- What one record does to a running board. Assumes nothing.
 use Prim.Native.Nat.{ℕ, _+_, _≤_, _<_}
 use mathlib.Core.Path.{_≡_, refl, sym, ap, _∙_}
-use mathlib.Core.Bool.{Bool, true, false, not}
+use mathlib.Core.Bool.{Bool, true, false, not, false≢true}
 use mathlib.Core.List.{List, [], _∷_}
 use native.Mathlib.Omega.{arith}
 use native.Mathlib.Nat.{add-zero}
-use lib.ListN.{length, take, drop, take-append-drop}
+use lib.ListN.{length, take, drop, length-replicate}
 use lib.Seq.{length-take-le, take-append-seam}
 use types.Run.{OneOf, miss}
 use denote.Enum.Declared.{tagOf}
-use Rattle.meaning.specs.Bytes.{pick, put}
+use Rattle.meaning.specs.Bytes.{pick, put, zeros}
 use Rattle.meaning.specs.State as meaning
-use Rattle.meaning.specs.State.{none, withLine}
-use Rattle.meaning.specs.Characters.{over, more, taken}
-use Rattle.meaning.specs.Frames.{still, upTo}
+use Rattle.meaning.specs.Characters.{over}
+use Rattle.meaning.specs.Frames.{Outcome, still}
 use Rattle.meaning.specs.Run.{Call, character, poll, measured, fault, power-on, step, closes}
-use Rattle.meaning.proofs.Limits.{keeps-limits, replies-fit}
+use Rattle.meaning.proofs.Limits.{replies-fit}
 use Rattle.meaning.proofs.Puts.{length-put, put-front}
 use Rattle.line.specs.declared.plate.Plate.{Plate}
-use Rattle.line.specs.declared.characters.OpenFrame.{OpenFrame}
-use Rattle.line.specs.Line.{plateOf, lineOf, Extends, Fits}
-use Rattle.state.specs.declared.state.State.{State}
-use Rattle.state.specs.State.{stateWith}
+use Rattle.line.specs.Line.{plateOf}
 use Rattle.board.specs.declared.limits.Board.{Board}
 use Rattle.board.specs.declared.limits.Outcome.the-variants.{Over, Still}
 use Rattle.board.specs.declared.limits.Stepped.{Stepped}
 use Rattle.board.specs.Board as board
-use Rattle.board.specs.Board.{stateOf, refusalOn}
+use Rattle.board.specs.Board.{stateOf, fitsIn, replyLength, refusalOn}
 use Rattle.board.specs.Promises.{DoesStep}
+use Rattle.board.specs.Quick.{TakesIn, ClosesNone}
+use Rattle.board.proofs.Quickening.{quiet-step, taken-quickly, polled-quickly, quick-steps}
 use Rattle.board.proofs.Stepping.{held-on}
 use Rattle.board.proofs.Promises.{does-step, unrefused, stays-within}
 use Rattle.tape.specs.declared.kinds.Event.{Event}
@@ -41,61 +39,62 @@ use Rattle.tape.specs.Reader.{saidOf, Printed}
 use Rattle.tape.specs.Passes.{longestLine}
 use Rattle.tape.proofs.Outputs.{put-nil}
 use Rattle.tape.proofs.kinds.Event.{the-type}
-use Rattle.turns.specs.Turns.{Sound, quickly, Quiet, Steps, Refuses, Turns, sentOf, Fitting, Answered}
+use Rattle.turns.specs.Turns.{Sound, runs, quickly, Quiet, CallsBoard, NotCalled, Turns, Fitting, Answered}
 use Rattle.turns.specs.declared.answering.Turned.{Turned}
-use Rattle.meaning.proofs.Choices.{told-true}
+
+not-both : true ≡ false → ⊥
+not-both e = false≢true (sym e)
 
 -- a call that closes nothing brings no reply
 silent-still : (p : meaning.Plate) (s : meaning.State) (m : List ℕ) (g : Call) → closes p s g ≡ false → (step p s m g) .reply ≡ []
-unfolding step closes upTo still
-silent-still p s m (character t v bad) e = rw e
-silent-still p s m (poll t) e = rw e
-silent-still p s m (measured n) e = refl
-silent-still p s m (fault c) e = refl
-silent-still p s m power-on e = refl
+unfolding still
+silent-still p s m g e = ap (λ (o : Outcome). o .reply) (quiet-step p s m g e)
 
--- a character that closes no frame
-module _ (p : Plate) (f g : OpenFrame) (kept kept′ : List ℕ) (t v : ℕ) (bad : Bool)
-    (stays : (s : State) → over (plateOf p) (stateWith s (lineOf f kept)) t ≡ false)
-    (grown : Extends (more (pick (f .begun) (lineOf f kept) none) t v bad) kept g kept′) (lent : length kept′ ≡ 135) where
-  -- the meaning's step
-  grows : (s : State) (m : List ℕ) → (step (plateOf p) (stateWith s (lineOf f kept)) m (character t v bad)) .state ≡ stateWith s (lineOf g kept′)
-  unfolding step upTo still taken withLine
-  grows s m = rw (stays s, grown .line)
+-- ---- the quick way
 
-  pub quiet-character : Quiet p f kept (call (character t v bad)) g kept′
-  unfolding turn stepped printedOf step upTo still taken withLine closes
-  quiet-character = record {
-    quick = λ s. ap not (stays s);
-    turned = λ s m place. rw (stays s, grown .line);
-    silent = λ s m. silent-still (plateOf p) (stateWith s (lineOf f kept)) m (character t v bad) (stays s);
-    bytes = grown .bytes ∙ ap (λ (l : meaning.Line). put kept 0 (l .kept)) (sym (grown .line));
-    few = grown .few;
-    within = λ s m h. record {
-      plate = h .plate;
-      state = rw (← grows s m)
-          (told-true _ (keeps-limits (plateOf p) (stateWith s (lineOf f kept)) m (character t v bad) (rw (h .state) tt)));
-      few = grown .few;
-      places = lent;
-      size = h .size;
-    };
+module _ (p : Plate) (b : Board) (kept : List ℕ) (g : Call) (told : quickly (plateOf p) (stateOf b kept) (call g) ≡ not (closes (plateOf p) (stateOf b kept) g)) where
+  quiet-turn : {b′ : Board} {kept′ : List ℕ} → ClosesNone (plateOf p) b kept g b′ kept′ → (m : List ℕ) (place : ℕ)
+      → turn (runs p b kept m) place (call g) ≡ record { stage = runs p b′ kept′ m; printed = [] }
+  unfolding turn stepped printedOf still
+  quiet-turn q m place = rw (quiet-step (plateOf p) (stateOf b kept) m g (q .none), ← q .state m)
+
+  went-quiet : {b′ : Board} {kept′ : List ℕ} → ClosesNone (plateOf p) b kept g b′ kept′ → Quiet p b kept (call g) b′ kept′
+  went-quiet q = record {
+    quick = told ∙ ap not (q .none);
+    turned = quiet-turn q;
+    silent = λ m. silent-still (plateOf p) (stateOf b kept) m g (q .none);
+    bytes = q .bytes;
+    fits = q .fits;
+    within = λ m h.
+        let wide : 134 ≤ length (zeros 134) = omega (arith, length-replicate {A = ℕ} 134 0) in
+        stays-within (plateOf p) b kept m (zeros 134) g h wide
+        (quick-steps (plateOf p) b kept m (zeros 134) g (unrefused (plateOf p) b kept m (length (zeros 134)) g h wide) q);
   }
 
--- the front of a list put where it stands
-front-stays : (n : ℕ) (l : List ℕ) → n ≤ length l → l ≡ put l 0 (take n l)
-front-stays n l h = rw (put-front l (take n l), length-take-le n l h) (sym (take-append-drop n l))
+-- what is quick closes nothing
+quick-open : (t : Bool) → not t ≡ true → t ≡ false
+quick-open true e = absurd (not-both (sym e))
+quick-open false e = refl
 
-module _ (p : Plate) (f : OpenFrame) (kept : List ℕ) (t : ℕ) (fits : Fits f kept) (stays : (s : State) → over (plateOf p) (stateWith s (lineOf f kept)) t ≡ false) where
-  pub quiet-poll : Quiet p f kept (call (poll t)) f kept
-  unfolding turn stepped printedOf step upTo still closes
-  quiet-poll = record {
-    quick = λ s. ap not (stays s);
-    turned = λ s m place. rw (stays s);
-    silent = λ s m. silent-still (plateOf p) (stateWith s (lineOf f kept)) m (poll t) (stays s);
-    bytes = front-stays (f .len) kept (omega (arith, fits .few, fits .all));
-    few = fits .few;
-    within = λ s m h. h;
-  }
+pub quiet-character : (p : Plate) (b : Board) (kept : List ℕ) (e : Event) (t v : ℕ) (bad : Bool) {b′ : Board} {kept′ : List ℕ}
+    → quickly (plateOf p) (stateOf b kept) (saidOf e) ≡ true → e ≡ event.Character t v bad → TakesIn b kept t v bad b′ kept′ → Quiet p b kept (saidOf e) b′ kept′
+unfolding closes
+quiet-character p b kept e t v bad q k x =
+    let o : over (plateOf p) (stateOf b kept) t ≡ false = quick-open (over (plateOf p) (stateOf b kept) t) (rw k at q) in
+    rw k (went-quiet p b kept (character t v bad) refl (taken-quickly (plateOf p) b kept t o x))
+
+-- a quick record that is no character is a poll, and changes nothing
+pub quiet-poll : (p : Plate) (b : Board) (kept : List ℕ) (e : Event) → quickly (plateOf p) (stateOf b kept) (saidOf e) ≡ true
+    → OneOf (0 ∷ 2 ∷ 3 ∷ 4 ∷ 5 ∷ 6 ∷ []) (tagOf the-type e) → fitsIn b kept ≡ true → Quiet p b kept (saidOf e) b kept
+unfolding closes
+quiet-poll p b kept (event.Plate t q a u w) k i f = absurd (not-both (sym k))
+quiet-poll p b kept (event.Character t v bad) k i f = absurd (miss (0 ∷ 2 ∷ 3 ∷ 4 ∷ 5 ∷ 6 ∷ []) 1 tt i)
+quiet-poll p b kept (event.Poll t) k i f =
+    went-quiet p b kept (poll t) refl (polled-quickly (plateOf p) b kept t (quick-open (over (plateOf p) (stateOf b kept) t) k) f)
+quiet-poll p b kept (event.Measured n) k i f = absurd (not-both (sym k))
+quiet-poll p b kept (event.Fault c) k i f = absurd (not-both (sym k))
+quiet-poll p b kept event.PowerOn k i f = absurd (not-both (sym k))
+quiet-poll p b kept event.Unfit k i f = absurd (not-both (sym k))
 
 -- a record of another kind
 pub other-kind : (e : Event) (p : meaning.Plate) (s : meaning.State) → OneOf (0 ∷ 3 ∷ 4 ∷ 5 ∷ 6 ∷ []) (tagOf the-type e) → quickly p s (saidOf e) ≡ false
@@ -113,11 +112,11 @@ printed-line tick [] h = absurd (omega arith)
 printed-line tick (b ∷ l) h = refl
 
 -- a line for a reply, none for silence
-module _ (tick : ℕ) (st : Stepped) (w out : List ℕ) (used n : ℕ) (r : Turned) (same : n ≡ sentOf (st .outcome)) where
+module _ (tick : ℕ) (st : Stepped) (w out : List ℕ) (used n : ℕ) (r : Turned) (same : n ≡ replyLength (st .outcome)) where
   pub no-line : r ≡ record { board = st .board; used = used; over = false } → n ≡ 0 → used ≤ length out → Answered tick st w out used r out
   unfolding printedOf
   no-line e z h =
-      let k : take (sentOf (st .outcome)) w ≡ [] = ap (λ (i : ℕ). take i w) (sym same ∙ z) in
+      let k : take (replyLength (st .outcome)) w ≡ [] = ap (λ (i : ℕ). take i w) (sym same ∙ z) in
       record {
         board = ap (λ (x : Turned). x .board) e;
         over = ap (λ (x : Turned). x .over) e;
@@ -127,7 +126,7 @@ module _ (tick : ℕ) (st : Stepped) (w out : List ℕ) (used n : ℕ) (r : Turn
   pub a-line : (end : ℕ) (out′ : List ℕ) → r ≡ record { board = st .board; used = end; over = false } → (n ≡ 0 → ⊥) → n ≤ length w
       → Printed (text.replyLine tick (take n w)) out used end out′ → Answered tick st w out used r out′
   a-line end out′ e z h p =
-      let k : printedOf (poll tick) (take (sentOf (st .outcome)) w) ≡ text.replyLine tick (take n w) = rw (← same) (printed-line tick (take n w) (simp length-take-le (omega arith))) in
+      let k : printedOf (poll tick) (take (replyLength (st .outcome)) w) ≡ text.replyLine tick (take n w) = rw (← same) (printed-line tick (take n w) (simp length-take-le (omega arith))) in
       record {
         board = ap (λ (x : Turned). x .board) e;
         over = ap (λ (x : Turned). x .over) e;
@@ -149,29 +148,29 @@ as-poll tick v bad (b ∷ l) = refl
 
 module _ {p : Plate} {b : Board} {kept m w : List ℕ} {r : Stepped} {kept′ m′ w′ : List ℕ} where
   pub character-called : (t v : ℕ) (f : Bool) → board.Steps (plateOf p) b kept m w (character t v f) r kept′ m′ w′
-      → Steps p b (saidOf (event.Character t v f)) kept m w t r kept′ m′ w′
+      → CallsBoard p b (saidOf (event.Character t v f)) kept m w t r kept′ m′ w′
   character-called t v f s = record { asked = character t v f; said = refl; stepped = s; line = as-poll t v f _ }
 
-  pub poll-called : (t : ℕ) → board.Steps (plateOf p) b kept m w (poll t) r kept′ m′ w′ → Steps p b (saidOf (event.Poll t)) kept m w t r kept′ m′ w′
+  pub poll-called : (t : ℕ) → board.Steps (plateOf p) b kept m w (poll t) r kept′ m′ w′ → CallsBoard p b (saidOf (event.Poll t)) kept m w t r kept′ m′ w′
   poll-called t s = record { asked = poll t; said = refl; stepped = s; line = refl }
 
-  unasked-called : (g : Call) → closes (plateOf p) (stateOf b kept) g ≡ false → board.Steps (plateOf p) b kept m w g r kept′ m′ w′ → Steps p b (call g) kept m w 0 r kept′ m′ w′
+  unasked-called : (g : Call) → closes (plateOf p) (stateOf b kept) g ≡ false → board.Steps (plateOf p) b kept m w g r kept′ m′ w′ → CallsBoard p b (call g) kept m w 0 r kept′ m′ w′
   unasked-called g e s = record { asked = g; said = refl; stepped = s; line = unheard (plateOf p) (stateOf b kept) m g e }
 
-  pub measured-called : (n : ℕ) → board.Steps (plateOf p) b kept m w (measured n) r kept′ m′ w′ → Steps p b (saidOf (event.Measured n)) kept m w 0 r kept′ m′ w′
+  pub measured-called : (n : ℕ) → board.Steps (plateOf p) b kept m w (measured n) r kept′ m′ w′ → CallsBoard p b (saidOf (event.Measured n)) kept m w 0 r kept′ m′ w′
   unfolding closes
   measured-called n s = unasked-called (measured n) refl s
 
-  pub fault-called : (c : ℕ) → board.Steps (plateOf p) b kept m w (fault c) r kept′ m′ w′ → Steps p b (saidOf (event.Fault c)) kept m w 0 r kept′ m′ w′
+  pub fault-called : (c : ℕ) → board.Steps (plateOf p) b kept m w (fault c) r kept′ m′ w′ → CallsBoard p b (saidOf (event.Fault c)) kept m w 0 r kept′ m′ w′
   unfolding closes
   fault-called c s = unasked-called (fault c) refl s
 
-  pub power-on-called : board.Steps (plateOf p) b kept m w power-on r kept′ m′ w′ → Steps p b (saidOf event.PowerOn) kept m w 0 r kept′ m′ w′
+  pub power-on-called : board.Steps (plateOf p) b kept m w power-on r kept′ m′ w′ → CallsBoard p b (saidOf event.PowerOn) kept m w 0 r kept′ m′ w′
   unfolding closes
   power-on-called s = unasked-called power-on refl s
 
 -- a second plate, or a record that fits nothing
-pub none-called : (e : Event) (kept m w : List ℕ) → OneOf (0 ∷ 6 ∷ []) (tagOf the-type e) → Refuses (saidOf e) kept m w kept m w
+pub none-called : (e : Event) (kept m w : List ℕ) → OneOf (0 ∷ 6 ∷ []) (tagOf the-type e) → NotCalled (saidOf e) kept m w kept m w
 unfolding turn
 none-called (event.Plate t p a b u) kept m w k =
     record { bad = λ v s n place. refl; silent = λ v s n. refl; bytes = refl; memory = refl; room = refl }
@@ -186,7 +185,7 @@ none-called event.Unfit kept m w k =
 -- ---- what the call leaves, and its line
 
 module _ (p : Plate) (b : Board) (x : Said) (kept m w : List ℕ) (tick : ℕ) (r : Stepped) (kept′ m′ w′ : List ℕ)
-    (sound : Sound p b kept m w) (steps : Steps p b x kept m w tick r kept′ m′ w′) where
+    (sound : Sound p b kept m w) (steps : CallsBoard p b x kept m w tick r kept′ m′ w′) where
   abbrev g : Call
   g = steps .asked
 
@@ -202,30 +201,30 @@ module _ (p : Plate) (b : Board) (x : Said) (kept m w : List ℕ) (tick : ℕ) (
   short : length reply ≤ 134
   short = replies-fit (plateOf p) (stateOf b kept) m g
 
-  same-room : length w′ ≡ length w
-  same-room = ap length (done .room) ∙ length-put w 0 reply (omega (arith, short, sound .room))
+  same-length : length w′ ≡ length w
+  same-length = ap length (done .room) ∙ length-put w 0 reply (omega (arith, short, sound .room))
 
   -- the reply stands at the front of its room
-  front : (c : Bool) → closes (plateOf p) (stateOf b kept) g ≡ c → sentOf (pick c (Over (length reply)) Still) ≡ length reply
+  front : (c : Bool) → closes (plateOf p) (stateOf b kept) g ≡ c → replyLength (pick c (Over (length reply)) Still) ≡ length reply
   front true e = refl
   front false e = ap length (sym (silent-still (plateOf p) (stateOf b kept) m g e))
 
-  sent-is : sentOf (r .outcome) ≡ length reply
-  sent-is = ap sentOf (done .outcome) ∙ front (closes (plateOf p) (stateOf b kept) g) refl
+  sent-is : replyLength (r .outcome) ≡ length reply
+  sent-is = ap replyLength (done .outcome) ∙ front (closes (plateOf p) (stateOf b kept) g) refl
 
-  heard-reply : take (sentOf (r .outcome)) w′ ≡ reply
+  heard-reply : take (replyLength (r .outcome)) w′ ≡ reply
   heard-reply = ap (λ (n : ℕ). take n w′) sent-is ∙ ap (take (length reply)) (done .room ∙ put-front w reply) ∙ take-append-seam reply (drop (length reply) w)
 
   still-sound : Sound p (r .board) kept′ m′ w′
   still-sound = record {
     within = stays-within (plateOf p) b kept m w g (sound .within) (sound .room) (steps .stepped);
-    room = omega (arith, same-room, sound .room);
+    room = omega (arith, same-length, sound .room);
   }
 
-  pub fitting : (out : List ℕ) (used : ℕ) → used + longestLine ≤ length out → Fitting (sentOf (r .outcome)) w′ out used
+  pub fitting : (out : List ℕ) (used : ℕ) → used + longestLine ≤ length out → Fitting (replyLength (r .outcome)) w′ out used
   fitting out used h = record {
     few = omega (arith, sent-is, short);
-    room = omega (arith, sent-is, short, same-room, sound .room);
+    room = omega (arith, sent-is, short, same-length, sound .room);
     space = h;
   }
 
@@ -249,7 +248,7 @@ module _ (p : Plate) (b : Board) (x : Said) (kept m w : List ℕ) (tick : ℕ) (
       })
 
 -- a bad record changes nothing
-pub turns-bad : (p : Plate) (b : Board) (x : Said) (kept m w kept′ m′ w′ out out′ : List ℕ) (used end place : ℕ) (q : Turned) → Sound p b kept m w → Refuses x kept m w kept′ m′ w′
+pub turns-bad : (p : Plate) (b : Board) (x : Said) (kept m w kept′ m′ w′ out out′ : List ℕ) (used end place : ℕ) (q : Turned) → Sound p b kept m w → NotCalled x kept m w kept′ m′ w′
     → Printed (badLine place) out used end out′ → q ≡ record { board = b; used = end; over = true }
     → Turns p (running (plateOf p) (stateOf b kept) m) place x kept w out used q kept′ m′ w′ out′
 unfolding answers.badRecord

@@ -14,7 +14,7 @@ use Rattle.tape.specs.Records.{wholeLength}
 use Rattle.tape.specs.Kinds.{Said, plate, call, unfit}
 use Rattle.tape.specs.Answers.{opening, running, badRecord, turn}
 use Rattle.tape.specs.Passes as passes
-use Rattle.turns.specs.Hearing.{Told, not-yet, tells}
+use Rattle.turns.specs.Hearing.{Readout, not-yet, tells}
 use Rattle.turns.specs.declared.opening.Opened.{Opened}
 use Rattle.turns.specs.declared.opening.Opened.the-variants as opened
 
@@ -27,24 +27,24 @@ begunBy (plate p) next = checked p next
 begunBy (call g) next = opened.Bad
 begunBy unfit next = opened.Bad
 
-abbrev pub openedBy : Told → Opened
+abbrev pub openedBy : Readout → Opened
 openedBy not-yet = opened.More
 openedBy (tells x next) = begunBy x next
 
 -- the window begins with a good plate
 pub record Begins (window : List ℕ) (p : Plate) (next : ℕ) (x : Said) : Type 0 where
   pub good : plateOk (plateOf p) ≡ true
-  pub heard : passes.heard window ≡ passes.said x
+  pub heard : passes.nextRecord window ≡ passes.says x
   pub turned : (place : ℕ) → turn opening place x ≡ record { stage = running (plateOf p) (fresh (plateOf p)) (zeros (memoryLength (p .total))); printed = [] }
   pub whole : next ≡ wholeLength window
   pub inside : next ≤ length window
 
 -- or with a record that is bad there
 pub record Fails (window : List ℕ) (x : Said) : Type 0 where
-  pub heard : passes.heard window ≡ passes.said x
+  pub heard : passes.nextRecord window ≡ passes.says x
   pub turned : (place : ℕ) → turn opening place x ≡ badRecord place
 
 abbrev pub Opens : List ℕ → Opened → Type 0
 Opens window (opened.Plate p next) = (x : Said) × Begins window p next x
-Opens window opened.More = passes.heard window ≡ passes.nothing
+Opens window opened.More = passes.nextRecord window ≡ passes.incomplete
 Opens window opened.Bad = (x : Said) × Fails window x

@@ -9,24 +9,17 @@ use Rattle.meaning.specs.State as meaning
 use Rattle.meaning.specs.Characters.{over}
 use Rattle.meaning.specs.Run.{Call, character, poll, measured, fault, power-on, step}
 use Rattle.line.specs.declared.plate.Plate.{Plate}
-use Rattle.line.specs.declared.characters.OpenFrame.{OpenFrame}
-use Rattle.line.specs.Line.{plateOf, lineOf}
-use Rattle.state.specs.declared.state.State.{State}
-use Rattle.state.specs.State.{stateWith}
+use Rattle.line.specs.Line.{plateOf}
 use Rattle.board.specs.declared.limits.Board.{Board}
-use Rattle.board.specs.declared.limits.Outcome.{Outcome}
-use Rattle.board.specs.declared.limits.Outcome.the-variants.{Refused, Still, Over}
 use Rattle.board.specs.declared.limits.Stepped.{Stepped}
 use Rattle.board.specs.Board as board
-use Rattle.board.specs.Board.{stateOf}
+use Rattle.board.specs.Board.{stateOf, fitsIn, replyLength}
 use Rattle.board.specs.Promises.{Within}
 use Rattle.tape.specs.Kinds.{Said, plate, call, unfit}
 use Rattle.tape.specs.Answers as answers
 use Rattle.tape.specs.Answers.{Stage, opening, running, ended, turn, printedOf}
 use Rattle.tape.specs.Reader.{Printed}
 use Rattle.tape.specs.Passes.{longestLine}
-use Rattle.turns.specs.declared.answering.Pace.{Pace}
-use Rattle.turns.specs.declared.answering.Pace.the-variants.{Went, Slow}
 use Rattle.turns.specs.declared.answering.Called.{Called}
 use Rattle.turns.specs.declared.answering.Turned.{Turned}
 
@@ -36,8 +29,8 @@ pub record Sound (p : Plate) (b : Board) (kept m w : List ℕ) : Type 0 where
   pub room : 134 ≤ length w
 
 -- a stage of a running board
-abbrev pub runs : Plate → State → OpenFrame → List ℕ → List ℕ → Stage
-runs p s f kept m = running (plateOf p) (stateWith s (lineOf f kept)) m
+abbrev pub runs : Plate → Board → List ℕ → List ℕ → Stage
+runs p b kept m = running (plateOf p) (stateOf b kept) m
 
 -- the reply that a record brings, and the bytes that a stage keeps of an open frame
 abbrev pub replyTo : Stage → Said → List ℕ
@@ -47,10 +40,10 @@ replyTo (running p s m) (call g) = (step p s m g) .reply
 replyTo (running p s m) unfit = []
 replyTo ended x = []
 
-abbrev pub keptIn : Stage → List ℕ
-keptIn opening = []
-keptIn (running p s m) = s .line .kept
-keptIn ended = []
+abbrev pub stageKept : Stage → List ℕ
+stageKept opening = []
+stageKept (running p s m) = s .line .kept
+stageKept ended = []
 
 -- 01, "prints the line `bad N`, .. and ends": a bad record changes nothing else
 abbrev pub isEnded : Stage → Bool
@@ -73,43 +66,33 @@ quickly p s (call (fault c)) = false
 quickly p s (call power-on) = false
 quickly p s unfit = false
 
--- a record that closes no frame: whatever state, memory and place, the turn prints nothing and leaves the frame f. Places past the kept bytes
--- are untouched
-pub record Quiet (p : Plate) (f₀ : OpenFrame) (kept : List ℕ) (x : Said) (f : OpenFrame) (kept′ : List ℕ) : Type 0 where
-  pub quick : (s : State) → quickly (plateOf p) (stateWith s (lineOf f₀ kept)) x ≡ true
-  pub turned : (s : State) (m : List ℕ) (place : ℕ) → turn (runs p s f₀ kept m) place x ≡ record { stage = runs p s f kept′ m; printed = [] }
-  pub silent : (s : State) (m : List ℕ) → replyTo (runs p s f₀ kept m) x ≡ []
-  pub bytes : kept′ ≡ put kept 0 (take (f .len) kept′)
-  pub few : f .len ≤ 135
-  pub within : (s : State) (m : List ℕ) → Within (plateOf p) (record { state = s; frame = f₀ }) kept m → Within (plateOf p) (record { state = s; frame = f }) kept′ m
+-- a record that closes no frame: whatever memory and place, the turn prints nothing and leaves the board b′. Places past the kept bytes are untouched
+pub record Quiet (p : Plate) (b : Board) (kept : List ℕ) (x : Said) (b′ : Board) (kept′ : List ℕ) : Type 0 where
+  pub quick : quickly (plateOf p) (stateOf b kept) x ≡ true
+  pub turned : (m : List ℕ) (place : ℕ) → turn (runs p b kept m) place x ≡ record { stage = runs p b′ kept′ m; printed = [] }
+  pub silent : (m : List ℕ) → replyTo (runs p b kept m) x ≡ []
+  pub bytes : kept′ ≡ put kept 0 ((stateOf b′ kept′) .line .kept)
+  pub fits : fitsIn b′ kept′ ≡ true
+  pub within : (m : List ℕ) → Within (plateOf p) b kept m → Within (plateOf p) b′ kept′ m
 
--- any other
-pub record Waits (p : Plate) (f : OpenFrame) (kept : List ℕ) (x : Said) (kept′ : List ℕ) : Type 0 where
-  pub slow : (s : State) → quickly (plateOf p) (stateWith s (lineOf f kept)) x ≡ false
-  pub bytes : kept′ ≡ kept
-
-abbrev pub Quickens : Plate → OpenFrame → List ℕ → Said → Pace → List ℕ → Type 0
-Quickens p f kept x (Went g) kept′ = Quiet p f kept x g kept′
-Quickens p f kept x Slow kept′ = Waits p f kept x kept′
-
--- what a record leaves of a board in the stage v, of the lent bytes and of the room, and what it prints
+-- what a record leaves of a board in the stage v, of the lent bytes and of the reply room, and what it prints
 pub record Turns (p : Plate) (v : Stage) (place : ℕ) (x : Said) (kept w out : List ℕ) (used : ℕ) (r : Turned) (kept′ m′ w′ out′ : List ℕ) : Type 0 where
   pub printed : Printed ((turn v place x) .printed) out used (r .used) out′
   pub over : r .over ≡ isEnded ((turn v place x) .stage)
   pub stage : running (plateOf p) (stateOf (r .board) kept′) m′ ≡ lastOf v ((turn v place x) .stage)
-  pub bytes : kept′ ≡ put kept 0 (keptIn ((turn v place x) .stage))
+  pub bytes : kept′ ≡ put kept 0 (stageKept ((turn v place x) .stage))
   pub room : w′ ≡ put w 0 (replyTo v x)
   pub sound : Sound p (r .board) kept′ m′ w′
 
 -- the board's call for what a record says; a call that brings a reply has its tick
-pub record Steps (p : Plate) (b : Board) (x : Said) (kept m w : List ℕ) (tick : ℕ) (r : Stepped) (kept′ m′ w′ : List ℕ) : Type 0 where
+pub record CallsBoard (p : Plate) (b : Board) (x : Said) (kept m w : List ℕ) (tick : ℕ) (r : Stepped) (kept′ m′ w′ : List ℕ) : Type 0 where
   pub asked : Call
   pub said : x ≡ call asked
   pub stepped : board.Steps (plateOf p) b kept m w asked r kept′ m′ w′
   pub line : printedOf (poll tick) ((step (plateOf p) (stateOf b kept) m asked) .reply) ≡ printedOf asked ((step (plateOf p) (stateOf b kept) m asked) .reply)
 
 -- no call: the record is bad
-pub record Refuses (x : Said) (kept m w kept′ m′ w′ : List ℕ) : Type 0 where
+pub record NotCalled (x : Said) (kept m w kept′ m′ w′ : List ℕ) : Type 0 where
   pub bad : (v : Plate) (s : meaning.State) (n : List ℕ) (place : ℕ) → turn (running (plateOf v) s n) place x ≡ answers.badRecord place
   pub silent : (v : Plate) (s : meaning.State) (n : List ℕ) → replyTo (running (plateOf v) s n) x ≡ []
   pub bytes : kept′ ≡ kept
@@ -117,16 +100,11 @@ pub record Refuses (x : Said) (kept m w kept′ m′ w′ : List ℕ) : Type 0 w
   pub room : w′ ≡ w
 
 abbrev pub CallsBy : Bool → Plate → Board → Said → List ℕ → List ℕ → List ℕ → Called → List ℕ → List ℕ → List ℕ → Type 0
-CallsBy true p b x kept m w r kept′ m′ w′ = Refuses x kept m w kept′ m′ w′
-CallsBy false p b x kept m w r kept′ m′ w′ = Steps p b x kept m w (r .tick) (r .stepped) kept′ m′ w′
+CallsBy true p b x kept m w r kept′ m′ w′ = NotCalled x kept m w kept′ m′ w′
+CallsBy false p b x kept m w r kept′ m′ w′ = CallsBoard p b x kept m w (r .tick) (r .stepped) kept′ m′ w′
 
 abbrev pub Calls : Plate → Board → Said → List ℕ → List ℕ → List ℕ → Called → List ℕ → List ℕ → List ℕ → Type 0
 Calls p b x kept m w r kept′ m′ w′ = CallsBy (r .bad) p b x kept m w r kept′ m′ w′
-
-abbrev pub sentOf : Outcome → ℕ
-sentOf (Refused n) = 0
-sentOf Still = 0
-sentOf (Over n) = n
 
 -- a reply of n bytes, at the front of its room, has space as a line
 pub record Fitting (n : ℕ) (w out : List ℕ) (used : ℕ) : Type 0 where
@@ -138,4 +116,4 @@ pub record Fitting (n : ℕ) (w out : List ℕ) (used : ℕ) : Type 0 where
 pub record Answered (tick : ℕ) (stepped : Stepped) (w out : List ℕ) (used : ℕ) (r : Turned) (out′ : List ℕ) : Type 0 where
   pub board : r .board ≡ stepped .board
   pub over : r .over ≡ false
-  pub printed : Printed (printedOf (poll tick) (take (sentOf (stepped .outcome)) w)) out used (r .used) out′
+  pub printed : Printed (printedOf (poll tick) (take (replyLength (stepped .outcome)) w)) out used (r .used) out′

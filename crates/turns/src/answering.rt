@@ -1,28 +1,22 @@
 // One record of a running board: what the board answers, what is printed.
 ghost use mathlib.Core.Path.{_≡_};
 ghost use mathlib.Core.Bool.{true, false};
-ghost use Prim.Native.Nat.{_+_, _≤_};
+ghost use mathlib.Core.List.{List};
+ghost use Prim.Native.Nat.{ℕ, _+_, _≤_};
 ghost use lib.ListN.{length};
-ghost use Rattle.line.specs.Line.{plateOf, Fits};
-ghost use Rattle.board.specs.Board.{stateOf};
+ghost use Rattle.line.specs.Line.{plateOf};
+ghost use Rattle.board.specs.Board.{stateOf, replyLength};
 ghost use Rattle.tape.specs.Answers.{running};
 ghost use Rattle.tape.specs.Reader.{saidOf};
 ghost use Rattle.tape.specs.Passes.{longestLine};
-ghost use Rattle.turns.specs.Turns.{Sound, Quickens, Calls, Turns, sentOf, Fitting, Answered};
+ghost use Rattle.turns.specs.Turns.{Sound, quickly, Calls, Turns, Fitting, Answered};
 use board::Board;
 use board::Outcome;
 use board::Stepped;
-use line::OpenFrame;
 use line::Plate;
 use tape::Event;
 
-// A record that closes no frame went into the frame's numbers; any other is slow.
-pub enum Pace {
-    Went(OpenFrame),
-    Slow,
-}
-
-// The board after a record, how much of the room is used, and whether the record was bad.
+// The board after a record, how much of the output is used, and whether the record was bad.
 pub struct Turned {
     pub board: Board,
     pub used: usize,
@@ -36,40 +30,18 @@ struct Called {
     bad: bool,
 }
 
-// Most records are characters inside a frame: they touch the frame's numbers and a kept byte, and no refusal has to be tried.
-pub fn quick(plate: Plate, frame: OpenFrame, event: Event, kept: &mut [u8]) -> Pace
-    requires { ⌜ Fits frame (now kept) ⌝ }
-    ensures { λ r. ⌜ Quickens plate frame (now (kept .entry)) (saidOf event) r (now (kept .exit)) ⌝ }
+// Most records are characters inside a frame, or polls: what closes no frame need not be turned here, since it prints nothing.
+pub fn closes_none(plate: Plate, board: Board, event: Event) -> bool
+    ensures { λ r. ⌜ ((kept : List ℕ) → r ≡ quickly (plateOf plate) (stateOf board kept) (saidOf event)) ⌝ }
 {
     match event {
         Event::Character {
             tick,
-            value,
-            parity,
-        } => {
-            if frame.is_over(plate, tick) {
-                return Pace::Slow;
-            }
-            Pace::Went(frame.with_character(tick, value, parity, kept))
-        }
-        Event::Poll { tick } => {
-            if frame.is_over(plate, tick) {
-                return Pace::Slow;
-            }
-            Pace::Went(frame)
-        }
-        _ => Pace::Slow,
-    }
-}
-
-// The length of the reply that a call brought.
-fn sent(outcome: Outcome) -> usize
-    ensures { λ r. ⌜ r ≡ sentOf outcome ⌝ }
-{
-    match outcome {
-        Outcome::Refused(_) => 0,
-        Outcome::Still => 0,
-        Outcome::Over(n) => n,
+            value: _,
+            parity: _,
+        } => !board.is_over(plate, tick),
+        Event::Poll { tick } => !board.is_over(plate, tick),
+        _ => false,
     }
 }
 
@@ -81,12 +53,12 @@ fn after(board: Board, used: usize, over: bool) -> Turned
 
 // 01, "per reply": a line for a reply, none for silence.
 fn answered(tick: u32, stepped: Stepped, reply: &[u8], out: &mut [u8], used: usize) -> Turned
-    requires { ⌜ Fitting (sentOf (stepped .outcome)) (now reply) (now out) used ⌝ }
+    requires { ⌜ Fitting (replyLength (stepped .outcome)) (now reply) (now out) used ⌝ }
     ensures { λ r. ⌜ Answered tick stepped (now (reply .entry)) (now (out .entry)) used r (now (out .exit)) ⌝ }
 {
     let board = stepped.board;
     let outcome = stepped.outcome;
-    let n = sent(outcome);
+    let n = outcome.reply_length();
     if n == 0 {
         return after(board, used, false);
     }

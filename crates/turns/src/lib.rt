@@ -4,9 +4,8 @@ mod answering;
 mod opening;
 mod reading;
 
-pub use answering::Pace;
 pub use answering::Turned;
-pub use answering::quick;
+pub use answering::closes_none;
 pub use answering::turn;
 pub use opening::Opened;
 pub use opening::open;

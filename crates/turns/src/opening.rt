@@ -1,7 +1,7 @@
 // The first record: the plate (01, "plate .., first and once").
 ghost use mathlib.Core.Path.{_≡_};
 ghost use Rattle.tape.specs.Reader.{saidOf};
-ghost use Rattle.turns.specs.Hearing.{toldAt};
+ghost use Rattle.turns.specs.Hearing.{readoutAt};
 ghost use Rattle.turns.specs.Openings.{begunBy, openedBy};
 use crate::reading::Heard;
 use crate::reading::hear;
@@ -42,7 +42,7 @@ fn begin(event: Event, next: usize) -> Opened
 }
 
 pub fn open(window: &[u8]) -> Opened
-    ensures { λ r. ⌜ r ≡ openedBy (toldAt 0 (now (window .entry))) ⌝ }
+    ensures { λ r. ⌜ r ≡ openedBy (readoutAt 0 (now (window .entry))) ⌝ }
 {
     let Heard::Said { event, next } = hear(window, 0) else {
         return Opened::More;

@@ -1,8 +1,9 @@
 // What a record of the tape says.
 ghost use mathlib.Core.Path.{_≡_};
-ghost use Rattle.turns.specs.Hearing.{toldOf, toldAt};
+ghost use Rattle.turns.specs.Hearing.{readoutOf, readoutAt};
 use tape::Cursor;
 use tape::Event;
+use tape::LONGEST_RECORD;
 use tape::Read;
 
 // What stands at a place of the window: not yet a whole record; what it says, and the place past it. Where no record begins it is unfit.
@@ -11,12 +12,11 @@ pub enum Heard {
     Said { event: Event, next: usize },
 }
 
-// The longest record of the kinds, a character's, counts 8 bytes.
 pub fn hear(window: &[u8], at: usize) -> Heard
-    ensures { λ r. ⌜ toldOf r ≡ toldAt at (now (window .entry)) ⌝ }
+    ensures { λ r. ⌜ readoutOf r ≡ readoutAt at (now (window .entry)) ⌝ }
 {
     let cursor = Cursor { at };
-    match cursor.read(window, 8) {
+    match cursor.read(window, LONGEST_RECORD) {
         Read::More => Heard::Nothing,
         Read::Bad => Heard::Said {
             event: Event::Unfit,
@@ -28,7 +28,8 @@ pub fn hear(window: &[u8], at: usize) -> Heard
             length,
             next,
         } => {
-            let event = tape::event_of(kind, window, start, length);
+            let end = start + length;
+            let event = tape::event_of(kind, &window[start..end]);
             Heard::Said {
                 event,
                 next: next.at,

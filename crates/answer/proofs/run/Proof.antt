@@ -6,7 +6,7 @@ use native.Mathlib.Omega.{arith}
 use lib.ListN.{length, length-take}
 use lib.Seq.{length-take-le}
 use Rattle.tape.proofs.Texts.{same-size}
-use Rattle.passes.specs.Sessions.{Ready}
+use Rattle.passes.specs.Sessions.{ReadyForPass}
 use Rattle.answer.proofs.Feeding.{not-ended, ready-first}
 use borrow.Author.Needs.{needs}
 use Rattle.answer.proofs.run.Statement.{statement}
@@ -24,7 +24,7 @@ use Rattle.tape.proofs.first_line.Reads as first-line-reads
 abbrev Inv-loop : tie.InvT-loop
 Inv-loop window₀ kept₀ memory₀ reply₀ out₀ session₀ have₀ used₀ turns₀ window kept memory reply out session have used turns =
     (length window ≡ length window₀) × (length kept ≡ length kept₀) × (length memory ≡ length memory₀) × (length reply ≡ length reply₀) × (length out ≡ length out₀)
-    × (have ≤ length window) × Ready session [] kept memory reply out used
+    × (have ≤ length window) × ReadyForPass session [] kept memory reply out used
 
 abbrev μ-loop : tie.MeasureT-loop
 μ-loop window₀ kept₀ memory₀ reply₀ out₀ session₀ have₀ used₀ turns₀ window kept memory reply out session have used turns =
@@ -43,7 +43,7 @@ start-requires c κs = search needs
 
 first-line-requires : tie.Need-first-line-requires Inv-loop μ-loop
 first-line-requires c κs =
-    omega (arith, c .before .before .before .before .before .before .before .pre .room-size)
+    omega (arith, c .before .before .before .before .before .before .before .pre .output-size)
 
 loop-holds : tie.Need-loop-holds Inv-loop μ-loop
 loop-holds c =
@@ -114,7 +114,7 @@ part-end-end c =
 end-requires : tie.Need-end-requires Inv-loop μ-loop
 end-requires c κs =
     let f = c .before .before .before .before .before .before .before .before .before .before .before .before .before .before in
-    (f .feed .ensures .space, omega (arith, f .feed .kept .1 .1 .1 .1 .1 .0, f .before .before .before .before .before .before .before .before .before .before .before .loop .inv .4, same-size (f .before .before .before .before .before .before .before .before .before .before .before .before .before .before .first-line .ensures), f .before .before .before .before .before .before .before .before .before .before .before .before .before .before .before .before .before .before .before .before .before .before .pre .room-size))
+    (f .feed .ensures .space, omega (arith, f .feed .kept .1 .1 .1 .1 .1 .0, f .before .before .before .before .before .before .before .before .before .before .before .loop .inv .4, same-size (f .before .before .before .before .before .before .before .before .before .before .before .before .before .before .first-line .ensures), f .before .before .before .before .before .before .before .before .before .before .before .before .before .before .before .before .before .before .before .before .before .before .pre .output-size))
 
 same-length-6 : tie.Need-same-length-6 Inv-loop μ-loop
 same-length-6 c =

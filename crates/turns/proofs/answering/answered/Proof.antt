@@ -11,21 +11,21 @@ use Rattle.turns.proofs.answering.answered.Tie as tie
 use Rattle.turns.proofs.answering.answered.Reads as reads
 use Rattle.turns.proofs.answering.answered.Lts as lts
 use Rattle.turns.proofs.answering.after.Reads as after-reads
-use Rattle.turns.proofs.answering.sent.Reads as sent-reads
+use Rattle.board.proofs.limits.Outcome.reply_length.Reads as reply-length-reads
 use Rattle.tape.proofs.reply_line.Reads as reply-line-reads
 
 -- the reply lies in its room
-few : (c : tie.After-sent) → c .sent .result ≤ length (c .before .before .before .before .args .reply .now)
-few c = rw (c .sent .ensures) (c .before .before .before .before .pre .room)
+few : (c : tie.After-reply-length) → c .reply-length .result ≤ length (c .before .before .before .before .args .reply .now)
+few c = rw (c .reply-length .ensures) (c .before .before .before .before .pre .room)
 
-sent-requires : tie.Need-sent-requires
-sent-requires c κs = search needs
+reply-length-requires : tie.Need-reply-length-requires
+reply-length-requires c κs = search needs
 
 after-requires : tie.Need-after-requires
 after-requires c κs = search needs
 
 returns : tie.Need-returns
-returns c = no-line _ _ _ _ _ _ _ (c .before .before .sent .ensures) (c .after .ensures) (c .before .if1 .taken) (omega (arith, c .before .before .before .before .before .before .pre .space))
+returns c = no-line _ _ _ _ _ _ _ (c .before .before .reply-length .ensures) (c .after .ensures) (c .before .if1 .taken) (omega (arith, c .before .before .before .before .before .before .pre .space))
 
 slice-aggregate-reply-line : tie.Need-slice-aggregate-reply-line
 slice-aggregate-reply-line c = sym (length-take-le _ _ (few (c .before .before)))
@@ -34,7 +34,7 @@ reply-line-requires : tie.Need-reply-line-requires
 reply-line-requires c κs =
     let u = c .before .before .before in
     let p = u .before .before .before .before .pre in
-    omega (arith, length-take-le (u .sent .result) (u .before .before .before .before .args .reply .now) (few u), u .sent .ensures, p .few, p .space)
+    omega (arith, length-take-le (u .reply-length .result) (u .before .before .before .before .args .reply .now) (few u), u .reply-length .ensures, p .few, p .space)
 
 after-requires-2 : tie.Need-after-requires-2
 after-requires-2 c κs = search needs
@@ -43,13 +43,13 @@ same-length : tie.Need-same-length
 same-length c = search needs
 
 returns-2 : tie.Need-returns-2
-returns-2 c = a-line _ _ _ _ _ _ _ (c .before .before .before .before .before .before .before .sent .ensures) _ _ (c .after2 .ensures) (c .before .before .before .before .before .before .if1 .left) (few (c .before .before .before .before .before .before .before)) (c .before .before .before .reply-line .ensures)
+returns-2 c = a-line _ _ _ _ _ _ _ (c .before .before .before .before .before .before .before .reply-length .ensures) _ _ (c .after2 .ensures) (c .before .before .before .before .before .before .if1 .left) (few (c .before .before .before .before .before .before .before)) (c .before .before .before .reply-line .ensures)
 
 pub answered-spec : {M : Type 1} → statement M
 answered-spec =
     tie.close
     (tie.spec
-    sent-requires
+    reply-length-requires
     after-requires
     returns
     slice-aggregate-reply-line
