@@ -11,7 +11,8 @@ use Rattle.meaning.specs.Bytes.{pick, both}
 use Rattle.meaning.specs.State as meaning
 use Rattle.meaning.specs.State.{none}
 use Rattle.meaning.specs.Commands as commands
-use Rattle.meaning.specs.Commands.{Command, c43, c49, c4A, c4B, c4C, c4D, c4F, c53, unknown, commandOf, asked, row, lengthFits, error, choose, onField, readPosition, setPosition, readCounter, stepCounter, clearCounter, readField, storeField, fieldStatus, create, modify, delete, shapeField, memoryStatus, setCode, readFault, reset, worked}
+use Rattle.meaning.specs.Commands.{Command, c43, c49, c4A, c4B, c4C, c4D, c4F, c53, unknown, commandOf, asked, row, lengthFits, error, choose, onField}
+use Rattle.meaning.specs.Commands.{readPosition, setPosition, readCounter, stepCounter, clearCounter, readField, storeField, fieldStatus, create, modify, delete, shapeField, memoryStatus, setCode, readFault, reset, worked}
 use Rattle.meaning.proofs.Choices.{both-left, both-right}
 use Rattle.wire.specs.declared.answer.Answer.{Answer}
 use Rattle.wire.specs.Answers.{memoryAfter, stateAfter, Works}

@@ -82,19 +82,19 @@ module _ (n c : ℕ) (d q q′ : List ℕ) where
       go true g l z e = absurd (eqb-false 0 4 refl (ap (λ (w : meaning.Written). w .refusal) e))
       go false false l z e = absurd (eqb-false 0 5 refl (ap (λ (w : meaning.Written). w .refusal) e))
       go false true l z e =
-          well k (l tt) (ap (λ (w : meaning.Written). w .count) e) (ap (λ (w : meaning.Written). w .room) e) (ap (λ (w : meaning.Written). w .refusal) z)
+          well k (l tt) (ap (λ (w : meaning.Written). w .count) e) (ap (λ (w : meaning.Written). w .buffer) e) (ap (λ (w : meaning.Written). w .refusal) z)
 
-  -- refused, the room is as it was
-  same-room : (k : ℕ) → (k ≡ 0 → ⊥) → (record { refusal = k; count = 0; room = q′ }) ≡ writes n c d q → q′ ≡ q
+  -- refused, the request's buffer is as it was
+  same-buffer : (k : ℕ) → (k ≡ 0 → ⊥) → (record { refusal = k; count = 0; buffer = q′ }) ≡ writes n c d q → q′ ≡ q
   unfolding writes
-  same-room k h = go (ltb (length q) 135) (both (addressOk n) (allowed (commandOf c) d))
+  same-buffer k h = go (ltb (length q) 135) (both (addressOk n) (allowed (commandOf c) d))
     where
       go : (s g : Bool)
-          → _≡_ {A = meaning.Written} (record { refusal = k; count = 0; room = q′ })
+          → _≡_ {A = meaning.Written} (record { refusal = k; count = 0; buffer = q′ })
           (pick s (writtenOf written.R4 q) (pick (not g) (writtenOf written.R5 q) (writtenOf (Request (length asked)) (put q 0 asked))))
           → q′ ≡ q
-      go true g e = ap (λ (w : meaning.Written). w .room) e
-      go false false e = ap (λ (w : meaning.Written). w .room) e
+      go true g e = ap (λ (w : meaning.Written). w .buffer) e
+      go false false e = ap (λ (w : meaning.Written). w .buffer) e
       go false true e = absurd (h (ap (λ (w : meaning.Written). w .refusal) e))
 
 -- ---- the whole
@@ -143,12 +143,12 @@ module _ (p : Plate) (b : Board) (n c : ℕ) (d : List ℕ) (spacing : ℕ) (q k
       unfolding refusalFor
       refused-bench h = rw (e, i, lt-leb (p .pause * p .ticks) spacing h)
 
-      -- R4 and R5: the request's room too is as it was
+      -- R4 and R5: the request's buffer too is as it was
       pub passes-unwritten : spacing < p .pause * p .ticks → {k : ℕ} {q′ : List ℕ} {x : Refusal} {r : Exchanged} → (k ≡ 0 → ⊥)
-          → (record { refusal = k; count = 0; room = q′ }) ≡ writes n c d q → unsentNumber x ≡ k → r ≡ (record { board = b; ended = Refused x })
+          → (record { refusal = k; count = 0; buffer = q′ }) ≡ writes n c d q → unsentNumber x ≡ k → r ≡ (record { board = b; ended = Refused x })
           → Passes p b n c d spacing q kept m w r q′ kept m w
       passes-unwritten near {k} h y z j =
-          rw (same-room n c d q _ k h y) (passes-refused (refused-bench near ∙ sym (ap (λ (u : meaning.Written). u .refusal) y)) h z j)
+          rw (same-buffer n c d q _ k h y) (passes-refused (refused-bench near ∙ sym (ap (λ (u : meaning.Written). u .refusal) y)) h z j)
 
   pub passes-heard : {k : ℕ} {q′ : List ℕ} {r : Exchanged} {kept′ m′ w′ : List ℕ} → refusalFor p b n c d spacing q kept m w ≡ 0
       → Wrote n c k d q q′ → Converses p b n c d kept m w r kept′ m′ w′ → Passes p b n c d spacing q kept m w r q′ kept′ m′ w′

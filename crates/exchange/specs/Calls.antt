@@ -4,7 +4,7 @@ use mathlib.Core.Path.{_≡_}
 use mathlib.Core.Bool.{false}
 use mathlib.Core.List.{List, [], _∷_}
 use lib.ListN.{length, take}
-use Rattle.meaning.specs.Bytes.{arg, put}
+use Rattle.meaning.specs.Bytes.{longestRequest, longestReply, arg, put}
 use Rattle.meaning.specs.State.{Plate}
 use Rattle.meaning.specs.Run.{Call, character, runFrom}
 use Rattle.board.specs.declared.limits.Board.{Board}
@@ -25,10 +25,10 @@ sending tick spacing q (suc i) = character (stampOf tick spacing i) (arg q i) fa
 -- the line is clear for the request q: none of R1 to R3, no frame open, characters closer than the pause, no more bytes than are kept
 pub record Clear (p : Plate) (b : Board) (spacing : ℕ) (q kept m w : List ℕ) : Type 0 where
   pub within : Within p b kept m
-  pub wide : 134 ≤ length w
+  pub wide : longestReply ≤ length w
   pub idle : (stateOf b kept) .line .begun ≡ false
   pub close : spacing < p .pause * p .ticks
-  pub short : length q ≤ 135
+  pub short : length q ≤ longestRequest
 
 -- the first n bytes of q are sent: the board is that of the calls so far, their bytes are kept, and nothing came back
 pub record Taken (p : Plate) (b : Board) (tick spacing : ℕ) (q kept m w : List ℕ) (n : ℕ) (b′ : Board) (kept′ m′ w′ : List ℕ) : Type 0 where

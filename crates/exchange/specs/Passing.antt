@@ -2,15 +2,15 @@
 use Prim.Native.Nat.{ℕ, _*_, _≤_}
 use mathlib.Core.Path.{_≡_}
 use mathlib.Core.Bool.{Bool, not}
-use mathlib.Core.List.{List}
+use mathlib.Core.List.{List, []}
 use lib.Dec.{T, eqb, leb}
-use lib.ListN.{length}
-use Rattle.meaning.specs.Bytes.{pick, either, put}
+use lib.ListN.{length, take}
+use Rattle.meaning.specs.Bytes.{pick, either, longestRequest, part, put}
 use Rattle.meaning.specs.State.{Plate, State, ownByte}
 use Rattle.meaning.specs.Commands.{commandOf, worked}
 use Rattle.meaning.specs.Frames.{Outcome, still, resting}
 use Rattle.meaning.specs.Run.{poll}
-use Rattle.meaning.specs.Bench.{Verdict, refusal, addressOk, addressFor, allowed, request, writes}
+use Rattle.meaning.specs.Bench.{Verdict, refusal, addressOk, addressFor, allowed, request, writes, handed}
 use Rattle.meaning.specs.Demands.{meant, concluded}
 use Rattle.board.specs.declared.limits.Board.{Board}
 use Rattle.board.specs.Board.{stateOf, refusalOn}
@@ -40,6 +40,11 @@ pub data Ended : Type 0 where
 abbrev pub endedOf : code.Ended → Ended
 endedOf (ended.Refused x) = refused (unsentNumber x)
 endedOf (Heard n k v) = heard n k (verdictOf v)
+
+-- 01, "handed back as a piece of the reply itself": of the request and the reply that stand at the fronts of q and w
+abbrev pub dataHeard : code.Ended → List ℕ → List ℕ → List ℕ
+dataHeard (ended.Refused x) q w = []
+dataHeard (Heard n k v) q w = part (take k w) ((handed (take n q) (take k w)) .from) ((handed (take n q) (take k w)) .count)
 
 -- R1, R2, R3; a frame open already; a spacing not below the pause; R4, R5. 0 where none applies
 unfoldable pub refusalFor : Plate → Board → ℕ → ℕ → List ℕ → ℕ → List ℕ → List ℕ → List ℕ → List ℕ → ℕ
@@ -76,7 +81,7 @@ pub record Converses (p : Plate) (b : Board) (n c : ℕ) (d kept m w : List ℕ)
   pub bytes : kept′ ≡ put kept 0 (request (addressFor n) c d)
   pub memory : m′ ≡ (answerTo p (resting (stateOf b kept)) m (addressFor n) c d) .memory
   pub room : w′ ≡ put w 0 ((answerTo p (resting (stateOf b kept)) m (addressFor n) c d) .reply)
-  pub few : r .board .frame .len ≤ 135
+  pub few : r .board .frame .len ≤ longestRequest
 
 -- what the caller holds afterwards
 pub record Passed : Type 0 where
@@ -87,7 +92,7 @@ pub record Passed : Type 0 where
   pub memory : List ℕ
   pub room : List ℕ
 
--- refused, all is as it was; otherwise the request stands at the front of its room and of the kept bytes, the reply at the front of its
+-- refused, all is as it was; otherwise the request stands at the front of its buffer and of the kept bytes, the reply at the front of the
 -- room, and no frame is open. The tick is not asked for: at whatever tick the first character ends, the same comes of it
 unfoldable pub passed : Plate → Board → ℕ → ℕ → List ℕ → ℕ → List ℕ → List ℕ → List ℕ → List ℕ → Passed
 passed p b n c d spacing q kept m w =
@@ -113,5 +118,5 @@ pub record Passes (p : Plate) (b : Board) (n c : ℕ) (d : List ℕ) (spacing : 
   pub bytes : kept′ ≡ (passed p b n c d spacing q kept m w) .kept
   pub memory : m′ ≡ (passed p b n c d spacing q kept m w) .memory
   pub room : w′ ≡ (passed p b n c d spacing q kept m w) .room
-  pub few : refusalFor p b n c d spacing q kept m w ≡ 0 → r .board .frame .len ≤ 135
+  pub few : refusalFor p b n c d spacing q kept m w ≡ 0 → r .board .frame .len ≤ longestRequest
   pub untouched : (refusalFor p b n c d spacing q kept m w ≡ 0 → ⊥) → r .board ≡ b

@@ -25,7 +25,7 @@ pub enum Refusal {
     R5,
 }
 
-// Refused, and nothing is changed; or heard: the lengths of request and reply, which stand at the fronts of their rooms, and the verdict.
+// Refused, and nothing is changed; or heard: the lengths of request and reply, which stand at the fronts of their buffers, and the verdict.
 pub enum Ended {
     Refused(Refusal),
     Heard {

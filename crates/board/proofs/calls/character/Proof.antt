@@ -12,7 +12,9 @@ use Rattle.board.proofs.calls.stepped.Reads as stepped-reads
 use Rattle.line.proofs.characters.OpenFrame.with_character.Reads as with-character-reads
 
 abbrev polled : tie.After-is-refusal → tie.After-poll
-polled c = c .before .before .before .before .before .before .before .before
+polled c =
+    let after-poll = c .before .before .before .before .before .before .before .before in
+    after-poll
 
 poll-requires : tie.Need-poll-requires
 poll-requires c κs = search needs
@@ -33,8 +35,7 @@ returns : tie.Need-returns
 returns c = character-refused _ _ _ _ _ _ (polled (c .before) .poll .ensures) _ _ (sym (c .before .is-refusal .ensures) ∙ c .if1 .taken)
 
 with-character-requires : tie.Need-with-character-requires
-with-character-requires c κs =
-    let e = c .before .before in
+with-character-requires c κs = let e = c .before .before in
     character-fits _ _ _ _ _ _ (polled (e .before) .poll .ensures) (sym (e .before .is-refusal .ensures) ∙ e .if1 .left)
 
 stepped-requires : tie.Need-stepped-requires
@@ -51,7 +52,8 @@ same-length-6 c = search needs
 
 returns-2 : tie.Need-returns-2
 returns-2 c =
-    let w = c .before .before .before in
+    let after-with-character = c .before .before .before in
+    let w = after-with-character in
     let e = w .before .before .before in
     character-taken _ _ _ _ _ _ (polled (e .before) .poll .ensures) (sym (e .before .is-refusal .ensures) ∙ e .if1 .left) (c .stepped .ensures) (w .with-character .ensures)
 

@@ -13,10 +13,14 @@ use Rattle.board.proofs.calls.poll.Statement.{statement}
 use Rattle.board.proofs.calls.poll.Tie as tie
 
 abbrev start : tie.After-refusal → tie.Start
-start c = c .before .before .before .before
+start c =
+    let start = c .before .before .before .before in
+    start
 
 abbrev tested : tie.Else1 → tie.After-refusal
-tested c = c .before .before .before .before
+tested c =
+    let after-refusal = c .before .before .before .before in
+    after-refusal
 
 -- the first refusal that applies, or none
 told : (c : tie.After-refusal) → let a = start c .args in
@@ -46,7 +50,9 @@ is-over-requires : tie.Need-is-over-requires
 is-over-requires c κs = search needs
 
 close-requires : tie.Need-close-requires
-close-requires c κs = enough (c .before .before .before .before .before)
+close-requires c κs =
+    let after-else1 = c .before .before .before .before .before in
+    enough (after-else1)
 
 none-requires : tie.Need-none-requires
 none-requires c κs = search needs
@@ -64,13 +70,21 @@ same-length-3 : tie.Need-same-length-3
 same-length-3 c = search needs
 
 returns-2 : tie.Need-returns-2
-returns-2 c = poll-over _ _ _ _ _ _ (willing (c .before .before .before .before .before .before .before .before .before .before .before .before .before)) (c .stepped2 .ensures) (c .before .none .ensures) (sym (c .before .before .before .before .before .before .before .before .before .before .before .before .is-over .ensures _ _ refl) ∙ c .before .before .before .before .before .before .before .before .before .before .before .if2 .taken) (c .before .before .before .before .before .before .before .close .ensures)
+returns-2 c =
+    let after-close = c .before .before .before .before .before .before .before in
+    let after-2 = after-close .before .before .before .before in
+    let after-is-over = after-2 .before in
+    let after-else1 = after-is-over .before in
+    poll-over _ _ _ _ _ _ (willing (after-else1)) (c .stepped2 .ensures) (c .before .none .ensures) (sym (after-is-over .is-over .ensures _ _ refl) ∙ after-2 .if2 .taken) (after-close .close .ensures)
 
 stepped-requires-3 : tie.Need-stepped-requires-3
 stepped-requires-3 c κs = search needs
 
 returns-3 : tie.Need-returns-3
-returns-3 c = poll-still _ _ _ _ _ _ (willing (c .before .before .before)) (c .stepped3 .ensures) refl (sym (c .before .before .is-over .ensures _ _ refl) ∙ c .before .if2 .left) (enough (c .before .before .before) .fits .few)
+returns-3 c =
+    let after-is-over = c .before .before in
+    let after-else1 = after-is-over .before in
+    poll-still _ _ _ _ _ _ (willing (after-else1)) (c .stepped3 .ensures) refl (sym (after-is-over .is-over .ensures _ _ refl) ∙ c .before .if2 .left) (enough (after-else1) .fits .few)
 
 pub poll-spec : {M : Type 1} → statement M
 poll-spec =

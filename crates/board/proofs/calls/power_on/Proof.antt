@@ -19,7 +19,9 @@ told-requires c κs = search needs
 
 returns : tie.Need-returns
 unfolding step still closes lends
-returns c = λ k m w h. tells _ _ _ k m w _ h refl (c .told .ensures k h) refl (c .before .power-on .ensures k) refl (λ z. dropped-few (c .before .before .args .board) _ (c .before .power-on .ensures))
+returns c =
+    let start = c .before .before in
+    λ k m w h. tells _ _ _ k m w _ h refl (c .told .ensures k h) refl (c .before .power-on .ensures k) refl (λ z. dropped-few (start .args .board) _ (c .before .power-on .ensures))
 
 pub power-on-spec : {M : Type 1} → statement M
 power-on-spec = tie.close (tie.spec power-on-requires told-requires returns)

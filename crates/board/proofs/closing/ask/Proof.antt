@@ -13,7 +13,10 @@ tell-requires : tie.Need-tell-requires
 tell-requires c κs = search needs
 
 reply-requires : tie.Need-reply-requires
-reply-requires c κs = sendable _ _ _ _ _ _ (c .before .before .before .before .before .before .before .before .before .before .before .pre .0) (c .before .before .before .before .before .tell .ensures .works .answer) (search needs)
+reply-requires c κs =
+    let after-tell = c .before .before .before .before .before in
+    let start = after-tell .before .before .before .before .before .before in
+    sendable _ _ _ _ _ _ (start .pre .0) (after-tell .tell .ensures .works .answer) (search needs)
 
 same-length : tie.Need-same-length
 same-length c = search needs
@@ -22,7 +25,11 @@ same-length-2 : tie.Need-same-length-2
 same-length-2 c = search needs
 
 returns : tie.Need-returns
-returns c = served _ _ _ _ _ _ (c .before .before .before .before .before .before .before .before .before .before .before .before .before .before .pre .0 .room) (as-worked _ _ _ _ (c .before .before .before .before .before .before .before .before .tell .ensures)) (c .before .before .reply .ensures)
+returns c =
+    let after-reply = c .before .before in
+    let after-tell = after-reply .before .before .before .before .before .before in
+    let start = after-tell .before .before .before .before .before .before in
+    served _ _ _ _ _ _ (start .pre .0 .room) (as-worked _ _ _ _ (after-tell .tell .ensures)) (after-reply .reply .ensures)
 
 pub ask-spec : {M : Type 1} → statement M
 ask-spec = tie.close (tie.spec tell-requires reply-requires same-length same-length-2 returns)

@@ -13,16 +13,25 @@ use Rattle.board.proofs.reply.reply.Reads as reply-reads
 use Rattle.board.proofs.rows.change.Reads as change-reads
 
 change-requires : tie.Need-change-requires
-change-requires c κs = changeable _ _ _ _ _ (c .before .before .before .before .pre .0) (c .before .before .before .before .pre .1)
+change-requires c κs =
+    let start = c .before .before .before .before in
+    changeable _ _ _ _ _ (start .pre .0) (start .pre .1)
 
 reply-requires : tie.Need-reply-requires
-reply-requires c κs = sendable _ _ _ _ _ _ (c .before .before .before .before .before .before .before .before .before .pre .0) (c .before .before .before .before .change .ensures (plateOf (c .before .before .before .before .before .before .before .before .before .args .plate)) (now (c .before .before .before .before .before .before .before .before .before .args .memory)) refl .row .answer) (search needs)
+reply-requires c κs =
+    let after-change = c .before .before .before .before in
+    let start = after-change .before .before .before .before .before in
+    sendable _ _ _ _ _ _ (start .pre .0) (after-change .change .ensures (plateOf (start .args .plate)) (now (start .args .memory)) refl .row .answer) (search needs)
 
 same-length : tie.Need-same-length
 same-length c = search needs
 
 returns : tie.Need-returns
-returns c = served _ _ _ _ _ _ (c .before .before .before .before .before .before .before .before .before .before .before .before .pre .0 .room) (c .before .before .before .before .before .before .before .change .ensures (plateOf (c .before .before .before .before .before .before .before .before .before .before .before .before .args .plate)) (now (c .before .before .before .before .before .before .before .before .before .before .before .before .args .memory)) refl) (c .before .before .reply .ensures)
+returns c =
+    let after-reply = c .before .before in
+    let after-change = after-reply .before .before .before .before .before in
+    let start = after-change .before .before .before .before .before in
+    served _ _ _ _ _ _ (start .pre .0 .room) (after-change .change .ensures (plateOf (start .args .plate)) (now (start .args .memory)) refl) (after-reply .reply .ensures)
 
 pub order-spec : {M : Type 1} → statement M
 order-spec = tie.close (tie.spec change-requires reply-requires same-length returns)

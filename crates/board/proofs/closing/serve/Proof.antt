@@ -13,7 +13,11 @@ leaves-state-requires : tie.Need-leaves-state-requires
 leaves-state-requires c κs = search needs
 
 ask-requires : tie.Need-ask-requires
-ask-requires c κs = (c .before .before .before .before .before .before .before .pre, sym (c .before .before .before .leaves-state .ensures) ∙ c .before .before .if1 .taken)
+ask-requires c κs =
+    let after-1 = c .before .before in
+    let after-leaves-state = after-1 .before in
+    let start = after-leaves-state .before .before .before .before in
+    (start .pre, sym (after-leaves-state .leaves-state .ensures) ∙ after-1 .if1 .taken)
 
 same-length : tie.Need-same-length
 same-length c = search needs
@@ -25,7 +29,11 @@ returns : tie.Need-returns
 returns c = search needs
 
 order-requires : tie.Need-order-requires
-order-requires c κs = (c .before .before .before .before .before .before .before .pre, sym (c .before .before .before .leaves-state .ensures) ∙ c .before .before .if1 .left)
+order-requires c κs =
+    let after-else1 = c .before .before in
+    let after-leaves-state = after-else1 .before in
+    let start = after-leaves-state .before .before .before .before in
+    (start .pre, sym (after-leaves-state .leaves-state .ensures) ∙ after-else1 .if1 .left)
 
 same-length-3 : tie.Need-same-length-3
 same-length-3 c = search needs

@@ -19,13 +19,18 @@ cast-total : tie.Need-cast-total
 cast-total c = search needs
 
 read-position-requires : tie.Need-read-position-requires
-read-position-requires c κs = (bits-fit _ _ _ _ _ (c .before .before .before .before .before .before .before .pre .0), c .before .before .before .before .before .before .before .pre .0 .room)
+read-position-requires c κs =
+    let start = c .before .before .before .before .before .before .before in
+    (bits-fit _ _ _ _ _ (start .pre .0), start .pre .0 .room)
 
 same-length : tie.Need-same-length
 same-length c = search needs
 
 returns : tie.Need-returns
-returns c = told-42 _ _ _ _ _ (c .before .before .before .before .if1 .taken) (c .before .before .read-position .ensures _ _ _ _ refl)
+returns c =
+    let after-read-position = c .before .before in
+    let after-1 = after-read-position .before .before in
+    told-42 _ _ _ _ _ (after-1 .if1 .taken) (after-read-position .read-position .ensures _ _ _ _ refl)
 
 read-counter-requires : tie.Need-read-counter-requires
 read-counter-requires c κs = search needs
@@ -34,10 +39,16 @@ same-length-2 : tie.Need-same-length-2
 same-length-2 c = search needs
 
 returns-2 : tie.Need-returns-2
-returns-2 c = told-46 _ _ _ _ _ (c .before .before .before .before .if2 .taken) (c .before .before .read-counter .ensures _ _ _ _)
+returns-2 c =
+    let after-read-counter = c .before .before in
+    let after-2 = after-read-counter .before .before in
+    told-46 _ _ _ _ _ (after-2 .if2 .taken) (after-read-counter .read-counter .ensures _ _ _ _)
 
 read-field-requires : tie.Need-read-field-requires
-read-field-requires c κs = asked-4A _ _ _ _ _ (c .before .before .before .before .before .before .before .before .before .before .pre .0) (c .before .before .if3 .taken)
+read-field-requires c κs =
+    let after-3 = c .before .before in
+    let start = after-3 .before .before .before .before .before .before .before .before in
+    asked-4A _ _ _ _ _ (start .pre .0) (after-3 .if3 .taken)
 
 same-length-3 : tie.Need-same-length-3
 same-length-3 c = search needs
@@ -46,10 +57,16 @@ same-length-4 : tie.Need-same-length-4
 same-length-4 c = search needs
 
 returns-3 : tie.Need-returns-3
-returns-3 c = row-4A _ _ _ _ _ (c .before .before .before .before .before .if3 .taken) (c .before .before .read-field .ensures _ _ refl refl)
+returns-3 c =
+    let after-read-field = c .before .before in
+    let after-3 = after-read-field .before .before .before in
+    row-4A _ _ _ _ _ (after-3 .if3 .taken) (after-read-field .read-field .ensures _ _ refl refl)
 
 store-field-requires : tie.Need-store-field-requires
-store-field-requires c κs = asked-4B _ _ _ _ _ (c .before .before .before .before .before .before .before .before .before .before .before .pre .0) (c .before .before .if4 .taken)
+store-field-requires c κs =
+    let after-4 = c .before .before in
+    let start = after-4 .before .before .before .before .before .before .before .before .before in
+    asked-4B _ _ _ _ _ (start .pre .0) (after-4 .if4 .taken)
 
 same-length-5 : tie.Need-same-length-5
 same-length-5 c = search needs
@@ -58,10 +75,16 @@ same-length-6 : tie.Need-same-length-6
 same-length-6 c = search needs
 
 returns-4 : tie.Need-returns-4
-returns-4 c = row-4B _ _ _ _ _ (c .before .before .before .before .before .before .before .if4 .taken) (c .before .before .before .before .store-field .ensures _ _ refl refl)
+returns-4 c =
+    let after-store-field = c .before .before .before .before in
+    let after-4 = after-store-field .before .before .before in
+    row-4B _ _ _ _ _ (after-4 .if4 .taken) (after-store-field .store-field .ensures _ _ refl refl)
 
 field-status-requires : tie.Need-field-status-requires
-field-status-requires c κs = asked-4C _ _ _ _ _ (c .before .before .before .before .before .before .before .before .before .before .before .before .pre .0) (c .before .before .if5 .taken)
+field-status-requires c κs =
+    let after-5 = c .before .before in
+    let start = after-5 .before .before .before .before .before .before .before .before .before .before in
+    asked-4C _ _ _ _ _ (start .pre .0) (after-5 .if5 .taken)
 
 same-length-7 : tie.Need-same-length-7
 same-length-7 c = search needs
@@ -70,10 +93,16 @@ same-length-8 : tie.Need-same-length-8
 same-length-8 c = search needs
 
 returns-5 : tie.Need-returns-5
-returns-5 c = row-4C _ _ _ _ _ (c .before .before .before .before .before .if5 .taken) (c .before .before .field-status .ensures _ _ refl)
+returns-5 c =
+    let after-field-status = c .before .before in
+    let after-5 = after-field-status .before .before .before in
+    row-4C _ _ _ _ _ (after-5 .if5 .taken) (after-field-status .field-status .ensures _ _ refl)
 
 shape-field-requires : tie.Need-shape-field-requires
-shape-field-requires c κs = asked-4D _ _ _ _ _ (c .before .before .before .before .before .before .before .before .before .before .before .before .before .pre .0) (c .before .before .if6 .taken)
+shape-field-requires c κs =
+    let after-6 = c .before .before in
+    let start = after-6 .before .before .before .before .before .before .before .before .before .before .before in
+    asked-4D _ _ _ _ _ (start .pre .0) (after-6 .if6 .taken)
 
 same-length-9 : tie.Need-same-length-9
 same-length-9 c = search needs
@@ -82,10 +111,15 @@ same-length-10 : tie.Need-same-length-10
 same-length-10 c = search needs
 
 returns-6 : tie.Need-returns-6
-returns-6 c = row-4D _ _ _ _ _ (c .before .before .before .before .before .before .before .if6 .taken) (c .before .before .before .before .shape-field .ensures _ _ refl refl)
+returns-6 c =
+    let after-shape-field = c .before .before .before .before in
+    let after-6 = after-shape-field .before .before .before in
+    row-4D _ _ _ _ _ (after-6 .if6 .taken) (after-shape-field .shape-field .ensures _ _ refl refl)
 
 memory-status-requires : tie.Need-memory-status-requires
-memory-status-requires c κs = lent _ _ _ _ _ (c .before .before .before .before .before .before .before .before .before .before .before .before .before .pre .0)
+memory-status-requires c κs =
+    let start = c .before .before .before .before .before .before .before .before .before .before .before .before .before in
+    lent _ _ _ _ _ (start .pre .0)
 
 same-length-11 : tie.Need-same-length-11
 same-length-11 c = search needs
@@ -94,7 +128,16 @@ same-length-12 : tie.Need-same-length-12
 same-length-12 c = search needs
 
 returns-7 : tie.Need-returns-7
-returns-7 c = row-4E _ _ _ _ _ (last-told _ (c .before .before .before .before .before .before .before .before .before .before .before .before .before .before .before .before .pre .1) (ne-eqb _ _ (c .before .before .before .before .before .before .before .before .before .before .if1 .left)) (ne-eqb _ _ (c .before .before .before .before .before .before .before .before .before .if2 .left)) (c .before .before .before .before .before .before .before .before .if3 .left) (c .before .before .before .before .before .before .before .if4 .left) (c .before .before .before .before .before .before .if5 .left) (c .before .before .before .before .before .if6 .left)) (c .before .before .memory-status .ensures _ _ _ refl)
+returns-7 c =
+    let after-memory-status = c .before .before in
+    let after-else6 = after-memory-status .before .before .before in
+    let after-else5 = after-else6 .before in
+    let after-else4 = after-else5 .before in
+    let after-else3 = after-else4 .before in
+    let after-else2 = after-else3 .before in
+    let after-else1 = after-else2 .before in
+    let start = after-else1 .before .before .before .before .before .before in
+    row-4E _ _ _ _ _ (last-told _ (start .pre .1) (ne-eqb _ _ (after-else1 .if1 .left)) (ne-eqb _ _ (after-else2 .if2 .left)) (after-else3 .if3 .left) (after-else4 .if4 .left) (after-else5 .if5 .left) (after-else6 .if6 .left)) (after-memory-status .memory-status .ensures _ _ _ refl)
 
 pub tell-spec : {M : Type 1} → statement M
 tell-spec =

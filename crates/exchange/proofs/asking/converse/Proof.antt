@@ -20,10 +20,14 @@ tick-low : (c : tie.Start) → c .args .tick < 2 ^ 32
 tick-low c = search needs
 
 send-requires : tie.Need-send-requires
-send-requires c κs = c .before .before .before .before .before .before .before .pre
+send-requires c κs =
+    let start = c .before .before .before .before .before .before .before in
+    start .pre
 
 pause-of-requires : tie.Need-pause-of-requires
-pause-of-requires c κs = c .before .before .before .before .before .before .before .before .before .before .before .before .before .before .pre .within .plate
+pause-of-requires c κs =
+    let start = c .before .before .before .before .before .before .before .before .before .before .before .before .before .before in
+    start .pre .within .plate
 
 stamp-after-requires : tie.Need-stamp-after-requires
 stamp-after-requires c κs = search needs
@@ -36,7 +40,8 @@ reply-length-requires c κs = search needs
 
 fits : (c : tie.After-reply-length) → let u = c .before .before .before .before .before .before .before .before in c .reply-length .result ≤ length (u .poll .last .1 .1 .1 .1 .1 .0)
 fits c =
-    let u = c .before .before .before .before .before .before .before .before in
+    let after-poll = c .before .before .before .before .before .before .before .before in
+    let u = after-poll in
     let v = u .before .before .before .before .before .before .before .before .before .before .before .before .before in
     let a = v .before .before .before .before .before .before .before .before in
     rw (c .reply-length .ensures) (reply-fits _ _ _ _ _ _ _ _ (a .pre) (v .send .ensures) _ (u .poll .ensures))
@@ -60,8 +65,7 @@ same-length-3 : tie.Need-same-length-3
 same-length-3 c = search needs
 
 returns : tie.Need-returns
-returns c n k d h =
-    let r = c .before .before in
+returns c n k d h = let r = c .before .before in
     let u = r .before .before .before .before .before .before .before .before in
     let t = u .before .before .before .before .before in
     let v = t .before .before .before .before .before .before .before .before in

@@ -25,7 +25,9 @@ use Rattle.exchange.proofs.asking.unsent.Reads as unsent-reads
 use Rattle.exchange.proofs.sending.pause_of.Reads as pause-of-reads
 
 abbrev start : tie.After-refusal → tie.Start
-start c = c .before .before .before .before .before .before
+start c =
+    let start = c .before .before .before .before .before .before in
+    start
 
 refusal-requires : tie.Need-refusal-requires
 refusal-requires c κs = search needs
@@ -42,10 +44,14 @@ unrefused c = none-applies _ _ (refusal-is (c .before)) (c .match .keys4)
 
 -- no frame is open
 idle : (c : tie.Else1) → let a = start (c .before .before .before) .args in (stateOf (a .board) (a .kept .now)) .line .begun ≡ false
-idle c = sym (c .before .is-open .ensures (start (c .before .before .before) .args .kept .now)) ∙ c .if1 .left
+idle c =
+    let after-refusal = c .before .before .before in
+    sym (c .before .is-open .ensures (start (after-refusal) .args .kept .now)) ∙ c .if1 .left
 
 abbrev tried : tie.Else2 → tie.At-match-keys4
-tried c = c .before .before .before .before
+tried c =
+    let at-match-keys4 = c .before .before .before .before in
+    at-match-keys4
 
 near : (c : tie.Else2) → let a = start (tried c .before) .args in a .spacing < a .plate .pause * a .plate .ticks
 near c = rw (c .before .pause-of .ensures) at (c .if2 .left)
@@ -56,7 +62,8 @@ written : (c : tie.After-known-told)
     let a = start (tried (u .before .before) .before) .args in
     Wrote (a .address) (a .command) (c .before .len .given .0 .0) (a .body .now) (a .request .now) (u .write-request .last .1 .1 .1 .0)
 written c =
-    let u = c .before .before .before .before .before in
+    let after-write-request = c .before .before .before .before .before in
+    let u = after-write-request in
     wrote _ _ _ _ _ _ (rw (c .before .len .given .1) at (u .write-request .ensures))
 
 enum-told : tie.Need-enum-told
@@ -66,8 +73,7 @@ unsent-requires : tie.Need-unsent-requires
 unsent-requires c κs = search needs
 
 returns : tie.Need-returns
-returns c =
-    let e = c .before in
+returns c = let e = c .before in
     passes-unsent _ _ _ _ _ _ _ _ _ _ (sym (e .enum-told .given .1) ∙ refusal-is (e .before .before)) refl refl (c .unsent .ensures)
 
 enum-told-2 : tie.Need-enum-told-2
@@ -77,8 +83,7 @@ unsent-requires-2 : tie.Need-unsent-requires-2
 unsent-requires-2 c κs = search needs
 
 returns-2 : tie.Need-returns-2
-returns-2 c =
-    let e = c .before in
+returns-2 c = let e = c .before in
     passes-unsent _ _ _ _ _ _ _ _ _ _ (sym (e .enum-told2 .given .1) ∙ refusal-is (e .before .before)) refl refl (c .unsent2 .ensures)
 
 enum-told-3 : tie.Need-enum-told-3
@@ -88,8 +93,7 @@ unsent-requires-3 : tie.Need-unsent-requires-3
 unsent-requires-3 c κs = search needs
 
 returns-3 : tie.Need-returns-3
-returns-3 c =
-    let e = c .before in
+returns-3 c = let e = c .before in
     passes-unsent _ _ _ _ _ _ _ _ _ _ (sym (e .enum-told3 .given .1) ∙ refusal-is (e .before .before)) refl refl (c .unsent3 .ensures)
 
 is-open-requires : tie.Need-is-open-requires
@@ -99,8 +103,7 @@ unsent-requires-4 : tie.Need-unsent-requires-4
 unsent-requires-4 c κs = search needs
 
 returns-4 : tie.Need-returns-4
-returns-4 c =
-    let t = c .before in
+returns-4 c = let t = c .before in
     let o = t .before in
     passes-refused _ _ _ _ _ _ _ _ _ _ (refused-open _ _ _ _ _ _ _ _ _ _ (unrefused (o .before)) (sym (o .is-open .ensures (start (o .before .before) .args .kept .now)) ∙ t .if1 .taken)) (eqb-false 6 0 refl) refl (c .unsent4 .ensures)
 
@@ -111,8 +114,7 @@ unsent-requires-5 : tie.Need-unsent-requires-5
 unsent-requires-5 c κs = search needs
 
 returns-5 : tie.Need-returns-5
-returns-5 c =
-    let t = c .before in
+returns-5 c = let t = c .before in
     let o = t .before .before in
     let slow = rw (t .before .pause-of .ensures) at (t .if2 .taken) in
     passes-refused _ _ _ _ _ _ _ _ _ _ (refused-slow _ _ _ _ _ _ _ _ _ _ (unrefused (o .before .before)) (idle o) slow) (eqb-false 7 0 refl) refl (c .unsent5 .ensures)
@@ -143,7 +145,8 @@ slice-aggregate-converse c = sym (length-take-le _ _ (written (c .before) .withi
 
 converse-requires : tie.Need-converse-requires
 converse-requires c κs =
-    let k = c .before .before .before .before in
+    let after-known-told = c .before .before .before .before in
+    let k = after-known-told in
     let l = k .before .before .before .before .before .before .before in
     let o = l .before .before in
     let none = unrefused (tried l) in
@@ -159,8 +162,7 @@ same-length : tie.Need-same-length
 same-length c = search needs
 
 returns-6 : tie.Need-returns-6
-returns-6 c =
-    let m = c .before in
+returns-6 c = let m = c .before in
     let u = m .before .before .before .before in
     let l = u .before .before in
     let o = l .before .before in
@@ -171,8 +173,7 @@ same-length-2 : tie.Need-same-length-2
 same-length-2 c = search needs
 
 returns-7 : tie.Need-returns-7
-returns-7 c =
-    let m = c .before in
+returns-7 c = let m = c .before in
     let u = m .before .before .before .before in
     let l = u .before .before in
     let o = l .before .before in
@@ -193,7 +194,8 @@ same-length-6 c = search needs
 
 returns-8 : tie.Need-returns-8
 returns-8 c =
-    let v = c .before .before .before .before .before .before in
+    let after-converse = c .before .before .before .before .before .before in
+    let v = after-converse in
     let k = v .before .before .before .before .before in
     let l = k .before .before .before .before .before .before .before in
     let o = l .before .before in

@@ -28,7 +28,8 @@ tick-low c = search needs
 
 loop-holds : tie.Need-loop-holds Inv-loop μ-loop
 loop-holds c =
-    let a = c .before .before .before .before in
+    let start = c .before .before .before .before in
+    let a = start in
     (search needs, stamp-first _ (a .args .spacing), stamp-first _ (a .args .spacing), taken-none _ _ _ _ _ _ _ _ (a .pre))
 
 shared-slice-read-character : tie.Need-shared-slice-read-character Inv-loop μ-loop
@@ -48,7 +49,8 @@ loop-less c = search needs
 
 loop-again : tie.Need-loop-again Inv-loop μ-loop
 loop-again c =
-    let d = c .before .before .before .before .before .before .before .before in
+    let after-character = c .before .before .before .before .before .before .before .before in
+    let d = after-character in
     let u = d .before .before .before .before .before .before in
     let a = u .before .before .before .before .before in
     let v = u .loop .inv in

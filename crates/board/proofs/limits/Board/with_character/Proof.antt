@@ -13,14 +13,15 @@ fits : (c : tie.Start) → Fits (c .args .self .frame) (c .args .kept .now)
 fits c = fits-told _ _ (c .pre)
 
 with-character-requires : tie.Need-with-character-requires
-with-character-requires c κs = fits (c .before .before .before)
+with-character-requires c κs =
+    let start = c .before .before .before in
+    fits (start)
 
 same-length : tie.Need-same-length
 same-length c = search needs
 
 returns : tie.Need-returns
-returns c =
-    let w = c .before .before in
+returns c = let w = c .before .before in
     takes-in _ _ _ _ _ (w .with-character .ensures) (w .with-character .kept .1 .1 .1 .1 .0 ∙ fits (w .before .before .before .before) .all)
 
 pub with-character-spec : {M : Type 1} → statement M

@@ -1,0 +1,48 @@
+-- `exchange::hearing::data_heard` meets its contract. Assumes nothing.
+use borrow.Author.Needs.{needs}
+use Rattle.exchange.proofs.hearing.data_heard.Statement.{statement}
+use Rattle.exchange.proofs.hearing.data_heard.Tie as tie
+use Rattle.exchange.proofs.hearing.data_heard.Reads as reads
+use Rattle.exchange.proofs.hearing.data_heard.Lts as lts
+use Rattle.bench.proofs.data_of.Reads as data-of-reads
+use Rattle.wire.proofs.front.Reads as front-reads
+
+enum-known-ended : tie.Need-enum-known-ended
+enum-known-ended c = search needs
+
+enum-told : tie.Need-enum-told
+enum-told c = search needs
+
+slice-aggregate-result : tie.Need-slice-aggregate-result
+slice-aggregate-result c = search needs
+
+returns : tie.Need-returns
+returns c = search needs
+
+front-requires : tie.Need-front-requires
+front-requires c κs = search needs
+
+front-requires-2 : tie.Need-front-requires-2
+front-requires-2 c κs = search needs
+
+data-of-requires : tie.Need-data-of-requires
+data-of-requires c κs = search needs
+
+returns-2 : tie.Need-returns-2
+returns-2 c =
+    let after-front = c .before .before in
+    let after-ended = after-front .before .before in
+    rw (after-ended .ended .given .1) (rw (after-front .front .ensures, c .before .front2 .ensures) at (c .data-of .ensures .0))
+
+pub data-heard-spec : {M : Type 1} → statement M
+data-heard-spec =
+    tie.close
+    (tie.spec
+    enum-known-ended
+    enum-told
+    slice-aggregate-result
+    returns
+    front-requires
+    front-requires-2
+    data-of-requires
+    returns-2)
