@@ -143,7 +143,16 @@ pub record Lends (p : Plate) (b : Board) (place : ℕ) (window : List ℕ) (from
   pub playable : Playable p b place window from kept (take (memoryLength (p .total)) m) w out used
   pub size : length m ≡ largestImage
 
--- the pass of such a board over the window from a place on
+-- the pass of a board at work over the window from a place on, and what it leaves of the lent bytes
+abbrev pub passAt : Plate → Board → ℕ → List ℕ → ℕ → List ℕ → List ℕ → List ℕ → ℕ → Pass
+passAt p b place window from kept m out used =
+    pass (suc (length window)) (length out - used) (running (plateOf p) (stateOf b kept) m) (place + from) (drop from window)
+
+abbrev pub lentAt : Plate → Board → ℕ → List ℕ → ℕ → List ℕ → List ℕ → List ℕ → List ℕ → ℕ → LentState
+lentAt p b place window from kept m w out used =
+    lentBy (suc (length window)) (length out - used) (place + from) (drop from window) (lentState (running (plateOf p) (stateOf b kept) m) kept w)
+
+-- .. that uses the front of the lent memory
 abbrev pub passFrom : Plate → Board → ℕ → List ℕ → ℕ → List ℕ → List ℕ → List ℕ → ℕ → Pass
 passFrom p b place window from kept m out used =
     pass (suc (length window)) (length out - used) (stageFrom Running p b kept (take (memoryLength (p .total)) m)) (place + from) (drop from window)
