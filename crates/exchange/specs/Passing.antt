@@ -1,5 +1,5 @@
 -- What passes between bench and board: refusals, reply and verdict of one request (01, "The bench", "Named refusals"). Assumes nothing.
-use Prim.Native.Nat.{ℕ, _*_, _≤_}
+use Prim.Native.Nat.{ℕ, _*_}
 use mathlib.Core.Path.{_≡_}
 use mathlib.Core.Bool.{Bool, not}
 use mathlib.Core.List.{List}
@@ -13,7 +13,7 @@ use Rattle.meaning.specs.Run.{poll}
 use Rattle.meaning.specs.Bench.{Verdict, refusal, addressOk, addressFor, allowed, request, writes}
 use Rattle.meaning.specs.Demands.{meant, concluded}
 use Rattle.board.specs.declared.limits.Board.{Board}
-use Rattle.board.specs.Board.{stateOf, refusalOn}
+use Rattle.board.specs.Board.{stateOf, KeepsFew, refusalOn}
 use Rattle.bench.specs.Outcomes.{verdictOf, withoutData}
 use Rattle.exchange.specs.declared.asking.Refusal.{Refusal}
 use Rattle.exchange.specs.declared.asking.Refusal.the-variants.{R1, R2, R3, FrameOpen, TooSlow, R4, R5}
@@ -76,7 +76,7 @@ pub record Converses (p : Plate) (b : Board) (n c : ℕ) (d kept m w : List ℕ)
   pub bytes : kept′ ≡ put kept 0 (request (addressFor n) c d)
   pub memory : m′ ≡ (answerTo p (resting (stateOf b kept)) m (addressFor n) c d) .memory
   pub room : w′ ≡ put w 0 ((answerTo p (resting (stateOf b kept)) m (addressFor n) c d) .reply)
-  pub few : r .board .frame .len ≤ 135
+  pub few : KeepsFew (r .board)
 
 -- what the caller holds afterwards
 pub record Passed : Type 0 where
@@ -113,5 +113,5 @@ pub record Passes (p : Plate) (b : Board) (n c : ℕ) (d : List ℕ) (spacing : 
   pub bytes : kept′ ≡ (passed p b n c d spacing q kept m w) .kept
   pub memory : m′ ≡ (passed p b n c d spacing q kept m w) .memory
   pub room : w′ ≡ (passed p b n c d spacing q kept m w) .room
-  pub few : refusalFor p b n c d spacing q kept m w ≡ 0 → r .board .frame .len ≤ 135
+  pub few : refusalFor p b n c d spacing q kept m w ≡ 0 → KeepsFew (r .board)
   pub untouched : (refusalFor p b n c d spacing q kept m w ≡ 0 → ⊥) → r .board ≡ b

@@ -10,7 +10,7 @@ use Rattle.meaning.specs.Fields.{memoryLength}
 use Rattle.line.specs.declared.plate.Plate.{Plate}
 use Rattle.line.specs.Line.{plateOf}
 use Rattle.board.specs.declared.limits.Board.{Board}
-use Rattle.board.specs.Board.{stateOf}
+use Rattle.board.specs.Board.{stateOf, KeepsFew}
 use Rattle.tape.specs.Answers.{Stage, opening, running, ended}
 use Rattle.tape.specs.Passes as passes
 use Rattle.tape.specs.Passes.{Pass, pass}
@@ -110,7 +110,7 @@ pub record AtWork (p : meaning.Plate) (t : meaning.State) (front m : List ℕ) (
   pub plate : plateOf (s′ .plate) ≡ p
   pub state : stateOf (s′ .board) kept′ ≡ t
   pub memory : m′ ≡ put m 0 front
-  pub few : s′ .board .frame .len ≤ 135
+  pub few : KeepsFew (s′ .board)
   pub places : length kept′ ≡ 135
 
 abbrev pub Stands : Stage → Session → List ℕ → Session → List ℕ → List ℕ → Type 0
