@@ -19,7 +19,11 @@ use Rattle.board.specs.declared.faults.Oldest.{Oldest}
 abbrev pub stateOf : Board → List ℕ → State
 stateOf b kept = stateWith (b .state) (lineOf (b .frame) kept)
 
--- 01, "at most 135 kept bytes", of the frame's number and of the lent places
+-- 01, "at most 135 kept bytes"
+abbrev pub KeepsFew : Board → Type 0
+KeepsFew b = b .frame .len ≤ 135
+
+-- .., of the frame's number and of the lent places
 unfoldable pub fitsIn : Board → List ℕ → Bool
 fitsIn b kept = both (leb (b .frame .len) longestRequest) (eqb (length kept) longestRequest)
 

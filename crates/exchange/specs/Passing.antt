@@ -1,11 +1,11 @@
 -- What passes between bench and board: refusals, reply and verdict of one request (01, "The bench", "Named refusals"). Assumes nothing.
-use Prim.Native.Nat.{ℕ, _*_, _≤_}
+use Prim.Native.Nat.{ℕ, _*_}
 use mathlib.Core.Path.{_≡_}
 use mathlib.Core.Bool.{Bool, not}
 use mathlib.Core.List.{List, []}
 use lib.Dec.{T, eqb, leb}
 use lib.ListN.{length, take}
-use Rattle.meaning.specs.Bytes.{pick, either, longestRequest, part, put}
+use Rattle.meaning.specs.Bytes.{pick, either, part, put}
 use Rattle.meaning.specs.State.{Plate, State, ownByte}
 use Rattle.meaning.specs.Commands.{commandOf, worked}
 use Rattle.meaning.specs.Frames.{Outcome, still, resting}
@@ -13,7 +13,7 @@ use Rattle.meaning.specs.Run.{poll}
 use Rattle.meaning.specs.Bench.{Verdict, refusal, addressOk, addressFor, allowed, request, writes, handed}
 use Rattle.meaning.specs.Demands.{meant, concluded}
 use Rattle.board.specs.declared.limits.Board.{Board}
-use Rattle.board.specs.Board.{stateOf, refusalOn}
+use Rattle.board.specs.Board.{stateOf, KeepsFew, refusalOn}
 use Rattle.bench.specs.Outcomes.{verdictOf, withoutData}
 use Rattle.exchange.specs.declared.asking.Refusal.{Refusal}
 use Rattle.exchange.specs.declared.asking.Refusal.the-variants.{R1, R2, R3, FrameOpen, TooSlow, R4, R5}
@@ -81,7 +81,7 @@ pub record Converses (p : Plate) (b : Board) (n c : ℕ) (d kept m w : List ℕ)
   pub bytes : kept′ ≡ put kept 0 (request (addressFor n) c d)
   pub memory : m′ ≡ (answerTo p (resting (stateOf b kept)) m (addressFor n) c d) .memory
   pub room : w′ ≡ put w 0 ((answerTo p (resting (stateOf b kept)) m (addressFor n) c d) .reply)
-  pub few : r .board .frame .len ≤ longestRequest
+  pub few : KeepsFew (r .board)
 
 -- what the caller holds afterwards
 pub record Passed : Type 0 where
@@ -118,5 +118,5 @@ pub record Passes (p : Plate) (b : Board) (n c : ℕ) (d : List ℕ) (spacing : 
   pub bytes : kept′ ≡ (passed p b n c d spacing q kept m w) .kept
   pub memory : m′ ≡ (passed p b n c d spacing q kept m w) .memory
   pub room : w′ ≡ (passed p b n c d spacing q kept m w) .room
-  pub few : refusalFor p b n c d spacing q kept m w ≡ 0 → r .board .frame .len ≤ longestRequest
+  pub few : refusalFor p b n c d spacing q kept m w ≡ 0 → KeepsFew (r .board)
   pub untouched : (refusalFor p b n c d spacing q kept m w ≡ 0 → ⊥) → r .board ≡ b

@@ -10,7 +10,7 @@ use Rattle.meaning.specs.Fields.{memoryLength}
 use Rattle.line.specs.declared.plate.Plate.{Plate}
 use Rattle.line.specs.Line.{plateOf}
 use Rattle.board.specs.declared.limits.Board.{Board}
-use Rattle.board.specs.Board.{stateOf}
+use Rattle.board.specs.Board.{stateOf, KeepsFew}
 use Rattle.tape.specs.Answers.{Stage, opening, running, ended}
 use Rattle.tape.specs.Passes as passes
 use Rattle.tape.specs.Passes.{Pass, pass}
@@ -110,7 +110,7 @@ pub record AtWork (p : meaning.Plate) (t : meaning.State) (front m : List ℕ) (
   pub plate : plateOf (s′ .plate) ≡ p
   pub state : stateOf (s′ .board) kept′ ≡ t
   pub memory : m′ ≡ put m 0 front
-  pub few : s′ .board .frame .len ≤ 135
+  pub few : KeepsFew (s′ .board)
   pub places : length kept′ ≡ 135
 
 abbrev pub Stands : Stage → Session → List ℕ → Session → List ℕ → List ℕ → Type 0
@@ -143,7 +143,16 @@ pub record Lends (p : Plate) (b : Board) (place : ℕ) (window : List ℕ) (from
   pub playable : Playable p b place window from kept (take (memoryLength (p .total)) m) w out used
   pub size : length m ≡ largestImage
 
--- the pass of such a board over the window from a place on
+-- the pass of a board at work over the window from a place on, and what it leaves of the lent bytes
+abbrev pub passAt : Plate → Board → ℕ → List ℕ → ℕ → List ℕ → List ℕ → List ℕ → ℕ → Pass
+passAt p b place window from kept m out used =
+    pass (suc (length window)) (length out - used) (running (plateOf p) (stateOf b kept) m) (place + from) (drop from window)
+
+abbrev pub lentAt : Plate → Board → ℕ → List ℕ → ℕ → List ℕ → List ℕ → List ℕ → List ℕ → ℕ → LentState
+lentAt p b place window from kept m w out used =
+    lentBy (suc (length window)) (length out - used) (place + from) (drop from window) (lentState (running (plateOf p) (stateOf b kept) m) kept w)
+
+-- .. that uses the front of the lent memory
 abbrev pub passFrom : Plate → Board → ℕ → List ℕ → ℕ → List ℕ → List ℕ → List ℕ → ℕ → Pass
 passFrom p b place window from kept m out used =
     pass (suc (length window)) (length out - used) (stageFrom Running p b kept (take (memoryLength (p .total)) m)) (place + from) (drop from window)

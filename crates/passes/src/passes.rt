@@ -1,17 +1,13 @@
 // A pass over the bytes at hand, and the end of the tape.
 ghost use mathlib.Core.Path.{_≡_};
 ghost use mathlib.Core.List.{List};
-ghost use Prim.Native.Nat.{ℕ, suc, _+_, _-_, _≤_, _<_, _^_};
-ghost use lib.ListN.{length, drop};
+ghost use Prim.Native.Nat.{ℕ, _+_, _≤_, _<_, _^_};
+ghost use lib.ListN.{length};
 ghost use Rattle.meaning.specs.Fields.{memoryLength};
-ghost use Rattle.line.specs.Line.{plateOf};
-ghost use Rattle.board.specs.Board.{stateOf};
-ghost use Rattle.tape.specs.Answers.{running};
-ghost use Rattle.tape.specs.Passes.{pass, closing};
+ghost use Rattle.tape.specs.Passes.{closing};
 ghost use Rattle.tape.specs.Text.{longestBadLine};
 ghost use Rattle.tape.specs.Reader.{Printed};
-ghost use Rattle.passes.specs.Holding.{lentState, lentBy};
-ghost use Rattle.passes.specs.Sessions.{stageOf, phaseAfter, eatenBy, Plays, Playable, Lends, GoesOn, EndsBad, ReadyForPass, Eats};
+ghost use Rattle.passes.specs.Sessions.{stageOf, phaseAfter, eatenBy, passAt, lentAt, Plays, Playable, Lends, GoesOn, EndsBad, ReadyForPass, Eats};
 use crate::beginning::Way;
 use crate::beginning::begin;
 use crate::session::Phase;
@@ -66,7 +62,9 @@ fn play(
     start: usize,
 ) -> Played
     requires { ⌜ Playable plate first place (now window) from (now kept) (now memory) (now reply) (now out) start ⌝ }
-    ensures { λ r. ⌜ Plays plate (pass (suc (length (now (window .entry)))) (length (now (out .entry)) - start) (running (plateOf plate) (stateOf first (now (kept .entry))) (now (memory .entry))) (place + from) (drop from (now (window .entry)))) (lentBy (suc (length (now (window .entry)))) (length (now (out .entry)) - start) (place + from) (drop from (now (window .entry))) (lentState (running (plateOf plate) (stateOf first (now (kept .entry))) (now (memory .entry))) (now (kept .entry)) (now (reply .entry)))) from (now (window .entry)) (now (out .entry)) start r (now (kept .exit)) (now (memory .exit)) (now (reply .exit)) (now (out .exit)) ⌝ }
+    ensures { λ r. ⌜ Plays plate (passAt plate first place (now (window .entry)) from (now (kept .entry)) (now (memory .entry)) (now (out .entry)) start)
+        (lentAt plate first place (now (window .entry)) from (now (kept .entry)) (now (memory .entry)) (now (reply .entry)) (now (out .entry)) start)
+        from (now (window .entry)) (now (out .entry)) start r (now (kept .exit)) (now (memory .exit)) (now (reply .exit)) (now (out .exit)) ⌝ }
 {
     let mut board = first;
     let mut at = from;

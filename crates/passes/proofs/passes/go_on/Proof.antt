@@ -41,7 +41,10 @@ same-length-4 : tie.Need-same-length-4
 same-length-4 c = search needs
 
 returns : tie.Need-returns
-returns c = goes-from _ _ _ _ _ _ _ _ _ _ _ (c .before .before .before .before .before .before .before .before .before .before .before .before .before .before .memory-length .ensures) (c .before .before .before .before .before .before .before .before .before .before .before .before .before .before .before .before .before .before .before .before .pre) _ _ _ _ _ (c .before .before .before .before .before .before .before .before .before .play .ensures) _ (c .after-pass .ensures)
+returns c =
+    let p = c .before .before .before .before .before .before .before .before .before in
+    let m = p .before .before .before .before .before in
+    goes-from _ _ _ _ _ _ _ _ _ _ _ (m .memory-length .ensures) (m .before .before .before .before .before .before .pre) _ _ _ _ _ (p .play .ensures) _ (c .after-pass .ensures)
 
 pub go-on-spec : {M : Type 1} → statement M
 go-on-spec =

@@ -43,7 +43,11 @@ same-length : tie.Need-same-length
 same-length c = search needs
 
 returns-2 : tie.Need-returns-2
-returns-2 c = a-line _ _ _ _ _ _ _ (c .before .before .before .before .before .before .before .reply-length .ensures) _ _ (c .after2 .ensures) (c .before .before .before .before .before .before .if1 .left) (few (c .before .before .before .before .before .before .before)) (c .before .before .before .reply-line .ensures)
+returns-2 c =
+    let l = c .before .before .before in
+    let e = l .before .before .before in
+    let n = e .before in
+    a-line _ _ _ _ _ _ _ (n .reply-length .ensures) _ _ (c .after2 .ensures) (e .if1 .left) (few n) (l .reply-line .ensures)
 
 pub answered-spec : {M : Type 1} → statement M
 answered-spec =
