@@ -3,7 +3,7 @@ use Prim.Native.Nat.{ℕ, _≤_}
 use mathlib.Core.Path.{_≡_}
 use mathlib.Core.List.{List, []}
 use lib.ListN.{length, take}
-use Rattle.meaning.specs.Bytes.{zeros}
+use Rattle.meaning.specs.Bytes.{zeros, longestReply, longestRequest}
 use Rattle.passes.specs.declared.session.Phase.the-variants.{Ended}
 use Rattle.passes.specs.Sessions.{largestImage, ReadyForPass}
 use Rattle.answer.specs.declared.Fed.{Fed}
@@ -23,7 +23,7 @@ pub record Leaves (r : Fed) (window kept m w out : List ℕ) : Type 0 where
 -- the buffers at the start
 pub record Buffers (window kept m w out : List ℕ) : Type 0 where
   pub window-size : length window ≡ 65536
-  pub kept-size : length kept ≡ 135
+  pub kept-size : length kept ≡ longestRequest
   pub blank : m ≡ zeros largestImage
-  pub reply-size : 134 ≤ length w
+  pub reply-size : longestReply ≤ length w
   pub output-size : length out ≡ 65536

@@ -11,6 +11,8 @@ ghost use Rattle.tape.specs.Text.{longestBadLine};
 ghost use Rattle.passes.specs.Sessions.{ReadyForPass};
 use libc::STDIN_FILENO;
 use libc::STDOUT_FILENO;
+use wire::codes::LONGEST_REPLY;
+use wire::codes::LONGEST_REQUEST;
 use passes::Phase;
 use passes::Session;
 use passes::Stop;
@@ -137,8 +139,8 @@ fn run(window: &mut [u8], kept: &mut [u8], memory: &mut [u8], reply: &mut [u8], 
 fn main() {
     let mut window = io::large_buffer();
     let mut out = io::large_buffer();
-    let mut kept = [0u8; 135];
+    let mut kept = [0u8; LONGEST_REQUEST];
     let mut memory = [0u8; 1904];
-    let mut reply = [0u8; 134];
+    let mut reply = [0u8; LONGEST_REPLY];
     run(&mut window, &mut kept, &mut memory, &mut reply, &mut out);
 }

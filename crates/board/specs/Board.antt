@@ -21,7 +21,7 @@ stateOf b kept = stateWith (b .state) (lineOf (b .frame) kept)
 
 -- 01, "at most 135 kept bytes"
 abbrev pub KeepsFew : Board → Type 0
-KeepsFew b = b .frame .len ≤ 135
+KeepsFew b = b .frame .len ≤ longestRequest
 
 -- .., of the frame's number and of the lent places
 unfoldable pub fitsIn : Board → List ℕ → Bool

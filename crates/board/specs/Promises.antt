@@ -4,7 +4,7 @@ use mathlib.Core.Path.{_≡_}
 use mathlib.Core.Bool.{true}
 use mathlib.Core.List.{List}
 use lib.ListN.{length}
-use Rattle.meaning.specs.Bytes.{pick, put}
+use Rattle.meaning.specs.Bytes.{pick, put, longestReply, longestRequest}
 use Rattle.meaning.specs.State.{Plate, plateOk, stateOk, fresh}
 use Rattle.meaning.specs.Fields.{memoryLength}
 use Rattle.meaning.specs.Run.{Call, step, closes}
@@ -24,12 +24,12 @@ pub record DoesStep (p : Plate) (b : Board) (kept m w : List ℕ) (g : Call) (r 
 pub record Within (p : Plate) (b : Board) (kept m : List ℕ) : Type 0 where
   pub plate : plateOk p ≡ true
   pub state : stateOk p (stateOf b kept) ≡ true
-  pub few : b .frame .len ≤ 135
-  pub places : length kept ≡ 135
+  pub few : b .frame .len ≤ longestRequest
+  pub places : length kept ≡ longestRequest
   pub size : length m ≡ memoryLength (p .total)
 
 -- what a host holds that starts fresh with a good plate, 135 places and a memory of the right size, and only calls, with room enough
 pub data SinceFresh (p : Plate) : Board → List ℕ → List ℕ → Type 0 where
-  start : (b : Board) (kept m : List ℕ) → plateOk p ≡ true → length kept ≡ 135 → length m ≡ memoryLength (p .total) → b .frame .len ≤ 135 → stateOf b kept ≡ fresh p → SinceFresh p b kept m
-  next : (b : Board) (kept m w : List ℕ) (g : Call) (r : Stepped) (kept′ m′ w′ : List ℕ) → SinceFresh p b kept m → 134 ≤ length w
+  start : (b : Board) (kept m : List ℕ) → plateOk p ≡ true → length kept ≡ longestRequest → length m ≡ memoryLength (p .total) → b .frame .len ≤ longestRequest → stateOf b kept ≡ fresh p → SinceFresh p b kept m
+  next : (b : Board) (kept m w : List ℕ) (g : Call) (r : Stepped) (kept′ m′ w′ : List ℕ) → SinceFresh p b kept m → longestReply ≤ length w
       → Steps p b kept m w g r kept′ m′ w′ → SinceFresh p (r .board) kept′ m′

@@ -3,6 +3,8 @@ mod words;
 
 use board::Board;
 use line::Plate;
+use wire::codes::LONGEST_REPLY;
+use wire::codes::LONGEST_REQUEST;
 use words::say;
 
 // Address 0, pause 55, 4 ticks a bit, 24 position bits, 8 blocks.
@@ -19,9 +21,9 @@ fn plate() -> Plate {
 // One request and what came of it. The tick count wraps around within it; a character has 11 bits, 44 ticks. Between requests no frame is
 // open, so that the kept bytes need not last.
 fn ask(board: Board, address: u32, command: u8, body: &[u8], memory: &mut [u8; 136]) -> Board {
-    let mut request = [0u8; 135];
-    let mut kept = [0u8; 135];
-    let mut room = [0u8; 134];
+    let mut request = [0u8; LONGEST_REQUEST];
+    let mut kept = [0u8; LONGEST_REQUEST];
+    let mut room = [0u8; LONGEST_REPLY];
     let passed = exchange::exchange(
         plate(),
         board,

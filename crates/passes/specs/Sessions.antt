@@ -3,7 +3,7 @@ use Prim.Native.Nat.{ℕ, suc, _+_, _-_, _≤_, _<_, _^_}
 use mathlib.Core.Path.{_≡_}
 use mathlib.Core.List.{List}
 use lib.ListN.{length, take, drop}
-use Rattle.meaning.specs.Bytes.{zeros, put}
+use Rattle.meaning.specs.Bytes.{zeros, put, longestReply, longestRequest}
 use Rattle.meaning.specs.State as meaning
 use Rattle.meaning.specs.State.{fresh}
 use Rattle.meaning.specs.Fields.{memoryLength}
@@ -86,9 +86,9 @@ Steady Ended p b kept m w = ⊥
 
 pub record ReadyForPass (s : Session) (window kept m w out : List ℕ) (used : ℕ) : Type 0 where
   pub steady : Steady (s .phase) (s .plate) (s .board) kept m w
-  pub lent : length kept ≡ 135
+  pub lent : length kept ≡ longestRequest
   pub size : length m ≡ largestImage
-  pub room : 134 ≤ length w
+  pub room : longestReply ≤ length w
   pub space : used ≤ length out
   pub place : s .place + length window < 2 ^ 64
 
@@ -111,7 +111,7 @@ pub record AtWork (p : meaning.Plate) (t : meaning.State) (front m : List ℕ) (
   pub state : stateOf (s′ .board) kept′ ≡ t
   pub memory : m′ ≡ put m 0 front
   pub few : KeepsFew (s′ .board)
-  pub places : length kept′ ≡ 135
+  pub places : length kept′ ≡ longestRequest
 
 abbrev pub Stands : Stage → Session → List ℕ → Session → List ℕ → List ℕ → Type 0
 Stands opening s m s′ kept′ m′ = Unbegun s m s′ m′

@@ -3,7 +3,6 @@ ghost use mathlib.Core.Path.{_≡_};
 ghost use mathlib.Core.List.{List};
 ghost use Prim.Native.Nat.{ℕ, _+_, _≤_, _<_, _^_};
 ghost use lib.ListN.{length};
-ghost use Rattle.meaning.specs.Fields.{memoryLength};
 ghost use Rattle.tape.specs.Passes.{closing};
 ghost use Rattle.tape.specs.Text.{longestBadLine};
 ghost use Rattle.tape.specs.Reader.{Printed};
@@ -121,15 +120,6 @@ fn phase_after(stop: Stop) -> Phase
     }
 }
 
-// 01, "Memory": 16T data bytes, then T status bytes.
-fn memory_length(total: u32) -> usize
-    requires { ⌜ total ≤ 112 ⌝ }
-    ensures { λ r. ⌜ r ≡ memoryLength total ⌝ }
-{
-    let t = total as usize;
-    16 * t + t
-}
-
 // Where the tape stands after a running board's pass.
 fn after_pass(plate: Plate, place: u64, end: Played) -> Eaten
     requires { ⌜ place + end .at < 2 ^ 64 ⌝ }
@@ -168,7 +158,7 @@ fn go_on(
     requires { ⌜ Lends plate board place (now window) from (now kept) (now memory) (now reply) (now out) used ⌝ }
     ensures { λ r. ⌜ GoesOn plate board place (now (window .entry)) from (now (kept .entry)) (now (memory .entry)) (now (reply .entry)) (now (out .entry)) used r (now (kept .exit)) (now (memory .exit)) (now (reply .exit)) (now (out .exit)) ⌝ }
 {
-    let size = memory_length(plate.total);
+    let size = plate.memory_length() as usize;
     let end = play(
         plate,
         board,

@@ -4,7 +4,7 @@ use mathlib.Core.Path.{_≡_}
 use mathlib.Core.Bool.{Bool, true, false, not}
 use mathlib.Core.List.{List, []}
 use lib.ListN.{length, take}
-use Rattle.meaning.specs.Bytes.{put}
+use Rattle.meaning.specs.Bytes.{put, longestReply}
 use Rattle.meaning.specs.State as meaning
 use Rattle.meaning.specs.Characters.{over}
 use Rattle.meaning.specs.Run.{Call, character, poll, measured, fault, power-on, step}
@@ -26,7 +26,7 @@ use Rattle.turns.specs.declared.answering.Turned.{Turned}
 -- R1 to R3 do not apply
 pub record Sound (p : Plate) (b : Board) (kept m w : List ℕ) : Type 0 where
   pub within : Within (plateOf p) b kept m
-  pub room : 134 ≤ length w
+  pub room : longestReply ≤ length w
 
 -- a stage of a running board
 abbrev pub runs : Plate → Board → List ℕ → List ℕ → Stage
@@ -108,7 +108,7 @@ Calls p b x kept m w r kept′ m′ w′ = CallsBy (r .bad) p b x kept m w r kep
 
 -- a reply of n bytes, at the front of its room, has space as a line
 pub record Fitting (n : ℕ) (w out : List ℕ) (used : ℕ) : Type 0 where
-  pub few : n ≤ 134
+  pub few : n ≤ longestReply
   pub room : n ≤ length w
   pub space : used + longestLine ≤ length out
 
