@@ -13,7 +13,7 @@ use Rattle.passes.specs.declared.session.Phase.{Phase}
 use Rattle.passes.specs.declared.session.Phase.the-variants.{Ended}
 use Rattle.passes.specs.declared.session.Session.{Session}
 use Rattle.passes.specs.declared.passes.Eaten.{Eaten}
-use Rattle.passes.specs.Sessions.{largestImage, AtTapeStart, ReadyForPass, Eats}
+use Rattle.passes.specs.Sessions.{largestMemory, AtTapeStart, ReadyForPass, Eats}
 use Rattle.passes.proofs.session.Phase.{the-type}
 use Rattle.answer.specs.Program.{Leaves, Buffers}
 
@@ -61,7 +61,7 @@ pub ready-first : (s : Session) (window kept m w out out′ : List ℕ) (used : 
 ready-first s window kept m w out out′ used b t p = record {
   steady = rw (t .phase) (b .blank);
   lent = b .kept-size;
-  size = ap length (b .blank) ∙ length-replicate {A = ℕ} largestImage 0;
+  size = ap length (b .blank) ∙ length-replicate {A = ℕ} largestMemory 0;
   room = b .reply-size;
   space = omega (arith, p .within, same-size p);
   place = rw (t .place) (omega arith);

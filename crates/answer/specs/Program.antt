@@ -5,7 +5,7 @@ use mathlib.Core.List.{List, []}
 use lib.ListN.{length, take}
 use Rattle.meaning.specs.Bytes.{zeros, longestReply, longestRequest}
 use Rattle.passes.specs.declared.session.Phase.the-variants.{Ended}
-use Rattle.passes.specs.Sessions.{largestImage, ReadyForPass}
+use Rattle.passes.specs.Sessions.{largestMemory, ReadyForPass}
 use Rattle.answer.specs.declared.Fed.{Fed}
 
 -- bytes that were read stand behind those that the window had
@@ -24,6 +24,6 @@ pub record Leaves (r : Fed) (window kept m w out : List ℕ) : Type 0 where
 pub record Buffers (window kept m w out : List ℕ) : Type 0 where
   pub window-size : length window ≡ 65536
   pub kept-size : length kept ≡ longestRequest
-  pub blank : m ≡ zeros largestImage
+  pub blank : m ≡ zeros largestMemory
   pub reply-size : longestReply ≤ length w
   pub output-size : length out ≡ 65536

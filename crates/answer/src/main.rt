@@ -11,12 +11,12 @@ ghost use Rattle.tape.specs.Text.{longestBadLine};
 ghost use Rattle.passes.specs.Sessions.{ReadyForPass};
 use libc::STDIN_FILENO;
 use libc::STDOUT_FILENO;
-use wire::codes::LONGEST_REPLY;
-use wire::codes::LONGEST_REQUEST;
 use passes::Phase;
 use passes::Session;
 use passes::Stop;
 use tape::LONGEST_BAD_LINE;
+use wire::codes::LONGEST_REPLY;
+use wire::codes::LONGEST_REQUEST;
 
 // What a window came to: where the tape stands, how far the window was read, how much of the output is used.
 struct Fed {

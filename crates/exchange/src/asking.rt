@@ -113,15 +113,9 @@ pub fn exchange(
     match bench::write_request(address, command, body, request) {
         Written::R4 => unsent(board, Refusal::R4),
         Written::R5 => unsent(board, Refusal::R5),
-        Written::Request { len } => converse(
-            plate,
-            board,
-            tick,
-            spacing,
-            &request[..len],
-            kept,
-            memory,
-            room,
-        ),
+        Written::Request { len } => {
+            let asked = &request[..len];
+            converse(plate, board, tick, spacing, asked, kept, memory, room)
+        }
     }
 }

@@ -28,7 +28,7 @@ use Rattle.tape.proofs.Streams.{pass-enough}
 use Rattle.turns.specs.Turns.{stageKept, isEnded, lastOf}
 use Rattle.passes.specs.Beginnings.{Working, goes-on, begins, Idle}
 use Rattle.passes.specs.Holding.{LentState, lentState, lentAfter, lentBy}
-use Rattle.passes.specs.Sessions.{largestImage, stageOf, stopTold, phaseAfter, eatenBy, Plays, Steady, ReadyForPass, passOver, lentOver, Stands, Eats, Lends, passFrom, lentFrom, GoesOn, EndsBad}
+use Rattle.passes.specs.Sessions.{largestMemory, stageOf, stopTold, phaseAfter, eatenBy, Plays, Steady, ReadyForPass, passOver, lentOver, Stands, Eats, Lends, passFrom, lentFrom, GoesOn, EndsBad}
 use Rattle.turns.specs.Openings.{Begins, Fails}
 use Rattle.passes.specs.declared.session.Phase.{Phase}
 use Rattle.passes.specs.declared.session.Phase.the-variants.{Opening, Running, Ended}
@@ -45,7 +45,7 @@ use Rattle.meaning.proofs.Choices.{told-true}
 
 -- ---- the front of the lent memory
 
-pub front-fits : (p : Plate) (m : List ℕ) → plateOk (plateOf p) ≡ true → length m ≡ largestImage → memoryLength (p .total) ≤ length m
+pub front-fits : (p : Plate) (m : List ℕ) → plateOk (plateOf p) ≡ true → length m ≡ largestMemory → memoryLength (p .total) ≤ length m
 front-fits p m ok e = omega (arith, total-fits (plateOf p) ok)
 
 module _ (p : Plate) (b : Board) (place : ℕ) (window : List ℕ) (from : ℕ) (kept m w out : List ℕ) (used : ℕ)
@@ -216,8 +216,8 @@ module _ (s : Session) (window kept m w out : List ℕ) (used : ℕ) (ready : Re
     (p : Plate) (next : ℕ) (x : Said) (begins : Begins window p next x) (b : Board) (fresh-board : (k : List ℕ) → stateOf b k ≡ fresh (plateOf p)) where
   blank : take (memoryLength (p .total)) m ≡ zeros (memoryLength (p .total))
   blank =
-      let z : m ≡ zeros largestImage = rw first at (ready .steady) in
-      rw z (take-zeros (memoryLength (p .total)) largestImage (omega (arith, total-fits (plateOf p) (begins .good))))
+      let z : m ≡ zeros largestMemory = rw first at (ready .steady) in
+      rw z (take-zeros (memoryLength (p .total)) largestMemory (omega (arith, total-fits (plateOf p) (begins .good))))
 
   few : b .frame .len ≤ 135
   unfolding fresh meaning.none

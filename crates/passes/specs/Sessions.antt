@@ -1,6 +1,7 @@
 -- Where a tape stands between two of its parts, as a stage of the meaning; what a pass and the end of the tape leave. Assumes nothing.
 use Prim.Native.Nat.{ℕ, suc, _+_, _-_, _≤_, _<_, _^_}
 use mathlib.Core.Path.{_≡_}
+use mathlib.Core.Bool.{true}
 use mathlib.Core.List.{List}
 use lib.ListN.{length, take, drop}
 use Rattle.meaning.specs.Bytes.{zeros, put, longestReply, longestRequest}
@@ -10,13 +11,14 @@ use Rattle.meaning.specs.Fields.{memoryLength}
 use Rattle.line.specs.declared.plate.Plate.{Plate}
 use Rattle.line.specs.Line.{plateOf}
 use Rattle.board.specs.declared.limits.Board.{Board}
-use Rattle.board.specs.Board.{stateOf, KeepsFew}
+use Rattle.board.specs.Board.{stateOf, fitsIn, KeepsFew}
 use Rattle.tape.specs.Answers.{Stage, opening, running, ended}
 use Rattle.tape.specs.Passes as passes
 use Rattle.tape.specs.Passes.{Pass, pass}
 use Rattle.tape.specs.Text.{badLine}
 use Rattle.tape.specs.Reader.{Printed}
-use Rattle.turns.specs.Turns.{Sound}
+use Rattle.tape.specs.Kinds.{Said}
+use Rattle.turns.specs.Turns.{Sound, quickly}
 use Rattle.passes.specs.Holding.{LentState, lentState, lentBy}
 use Rattle.passes.specs.declared.session.Phase.{Phase}
 use Rattle.passes.specs.declared.session.Phase.the-variants.{Opening, Running, Ended}
@@ -27,8 +29,8 @@ use Rattle.passes.specs.declared.passes.Played.{Played}
 use Rattle.passes.specs.declared.passes.Eaten.{Eaten}
 
 -- the lent memory is long enough for the largest plate; a board uses the front of it
-abbrev pub largestImage : ℕ
-largestImage = memoryLength 112
+abbrev pub largestMemory : ℕ
+largestMemory = memoryLength 112
 
 abbrev pub stageFrom : Phase → Plate → Board → List ℕ → List ℕ → Stage
 stageFrom Opening p b kept m = opening
@@ -37,6 +39,11 @@ stageFrom Ended p b kept m = ended
 
 abbrev pub stageOf : Session → List ℕ → List ℕ → Stage
 stageOf s kept m = stageFrom (s .phase) (s .plate) (s .board) kept (take (memoryLength (s .plate .total)) m)
+
+-- a record that closes no frame of a board whose kept bytes are within their places
+pub record TakesQuickly (p : Plate) (b : Board) (x : Said) (kept : List ℕ) : Type 0 where
+  pub quick : quickly (plateOf p) (stateOf b kept) x ≡ true
+  pub fits : fitsIn b kept ≡ true
 
 -- why a pass stopped, and whether it goes on
 abbrev pub stopTold : passes.Stop → Stop
@@ -80,14 +87,14 @@ pub record Plays (p : Plate) (q : Pass) (h : LentState) (from : ℕ) (window out
 
 -- what each phase asks of the lent bytes: blank memory before the plate, then a board within its limits; after the end nothing is read
 abbrev pub Steady : Phase → Plate → Board → List ℕ → List ℕ → List ℕ → Type 0
-Steady Opening p b kept m w = m ≡ zeros largestImage
+Steady Opening p b kept m w = m ≡ zeros largestMemory
 Steady Running p b kept m w = Sound p b kept (take (memoryLength (p .total)) m) w
 Steady Ended p b kept m w = ⊥
 
 pub record ReadyForPass (s : Session) (window kept m w out : List ℕ) (used : ℕ) : Type 0 where
   pub steady : Steady (s .phase) (s .plate) (s .board) kept m w
   pub lent : length kept ≡ longestRequest
-  pub size : length m ≡ largestImage
+  pub size : length m ≡ largestMemory
   pub room : longestReply ≤ length w
   pub space : used ≤ length out
   pub place : s .place + length window < 2 ^ 64
@@ -141,7 +148,7 @@ pub record Playable (p : Plate) (b : Board) (place : ℕ) (window : List ℕ) (f
 -- .. that uses the front of the lent memory
 pub record Lends (p : Plate) (b : Board) (place : ℕ) (window : List ℕ) (from : ℕ) (kept m w out : List ℕ) (used : ℕ) : Type 0 where
   pub playable : Playable p b place window from kept (take (memoryLength (p .total)) m) w out used
-  pub size : length m ≡ largestImage
+  pub size : length m ≡ largestMemory
 
 -- the pass of a board at work over the window from a place on, and what it leaves of the lent bytes
 abbrev pub passAt : Plate → Board → ℕ → List ℕ → ℕ → List ℕ → List ℕ → List ℕ → ℕ → Pass

@@ -5,8 +5,9 @@ ghost use Prim.Native.Nat.{ℕ, _+_, _≤_, _<_, _^_};
 ghost use lib.ListN.{length};
 ghost use Rattle.tape.specs.Passes.{closing};
 ghost use Rattle.tape.specs.Text.{longestBadLine};
-ghost use Rattle.tape.specs.Reader.{Printed};
-ghost use Rattle.passes.specs.Sessions.{stageOf, phaseAfter, eatenBy, passAt, lentAt, Plays, Playable, Lends, GoesOn, EndsBad, ReadyForPass, Eats};
+ghost use Rattle.tape.specs.Reader.{Printed, saidOf};
+ghost use Rattle.turns.specs.Turns.{Quiet};
+ghost use Rattle.passes.specs.Sessions.{stageOf, TakesQuickly, phaseAfter, eatenBy, passAt, lentAt, Plays, Playable, Lends, GoesOn, EndsBad, ReadyForPass, Eats};
 use crate::beginning::Way;
 use crate::beginning::begin;
 use crate::session::Phase;
@@ -47,6 +48,22 @@ fn halt(board: Board, at: usize, used: usize, stop: Stop) -> Played
     }
 }
 
+// A record that closes no frame: a character is taken in, a poll changes nothing.
+fn taken_in(plate: Plate, board: Board, event: Event, kept: &mut [u8]) -> Board
+    requires { ⌜ TakesQuickly plate board (saidOf event) (now kept) ⌝ }
+    ensures { λ r. ⌜ Quiet plate board (now (kept .entry)) (saidOf event) r (now (kept .exit)) ⌝ }
+{
+    let Event::Character {
+        tick,
+        value,
+        parity,
+    } = event
+    else {
+        return board;
+    };
+    board.with_character(tick, value, parity, kept)
+}
+
 // `place` is that of the window's first byte; the records are taken from `from` on.
 fn play(
     plate: Plate,
@@ -68,24 +85,13 @@ fn play(
     let mut board = first;
     let mut at = from;
     let mut used = start;
-    loop {
-        if out.len() - used < LONGEST_LINE {
-            return halt(board, at, used, Stop::Full);
-        }
+    while LONGEST_LINE <= out.len() - used {
         let Heard::Said { event, next } = hear(window, at) else {
             return halt(board, at, used, Stop::More);
         };
         if closes_none(plate, board, event) {
+            board = taken_in(plate, board, event, kept);
             at = next;
-            let Event::Character {
-                tick,
-                value,
-                parity,
-            } = event
-            else {
-                continue;
-            };
-            board = board.with_character(tick, value, parity, kept);
             continue;
         }
         let here = place + at as u64;
@@ -97,6 +103,7 @@ fn play(
         }
         at = next;
     }
+    halt(board, at, used, Stop::Full)
 }
 
 fn stopped(session: Session, used: usize, stop: Stop) -> Eaten

@@ -141,20 +141,15 @@ fn shut(
 }
 
 // What a character finds done by its tick, as a poll would do it.
-fn polled(
-    image: &mut [u8],
-    tick: u32,
-    total: u32,
-    bits: u32,
-    address: u32,
-    ticks: u32,
-    pause: u32,
-    memory: &mut [u8],
-    room: &mut [u8],
-) -> usize
-    requires { ⌜ Unrefused (plateOf (plateFrom total bits address ticks pause)) (now image) (length (now memory)) (length (now room)) ⌝ }
-    ensures { λ r. ⌜ Polls (plateOf (plateFrom total bits address ticks pause)) (now (image .entry)) (now (memory .entry)) (now (room .entry)) tick r (now (image .exit)) (now (memory .exit)) (now (room .exit)) ⌝ }
+fn polled(image: &mut [u8], tick: u32, plate: Plate, memory: &mut [u8], room: &mut [u8]) -> usize
+    requires { ⌜ Unrefused (plateOf plate) (now image) (length (now memory)) (length (now room)) ⌝ }
+    ensures { λ r. ⌜ Polls (plateOf plate) (now (image .entry)) (now (memory .entry)) (now (room .entry)) tick r (now (image .exit)) (now (memory .exit)) (now (room .exit)) ⌝ }
 {
+    let total = plate.total;
+    let bits = plate.bits;
+    let address = plate.address;
+    let ticks = plate.ticks;
+    let pause = plate.pause;
     if is_over(image, tick, total, bits, address, ticks, pause) {
         return shut(image, total, bits, address, ticks, pause, memory, room);
     }
@@ -196,17 +191,7 @@ pub extern "C" fn qs_character(
     if room.len() < LONGEST_REPLY {
         return REFUSED + 3;
     }
-    let sent = polled(
-        image,
-        tick,
-        total,
-        bits,
-        address,
-        ticks,
-        pause,
-        memory,
-        room,
-    );
+    let sent = polled(image, tick, plate, memory, room);
     image::take_character(tick, value, is_fault(parity), image);
     sent
 }
