@@ -54,7 +54,8 @@ loop-again c =
     )
 
 returns-3 : tie.Need-returns-3 Inv-loop μ-loop
-returns-3 c = let u = c .before in
+returns-3 c =
+    let u = c .before in
     let a = u .before .before .args in
     sym (u .loop .inv .2 ∙ same-end (a .a .now) (a .b .now) (u .loop .i) (omega arith) (omega arith))
 

@@ -17,7 +17,8 @@ piece-requires : tie.Need-piece-requires
 piece-requires c κs = search needs
 
 add-end : tie.Need-add-end
-add-end c = let after-judge = c .before .before in
+add-end c =
+    let after-judge = c .before .before in
     let start = after-judge .before .before .before in
     record { fits = omega (arith, piece-within (start .args .request .now) (start .args .reply .now) (after-judge .judge .result) (after-judge .judge .ensures) _ (c .before .piece .ensures)) }
 
@@ -28,12 +29,14 @@ part-result-start : tie.Need-part-result-start
 part-result-start c = omega arith
 
 part-result-end : tie.Need-part-result-end
-part-result-end c = let after-judge = c .before .before in
+part-result-end c =
+    let after-judge = c .before .before in
     let start = after-judge .before .before .before in
     omega (arith, piece-within (start .args .request .now) (start .args .reply .now) (after-judge .judge .result) (after-judge .judge .ensures) _ (c .before .piece .ensures))
 
 returns : tie.Need-returns
-returns c = let after-piece = c .before .before in
+returns c =
+    let after-piece = c .before .before in
     let after-judge = after-piece .before in
     let start = after-judge .before .before .before in
     let e = handed-by (start .args .request .now) (start .args .reply .now) (after-judge .judge .result) (after-judge .judge .ensures) ∙ sym (after-piece .piece .ensures) in (rw e (cut-out (start .args .reply .now) _ _), rw e refl)

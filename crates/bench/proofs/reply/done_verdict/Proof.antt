@@ -27,7 +27,8 @@ right : (c : tie.After-length-fits)
     → let a = c .before .before .before .before .before .before .before .args in
     rightLength (a .request .now) (a .reply .now) ≡ c .length-fits .result
 unfolding commandByte
-right c = let p = c .before in
+right c =
+    let p = c .before in
     let q = p .before in
     let r = q .before in
     let a = r .before .before .before .before .args in
@@ -94,13 +95,15 @@ shared-slice-read-if3 : tie.Need-shared-slice-read-if3
 shared-slice-read-if3 c = search needs
 
 returns-3 : tie.Need-returns-3
-returns-3 c = let v = c .before .before in
+returns-3 c =
+    let v = c .before .before in
     let u = v .before .before .before .before in
     let s = u .before .before .before .before .before .before .before .before in
     sym (ap withoutData (done-calm _ _ (s .pre .ordinary) (right (u .before) ∙ not-false _ (u .if1 .left)) (repeats (v .before) ∙ not-false _ (v .if2 .left)) (c .if3 .taken)))
 
 returns-4 : tie.Need-returns-4
-returns-4 c = let v = c .before .before in
+returns-4 c =
+    let v = c .before .before in
     let u = v .before .before .before .before in
     let s = u .before .before .before .before .before .before .before .before in
     sym (ap withoutData (done-warned _ _ (s .pre .ordinary) (right (u .before) ∙ not-false _ (u .if1 .left)) (repeats (v .before) ∙ not-false _ (v .if2 .left)) (c .if3 .left)))

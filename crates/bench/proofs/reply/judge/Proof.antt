@@ -63,7 +63,8 @@ xor-of-requires : tie.Need-xor-of-requires
 xor-of-requires c κs = search needs
 
 returns-3 : tie.Need-returns-3
-returns-3 c = let u = c .before .before in
+returns-3 c =
+    let u = c .before .before in
     sym (ap withoutData (sum-wrong _ _ (asks (u .before)) (u .if2 .left) (λ e. c .if3 .taken (c .before .xor-of .ensures ∙ e))))
 
 shared-slice-read-from-asked : tie.Need-shared-slice-read-from-asked
@@ -119,12 +120,14 @@ error-verdict-requires c κs = search needs
 
 returns-6 : tie.Need-returns-6
 unfolding errorReply bare commandByte
-returns-6 c = let t = c .before .before in
+returns-6 c =
+    let t = c .before .before in
     c .error-verdict .ensures _ (sym (t .is-error .ensures) ∙ c .before .if6 .taken) ∙ sym (ap withoutData (reached (t .before .before .before)))
 
 done-verdict-requires : tie.Need-done-verdict-requires
 unfolding errorReply bare commandByte
-done-verdict-requires c κs = let t = c .before in
+done-verdict-requires c κs =
+    let t = c .before in
     let x = t .before .before .before in
     let v = x .before .before .before .before .before .before .before .before in
     let u = v .before .before in

@@ -15,7 +15,8 @@ use Rattle.wire.proofs.row_of.Reads as row-of-reads
 
 -- what the test of the length says
 right : (c : tie.After-length-fits) → let a = c .before .before .before .args in asked (commandOf (a .command)) (a .body .now) ≡ c .length-fits .result
-right c = let row = c .before in
+right c =
+    let row = c .before in
     let a = row .before .before .args in
     fits-asked (row .row-of .result) (a .command) (a .body .now) (c .length-fits .result) (row .row-of .ensures) (c .length-fits .ensures (a .body .now) refl)
 
@@ -35,12 +36,14 @@ byte-at-requires : tie.Need-byte-at-requires
 byte-at-requires c κs = search needs
 
 returns-2 : tie.Need-returns-2
-returns-2 c = let after-2 = c .before .before in
+returns-2 c =
+    let after-2 = c .before .before in
     let after-else1 = after-2 .before in
     sym (asked-well _ _ _ (passed after-else1) (count-some _ _ _ (after-2 .if2 .taken) (c .before .byte-at .ensures) (c .if3 .taken)))
 
 returns-3 : tie.Need-returns-3
-returns-3 c = let after-2 = c .before .before in
+returns-3 c =
+    let after-2 = c .before .before in
     let after-else1 = after-2 .before in
     sym (asked-well _ _ _ (passed after-else1) (count-none _ _ _ (after-2 .if2 .taken) (c .before .byte-at .ensures) (c .if3 .left)))
 
@@ -50,11 +53,11 @@ byte-at-requires-2 c κs = search needs
 returns-4 : tie.Need-returns-4
 returns-4 c =
     let after-else1 = c .before .before .before in
-    let after-else1 = after-else1 in
     sym (asked-well _ _ _ (passed after-else1) (in-range-4F _ _ _ (c .before .if4 .taken) (c .byte-at2 .ensures)))
 
 returns-5 : tie.Need-returns-5
-returns-5 c = let after-else1 = c .before .before in
+returns-5 c =
+    let after-else1 = c .before .before in
     let e = passed after-else1 in sym (asked-well _ _ _ e (in-range-else _ _ e (c .before .if2 .left) (c .if4 .left)))
 
 pub is-allowed-spec : {M : Type 1} → statement M

@@ -42,14 +42,16 @@ is-allowed-requires : tie.Need-is-allowed-requires
 is-allowed-requires c κs = search needs
 
 returns-3 : tie.Need-returns-3
-returns-3 c = let u = c .before .before in
+returns-3 c =
+    let u = c .before .before in
     data-wrong _ _ _ _ (u .before .before .if1 .left) (address-well u) (sym (c .before .is-allowed .ensures) ∙ not-true _ (c .if3 .taken))
 
 address-byte-requires : tie.Need-address-byte-requires
 address-byte-requires c κs = address-well (c .before .before)
 
 write-requires : tie.Need-write-requires
-write-requires c κs = let v = c .before .before in
+write-requires c κs =
+    let v = c .before .before in
     let u = v .before .before in
     omega (arith, request-fits _ _ _ (u .before .before .before .before .before .args .buffer .now) (address-well u) (data-well v))
 
@@ -61,7 +63,8 @@ same-length c = search needs
 
 returns-4 : tie.Need-returns-4
 unfolding request
-returns-4 c = let p = c .before .before in
+returns-4 c =
+    let p = c .before .before in
     let b = p .before .before in
     let v = b .before in
     let u = v .before .before in

@@ -35,7 +35,8 @@ returns : tie.Need-returns
 returns c = character-refused _ _ _ _ _ _ (polled (c .before) .poll .ensures) _ _ (sym (c .before .is-refusal .ensures) ∙ c .if1 .taken)
 
 with-character-requires : tie.Need-with-character-requires
-with-character-requires c κs = let e = c .before .before in
+with-character-requires c κs =
+    let e = c .before .before in
     character-fits _ _ _ _ _ _ (polled (e .before) .poll .ensures) (sym (e .before .is-refusal .ensures) ∙ e .if1 .left)
 
 stepped-requires : tie.Need-stepped-requires

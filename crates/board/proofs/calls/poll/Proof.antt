@@ -44,7 +44,8 @@ stepped-requires : tie.Need-stepped-requires
 stepped-requires c κs = search needs
 
 returns : tie.Need-returns
-returns c = let t = c .before .before in refused _ _ _ _ _ _ (c .stepped .ensures) (told (t .before .before .before)) (sym (t .is-refusal .ensures) ∙ c .before .if1 .taken)
+returns c =
+    let t = c .before .before in refused _ _ _ _ _ _ (c .stepped .ensures) (told (t .before .before .before)) (sym (t .is-refusal .ensures) ∙ c .before .if1 .taken)
 
 is-over-requires : tie.Need-is-over-requires
 is-over-requires c κs = search needs

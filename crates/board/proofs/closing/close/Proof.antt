@@ -22,13 +22,11 @@ cast-len c = search needs
 slice-aggregate-bytes : tie.Need-slice-aggregate-bytes
 slice-aggregate-bytes c =
     let start = c .before .before .before .before .before in
-    let start = start in
     sym (length-take-le _ _ (omega (arith, start .pre .fits .few, start .pre .fits .all)))
 
 own-byte-requires : tie.Need-own-byte-requires
 own-byte-requires c κs =
     let start = c .before .before .before .before .before in
-    let start = start in
     own-known _ _ _ _ _ _ (start .pre)
 
 judged-requires : tie.Need-judged-requires
@@ -43,14 +41,14 @@ code-requires c κs = search needs
 refuse-requires : tie.Need-refuse-requires
 refuse-requires c κs =
     let start = c .before .before .before .before .before .before .before .before .before .before in
-    let start = start in
     answerable _ _ _ _ _ _ (start .pre)
 
 same-length : tie.Need-same-length
 same-length c = search needs
 
 returns : tie.Need-returns
-returns c = let after-refuse = c .before .before in
+returns c =
+    let after-refuse = c .before .before in
     let after-code = after-refuse .before .before in
     let at-match-keys2 = after-code .before in
     let after-judged = at-match-keys2 .before in
@@ -60,12 +58,12 @@ returns c = let after-refuse = c .before .before in
 data-part-requires : tie.Need-data-part-requires
 data-part-requires c κs =
     let after-judged = c .before .before .before in
-    let after-judged = after-judged in
     let start = after-judged .before .before .before .before .before .before .before in
     long _ _ _ _ _ _ (start .pre) _ _ (sym (after-judged .judged .ensures) ∙ c .before .judgement .given .1)
 
 serve-requires : tie.Need-serve-requires
-serve-requires c κs = let after-data-part = c .before .before in
+serve-requires c κs =
+    let after-data-part = c .before .before in
     let after-judgement = after-data-part .before .before in
     let after-judged = after-judgement .before .before in
     let start = after-judged .before .before .before .before .before .before .before in
@@ -80,7 +78,6 @@ same-length-3 c = search needs
 returns-2 : tie.Need-returns-2
 returns-2 c =
     let after-serve = c .before .before .before .before in
-    let after-serve = after-serve in
     let after-data-part = after-serve .before .before .before in
     let after-judgement = after-data-part .before .before in
     let after-judged = after-judgement .before .before in

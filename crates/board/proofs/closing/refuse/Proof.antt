@@ -18,7 +18,8 @@ same-length : tie.Need-same-length
 same-length c = search needs
 
 returns-2 : tie.Need-returns-2
-returns-2 c = let after-reply = c .before .before in
+returns-2 c =
+    let after-reply = c .before .before in
     let after-else1 = after-reply .before .before in
     fault-sent _ _ _ (ne-eqb _ _ (after-else1 .if1 .left)) (after-reply .reply .ensures)
 

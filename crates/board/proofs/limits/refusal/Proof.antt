@@ -27,7 +27,6 @@ returns-2 : tie.Need-returns-2
 unfolding refusedAs
 returns-2 c =
     let start = c .before .before .before .before in
-    let start = start in
     let after-memory-length = c .before .before in
     let after-within-limits = after-memory-length .before in
     λ k m g e h l. as-told (in-order _ _ k m _ g (after-within-limits .within-limits .ensures k) e h l (not-false _ (c .before .if1 .left)) (sized (start .args .memory) (after-memory-length .memory-length .ensures) (not-true _ (c .if2 .taken))) refl)
@@ -36,7 +35,6 @@ returns-3 : tie.Need-returns-3
 unfolding refusedAs
 returns-3 c =
     let start = c .before .before .before .before .before in
-    let start = start in
     let after-else1 = c .before .before in
     let after-memory-length = after-else1 .before in
     let after-within-limits = after-memory-length .before in
@@ -46,7 +44,6 @@ returns-4 : tie.Need-returns-4
 unfolding refusedAs
 returns-4 c =
     let start = c .before .before .before .before .before in
-    let start = start in
     let after-else1 = c .before .before in
     let after-memory-length = after-else1 .before in
     let after-within-limits = after-memory-length .before in

@@ -28,7 +28,6 @@ is-ok-requires-2 c κs = search needs
 returns-3 : tie.Need-returns-3
 returns-3 c =
     let after-else1 = c .before .before .before in
-    let after-else1 = after-else1 in
     let after-is-ok = after-else1 .before in
     λ k all. by-state _ _ k (sym (after-is-ok .is-ok .ensures) ∙ not-false _ (after-else1 .if1 .left)) (c .before .if2 .left) all (λ h. c .is-ok2 .ensures _ _ refl h)
 

@@ -35,14 +35,12 @@ marked-requires-2 c κs = search needs
 seal-requires : tie.Need-seal-requires
 seal-requires c κs =
     let after-answer2 = c .before .before .before in
-    let after-answer2 = after-answer2 in
     let start = after-answer2 .before .before .before .before .before in
     enough-room (brief-data (start .pre .brief) (after-answer2 .answer2 .given .1)) (start .pre .ready .room)
 
 add-result : tie.Need-add-result
 add-result c =
     let after-answer2 = c .before .before .before .before .before .before in
-    let after-answer2 = after-answer2 in
     let start = after-answer2 .before .before .before .before .before in
     omega (arith, brief-data (start .pre .brief) (after-answer2 .answer2 .given .1))
 
@@ -53,7 +51,8 @@ same-length : tie.Need-same-length
 same-length c = search needs
 
 returns : tie.Need-returns
-returns c = let after-write = c .before .before in
+returns c =
+    let after-write = c .before .before in
     let after-marked = after-write .before .before .before in
     let after-answer = after-marked .before .before in
     let after-own-byte = after-answer .before .before .before in
@@ -63,7 +62,8 @@ same-length-2 : tie.Need-same-length-2
 same-length-2 c = search needs
 
 returns-2 : tie.Need-returns-2
-returns-2 c = let after-seal = c .before .before in
+returns-2 c =
+    let after-seal = c .before .before in
     let after-marked2 = after-seal .before .before in
     let after-answer2 = after-marked2 .before .before in
     let after-own-byte = after-answer2 .before .before .before in

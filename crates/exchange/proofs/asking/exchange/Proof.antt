@@ -73,7 +73,8 @@ unsent-requires : tie.Need-unsent-requires
 unsent-requires c κs = search needs
 
 returns : tie.Need-returns
-returns c = let e = c .before in
+returns c =
+    let e = c .before in
     passes-unsent _ _ _ _ _ _ _ _ _ _ (sym (e .enum-told .given .1) ∙ refusal-is (e .before .before)) refl refl (c .unsent .ensures)
 
 enum-told-2 : tie.Need-enum-told-2
@@ -83,7 +84,8 @@ unsent-requires-2 : tie.Need-unsent-requires-2
 unsent-requires-2 c κs = search needs
 
 returns-2 : tie.Need-returns-2
-returns-2 c = let e = c .before in
+returns-2 c =
+    let e = c .before in
     passes-unsent _ _ _ _ _ _ _ _ _ _ (sym (e .enum-told2 .given .1) ∙ refusal-is (e .before .before)) refl refl (c .unsent2 .ensures)
 
 enum-told-3 : tie.Need-enum-told-3
@@ -93,7 +95,8 @@ unsent-requires-3 : tie.Need-unsent-requires-3
 unsent-requires-3 c κs = search needs
 
 returns-3 : tie.Need-returns-3
-returns-3 c = let e = c .before in
+returns-3 c =
+    let e = c .before in
     passes-unsent _ _ _ _ _ _ _ _ _ _ (sym (e .enum-told3 .given .1) ∙ refusal-is (e .before .before)) refl refl (c .unsent3 .ensures)
 
 is-open-requires : tie.Need-is-open-requires
@@ -103,7 +106,8 @@ unsent-requires-4 : tie.Need-unsent-requires-4
 unsent-requires-4 c κs = search needs
 
 returns-4 : tie.Need-returns-4
-returns-4 c = let t = c .before in
+returns-4 c =
+    let t = c .before in
     let o = t .before in
     passes-refused _ _ _ _ _ _ _ _ _ _ (refused-open _ _ _ _ _ _ _ _ _ _ (unrefused (o .before)) (sym (o .is-open .ensures (start (o .before .before) .args .kept .now)) ∙ t .if1 .taken)) (eqb-false 6 0 refl) refl (c .unsent4 .ensures)
 
@@ -114,7 +118,8 @@ unsent-requires-5 : tie.Need-unsent-requires-5
 unsent-requires-5 c κs = search needs
 
 returns-5 : tie.Need-returns-5
-returns-5 c = let t = c .before in
+returns-5 c =
+    let t = c .before in
     let o = t .before .before in
     let slow = rw (t .before .pause-of .ensures) at (t .if2 .taken) in
     passes-refused _ _ _ _ _ _ _ _ _ _ (refused-slow _ _ _ _ _ _ _ _ _ _ (unrefused (o .before .before)) (idle o) slow) (eqb-false 7 0 refl) refl (c .unsent5 .ensures)
@@ -137,11 +142,11 @@ unsent-requires-7 c κs = search needs
 enum-known-len : tie.Need-enum-known-len
 enum-known-len c = search needs
 
-slice-reshare-prefix-converse : tie.Need-slice-reshare-prefix-converse
-slice-reshare-prefix-converse c = written c .within
+slice-reshare-prefix-asked : tie.Need-slice-reshare-prefix-asked
+slice-reshare-prefix-asked c = written c .within
 
-slice-aggregate-converse : tie.Need-slice-aggregate-converse
-slice-aggregate-converse c = sym (length-take-le _ _ (written (c .before) .within))
+slice-aggregate-asked : tie.Need-slice-aggregate-asked
+slice-aggregate-asked c = sym (length-take-le _ _ (written (c .before) .within))
 
 converse-requires : tie.Need-converse-requires
 converse-requires c κs =
@@ -162,7 +167,8 @@ same-length : tie.Need-same-length
 same-length c = search needs
 
 returns-6 : tie.Need-returns-6
-returns-6 c = let m = c .before in
+returns-6 c =
+    let m = c .before in
     let u = m .before .before .before .before in
     let l = u .before .before in
     let o = l .before .before in
@@ -173,7 +179,8 @@ same-length-2 : tie.Need-same-length-2
 same-length-2 c = search needs
 
 returns-7 : tie.Need-returns-7
-returns-7 c = let m = c .before in
+returns-7 c =
+    let m = c .before in
     let u = m .before .before .before .before in
     let l = u .before .before in
     let o = l .before .before in
@@ -229,8 +236,8 @@ exchange-spec =
     enum-told-5
     unsent-requires-7
     enum-known-len
-    slice-reshare-prefix-converse
-    slice-aggregate-converse
+    slice-reshare-prefix-asked
+    slice-aggregate-asked
     converse-requires
     same-length
     returns-6

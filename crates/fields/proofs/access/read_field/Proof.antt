@@ -108,7 +108,8 @@ part-read-own-end c =
     omega (arith, l .within, entry (f .before .before) .pre .lent .fit .long)
 
 read-own-requires : tie.Need-read-own-requires
-read-own-requires c κs = let l = c .before .before in
+read-own-requires c κs =
+    let l = c .before .before in
     let s = entry (l .before .before .before .before .before .before .before) in
     record { long = asked-4A (s .args .request .now) (s .pre .wanted); few = l .if2 .left; room = s .pre .lent .room }
 

@@ -11,7 +11,8 @@ use Rattle.fields.proofs.find.find_field.Tie as tie
 
 -- past both tests the field lies in memory
 sat : (c : tie.Else2) → Sits (c .before .before .before .before .before .before .args .total) (surveyOf (c .before .before .before .before .survey .result)) (c .before .before .before .before .before .before .args .field)
-sat c = let e = c .before .before in
+sat c =
+    let e = c .before .before in
     let k = e .before .before in
     let a = k .before .before .args in
     sits (a .total) (a .memory .now) (a .field) _ (k .survey .ensures) (not-false _ (e .if1 .left))
@@ -25,7 +26,8 @@ returns c =
     found-unsound _ _ _ (surveyOf (after-survey .survey .result)) (after-survey .survey .ensures) (not-true _ (c .if1 .taken))
 
 returns-2 : tie.Need-returns-2
-returns-2 c = let e = c .before .before in
+returns-2 c =
+    let e = c .before .before in
     let k = e .before .before in
     found-none _ _ _ (surveyOf (k .survey .result)) (k .survey .ensures) (not-false _ (e .if1 .left)) (c .if2 .taken)
 

@@ -10,7 +10,8 @@ use Rattle.fields.proofs.find.open_field.Tie as tie
 
 -- past the `let` the field is there
 said : (c : tie.After-found) → FoundIn (c .before .before .before .before .args .total) (c .before .before .before .before .args .memory .now) (c .before .before .before .before .args .field) (Field (c .found .given .0 .0) (c .found .given .0 .1 .0) (c .found .given .0 .1 .1 .0))
-said c = let k = c .before .before in
+said c =
+    let k = c .before .before in
     let a = k .before .before .args in
     subst (λ (g : Found). FoundIn (a .total) (a .memory .now) (a .field) g) (c .found .given .1) (k .find-field .ensures)
 

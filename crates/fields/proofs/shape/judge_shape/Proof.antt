@@ -46,7 +46,8 @@ judge-create-requires : tie.Need-judge-create-requires
 judge-create-requires c κs = search needs
 
 returns-2 : tie.Need-returns-2
-returns-2 c = let n = c .before in
+returns-2 c =
+    let n = c .before in
     let k = n .before .before in
     let l = k .before .before in
     let s = entry l in
@@ -67,7 +68,8 @@ judge-modify-requires : tie.Need-judge-modify-requires
 judge-modify-requires c κs = search needs
 
 returns-4 : tie.Need-returns-4
-returns-4 c = let m = c .before in
+returns-4 c =
+    let m = c .before in
     let n = m .before .before in
     let k = n .before .before in
     let l = k .before .before in
@@ -80,7 +82,8 @@ returns-4 c = let m = c .before in
     (c .judge-modify .ensures (a .total) (s .pre .sits (sound-at l)) there)
 
 returns-5 : tie.Need-returns-5
-returns-5 c = let k = c .before .before in
+returns-5 c =
+    let k = c .before .before in
     let l = k .before .before in
     let a = entry l .args in
     shape-none (a .codes) (a .total) (surveyOf (a .seen)) (a .request .now) (sound-at l) (sym (k .before .has-field .ensures) ∙ k .if2 .left) (c .if5 .taken)
@@ -89,7 +92,8 @@ judge-delete-requires : tie.Need-judge-delete-requires
 judge-delete-requires c κs = search needs
 
 returns-6 : tie.Need-returns-6
-returns-6 c = let n = c .before in
+returns-6 c =
+    let n = c .before in
     let k = n .before .before in
     let l = k .before .before in
     let s = entry l in

@@ -21,7 +21,8 @@ entry c =
 
 -- past the `let` the change is granted
 said : (c : tie.After-grant) → Shapes (entry (c .before .before) .args .codes) (entry (c .before .before) .args .total) (surveyOf (c .before .before .before .survey .result)) (entry (c .before .before) .args .request .now) (Granted (c .grant .given .0 .0))
-said c = let k = c .before .before in
+said c =
+    let k = c .before .before in
     let a = entry k .args in
     subst (λ (g : Grant). Shapes (a .codes) (a .total) (surveyOf (k .before .survey .result)) (a .request .now) g) (c .grant .given .1) (k .judge-shape .ensures)
 
@@ -73,7 +74,8 @@ returns c =
     (k .judge-shape .ensures .answer p s (a .memory .now) e q (k .before .survey .ensures) ∙ not-granted (k .judge-shape .result) (at-match-keys2 .match .keys2) (a .total) s (a .memory .now) (arg d 0) (arg d 1)))
 
 apply-requires : tie.Need-apply-requires
-apply-requires c κs = let g = c .before .before in
+apply-requires c κs =
+    let g = c .before .before in
     record { fit = entry (g .before .before) .pre .lent .fit; room = said g .place }
 
 shared-slice-read-reply-two : tie.Need-shared-slice-read-reply-two

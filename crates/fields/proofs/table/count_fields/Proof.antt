@@ -64,7 +64,8 @@ loop-again c =
     omega (arith, count-more l (at .loop .fields) (omega arith) e, used-more l (at .loop .fields) (omega arith) e, c .blocks-in .ensures, blocks-most (getD l (at .loop .fields) 0))
 
 returns-2 : tie.Need-returns-2 Inv-loop μ-loop
-returns-2 c = let at = c .before in
+returns-2 c =
+    let at = c .before in
     let l = at .before .before .args .statuses .now in
     record {
       fields = omega (arith, count-end l (at .loop .fields) (omega arith));

@@ -28,7 +28,8 @@ loop-less : tie.Need-loop-less Inv-loop μ-loop
 loop-less c = omega arith
 
 loop-again : tie.Need-loop-again Inv-loop μ-loop
-loop-again c = let at = c .before .before in
+loop-again c =
+    let at = c .before .before in
     (omega arith, at .loop .inv .1 ∙ blank-more (at .before .args .rest .now) (at .loop .i) (at .loop .bits) (omega arith))
 
 returns : tie.Need-returns Inv-loop μ-loop

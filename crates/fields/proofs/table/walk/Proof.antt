@@ -20,13 +20,15 @@ used-before c = c .count-fields .ensures .blocks ∙ ap used (c .before .front .
 
 -- and in all
 all-fields : (c : tie.After-count-fields2) → c .before .before .count-fields .result .fields + c .count-fields2 .result .fields ≡ fieldCount (c .before .before .before .before .before .args .statuses .now)
-all-fields c = let b = c .before .before in
+all-fields c =
+    let b = c .before .before in
     let a = b .before .before .before .args in
     walk-fields (a .statuses .now) (a .field) _ _ _ _ (fields-before b) (used-before b)
     (c .count-fields2 .ensures .fields ∙ ap fieldCount (c .before .past .ensures)) (c .count-fields2 .ensures .blocks ∙ ap used (c .before .past .ensures))
 
 all-used : (c : tie.After-count-fields2) → c .before .before .count-fields .result .blocks + c .count-fields2 .result .blocks ≡ used (c .before .before .before .before .before .args .statuses .now)
-all-used c = let b = c .before .before in
+all-used c =
+    let b = c .before .before in
     let a = b .before .before .before .args in
     walk-used (a .statuses .now) (a .field) _ _ _ _ (fields-before b) (used-before b)
     (c .count-fields2 .ensures .fields ∙ ap fieldCount (c .before .past .ensures)) (c .count-fields2 .ensures .blocks ∙ ap used (c .before .past .ensures))
@@ -48,7 +50,8 @@ count-fields-requires-2 : tie.Need-count-fields-requires-2
 count-fields-requires-2 c κs = simp (c .past .ensures, length-drop) (omega arith)
 
 add-fields : tie.Need-add-fields
-add-fields c = let k = c .before .before in
+add-fields c =
+    let k = c .before .before in
     let a = all-fields k in
     omega (arith, count-le (k .before .before .before .before .before .args .statuses .now))
 

@@ -13,7 +13,8 @@ use Rattle.fields.proofs.tell.field_status.Tie as tie
 -- past the `let` the field is there
 said : (c : tie.After-found) → FoundIn (c .before .before .before .before .before .before .before .args .total) (c .before .before .before .before .before .before .before .args .memory .now)
     (arg (c .before .before .before .before .before .before .before .args .request .now) 0) (Field (c .found .given .0 .0) (c .found .given .0 .1 .0) (c .found .given .0 .1 .1 .0))
-said c = let k = c .before .before in
+said c =
+    let k = c .before .before in
     let a = k .before .before .before .before .before .args in
     subst (λ (g : Found). FoundIn (a .total) (a .memory .now) (arg (a .request .now) 0) g) (c .found .given .1) (k .find-field .ensures)
 

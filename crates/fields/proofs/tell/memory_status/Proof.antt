@@ -21,7 +21,8 @@ enum-told-2 : tie.Need-enum-told-2
 enum-told-2 c = search needs
 
 returns : tie.Need-returns
-returns c = let after-trust = c .before .before in
+returns c =
+    let after-trust = c .before .before in
     let after-survey = after-trust .before in
     let start = after-survey .before .before .before in
     λ p s d e.
@@ -31,12 +32,12 @@ returns c = let after-trust = c .before .before in
 free-byte-requires : tie.Need-free-byte-requires
 free-byte-requires c κs =
     let after-survey = c .before .before .before in
-    let after-survey = after-survey in
     let start = after-survey .before .before .before in
     omega (arith, free-le (start .args .total) (start .args .memory .now) 0 (surveyOf (after-survey .survey .result)) (after-survey .survey .ensures), start .pre .fit .few)
 
 cast-reply-two : tie.Need-cast-reply-two
-cast-reply-two c = let after-enum-told = c .before .before in
+cast-reply-two c =
+    let after-enum-told = c .before .before in
     let after-trust = after-enum-told .before .before in
     let after-survey = after-trust .before in
     let start = after-survey .before .before .before in
@@ -49,7 +50,8 @@ same-length : tie.Need-same-length
 same-length c = search needs
 
 returns-2 : tie.Need-returns-2
-returns-2 c = let after-reply-two = c .before .before in
+returns-2 c =
+    let after-reply-two = c .before .before in
     let after-free-byte = after-reply-two .before .before .before in
     let after-enum-told = after-free-byte .before in
     let after-trust = after-enum-told .before .before in

@@ -44,7 +44,8 @@ same-length : tie.Need-same-length
 same-length c = search needs
 
 returns : tie.Need-returns
-returns c = let after-fill = c .before .before in
+returns c =
+    let after-fill = c .before .before in
     let after-bytes-of = after-fill .before .before .before in
     let start = after-bytes-of .before .before in
     part-filled (now (start .args .image)) 23 6 _ (search needs) refl (rw (after-bytes-of .bytes-of .ensures) at (after-fill .fill .ensures))

@@ -65,7 +65,8 @@ array-read-t56 : tie.Need-array-read-t56
 array-read-t56 c = search needs
 
 returns : tie.Need-returns
-returns c = let after-bytes-of = c .before .before in
+returns c =
+    let after-bytes-of = c .before .before in
     let start = after-bytes-of .before .before .before in
     λ l. state-row (start .args .state) l (start .pre) (after-bytes-of .bytes-of .ensures) (c .before .bytes-of2 .ensures) (c .bytes-of3 .ensures)
 

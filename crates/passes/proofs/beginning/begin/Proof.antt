@@ -66,7 +66,8 @@ returns-4 : tie.Need-returns-4
 returns-4 c = rw (c .with-board4 .ensures) (c .before .before .before .before .before .enum-told .given .1, c .before .before .before .before .if1 .left, opens-as _ _ _ (c .before .before .before .open .ensures) (c .before .enum-told3 .given .1))
 
 returns-5 : tie.Need-returns-5
-returns-5 c = let o = opens-as _ _ _ (c .before .before .before .before .before .open .ensures) (c .before .before .before .first .given .1) in rw (c .with-board5 .ensures) (begins (c .before .before .before .before .before .before .before .enum-told .given .1) (c .before .before .before .before .before .before .if1 .left) (o .0) (o .1) (c .before .fresh .ensures))
+returns-5 c =
+    let o = opens-as _ _ _ (c .before .before .before .before .before .open .ensures) (c .before .before .before .first .given .1) in rw (c .with-board5 .ensures) (begins (c .before .before .before .before .before .before .before .enum-told .given .1) (c .before .before .before .before .before .before .if1 .left) (o .0) (o .1) (c .before .fresh .ensures))
 
 pub begin-spec : {M : Type 1} → statement M
 begin-spec =

@@ -27,7 +27,8 @@ enum-told : tie.Need-enum-told
 enum-told c = search needs
 
 refuse-requires : tie.Need-refuse-requires
-refuse-requires c κs = let o = rw (c .before .enum-told .given .1) at (c .before .before .before .begin .ensures) in omega (arith, o .1, c .before .before .before .before .before .before .before .before .before .pre .space)
+refuse-requires c κs =
+    let o = rw (c .before .enum-told .given .1) at (c .before .before .before .begin .ensures) in omega (arith, o .1, c .before .before .before .before .before .before .before .before .before .pre .space)
 
 enum-known-way-2 : tie.Need-enum-known-way-2
 enum-known-way-2 c = search needs

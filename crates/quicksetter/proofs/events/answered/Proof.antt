@@ -29,7 +29,6 @@ plate-from-requires c κs = search needs
 frame-in-requires : tie.Need-frame-in-requires
 frame-in-requires c κs =
     let start = c .before .before .before .before .before in
-    let start = start in
     omega (arith, good _ (start .pre .image) .all)
 
 cast-end : tie.Need-cast-end
@@ -41,7 +40,6 @@ add-end c = search needs
 own-byte-requires : tie.Need-own-byte-requires
 own-byte-requires c κs =
     let after-plate-from = c .before .before .before in
-    let after-plate-from = after-plate-from in
     let start = after-plate-from .before .before .before .before in
     rw (after-plate-from .plate-from .ensures) (low-own (plateFrom (start .args .total) (start .args .bits) (start .args .address) (start .args .ticks) (start .args .pause)) (now (start .args .image)) (now (start .args .memory)) (now (start .args .room)) (start .pre))
 
@@ -54,7 +52,6 @@ part-judged-start c = search needs
 part-judged-end : tie.Need-part-judged-end
 part-judged-end c =
     let after-frame-in = c .before .before .before in
-    let after-frame-in = after-frame-in in
     let start = after-frame-in .before .before .before .before .before .before in
     omega (
       arith,
@@ -72,7 +69,6 @@ enum-known-judgement c = search needs
 state-in-requires : tie.Need-state-in-requires
 state-in-requires c κs =
     let start = c .before .before .before .before .before .before .before .before .before .before .before .before .before in
-    let start = start in
     omega (arith, good _ (start .pre .image) .all)
 
 code-requires : tie.Need-code-requires
@@ -81,7 +77,6 @@ code-requires c κs = search needs
 refuse-requires : tie.Need-refuse-requires
 refuse-requires c κs =
     let after-plate-from = c .before .before .before .before .before .before .before .before .before .before .before .before in
-    let after-plate-from = after-plate-from in
     let start = after-plate-from .before .before .before .before in
     rw (after-plate-from .plate-from .ensures) (may-answer (plateFrom (start .args .total) (start .args .bits) (start .args .address) (start .args .ticks) (start .args .pause)) (now (start .args .image)) (now (start .args .memory)) (now (start .args .room)) (start .pre))
 
@@ -92,7 +87,8 @@ same-length-2 : tie.Need-same-length-2
 same-length-2 c = search needs
 
 returns : tie.Need-returns
-returns c = let after-refuse = c .before .before in
+returns c =
+    let after-refuse = c .before .before in
     let after-code = after-refuse .before .before in
     let after-state-in = after-code .before in
     let at-match-keys2 = after-state-in .before .before in
@@ -110,7 +106,6 @@ returns c = let after-refuse = c .before .before in
 served-requires : tie.Need-served-requires
 served-requires c κs =
     let after-judgement = c .before .before .before .before in
-    let after-judgement = after-judgement in
     let after-judged = after-judgement .before .before in
     let after-frame-in = after-judged .before .before .before .before .before in
     let after-plate-from = after-frame-in .before .before in
@@ -130,7 +125,6 @@ same-length-5 c = search needs
 returns-2 : tie.Need-returns-2
 returns-2 c =
     let after-served = c .before .before .before .before .before .before in
-    let after-served = after-served in
     let after-judgement = after-served .before .before .before .before .before in
     let after-judged = after-judgement .before .before in
     let after-own-byte = after-judged .before .before .before in

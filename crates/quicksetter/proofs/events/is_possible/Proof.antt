@@ -22,7 +22,6 @@ use Rattle.wire.proofs.number_at.Reads as number-at-reads
 abbrev entry : tie.Else1 → tie.Start
 entry c =
     let start = c .before .before .before in
-    let start = start in
     start
 
 fine : (c : tie.Else1) → isImage (now (entry c .args .image)) ≡ true
@@ -40,7 +39,8 @@ number-at-requires c κs = omega (arith, good _ (fine c) .all)
 
 returns-2 : tie.Need-returns-2
 unfolding possible
-returns-2 c = let after-else1 = c .before .before in
+returns-2 c =
+    let after-else1 = c .before .before in
     simp (fine after-else1, lt-leb _ _ (rw (c .before .number-at .ensures) at (c .if2 .taken)))
 
 plate-from-requires : tie.Need-plate-from-requires
@@ -51,7 +51,8 @@ is-ok-requires c κs = search needs
 
 returns-3 : tie.Need-returns-3
 unfolding possible
-returns-3 c = let after-plate-from = c .before .before in
+returns-3 c =
+    let after-plate-from = c .before .before in
     let after-else2 = after-plate-from .before in
     let after-number-at = after-else2 .before in
     let after-else1 = after-number-at .before in
@@ -60,7 +61,6 @@ returns-3 c = let after-plate-from = c .before .before in
 number-at-requires-2 : tie.Need-number-at-requires-2
 number-at-requires-2 c κs =
     let after-else1 = c .before .before .before .before .before in
-    let after-else1 = after-else1 in
     omega (arith, good _ (fine after-else1) .all)
 
 offset-fits-requires : tie.Need-offset-fits-requires
@@ -68,7 +68,8 @@ offset-fits-requires c κs = search needs
 
 returns-4 : tie.Need-returns-4
 unfolding possible
-returns-4 c = let after-else3 = c .before .before in
+returns-4 c =
+    let after-else3 = c .before .before in
     let after-is-ok = after-else3 .before in
     let after-plate-from = after-is-ok .before in
     let after-else2 = after-plate-from .before in

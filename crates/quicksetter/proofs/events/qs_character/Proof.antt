@@ -32,25 +32,21 @@ use Rattle.quicksetter.proofs.given.plate_from.Reads as plate-from-read
 abbrev entry1 : tie.Else1 → tie.Start
 entry1 c =
     let start = c .before .before .before .before .before .before in
-    let start = start in
     start
 
 abbrev entry2 : tie.Else2 → tie.Start
 entry2 c =
     let start = c .before .before .before .before .before .before .before .before .before in
-    let start = start in
     start
 
 abbrev entry3 : tie.Else3 → tie.Start
 entry3 c =
     let start = c .before .before .before .before .before .before .before .before .before .before .before .before in
-    let start = start in
     start
 
 abbrev entry4 : tie.Else4 → tie.Start
 entry4 c =
     let start = c .before .before .before .before .before .before .before .before .before .before .before .before .before in
-    let start = start in
     start
 
 -- the plate that it was given
@@ -64,13 +60,13 @@ sound : (c : tie.Else2) → apart (queueOf (stateIn (now (entry2 c .args .image)
 sound c = sym (c .before .is-sound .ensures) ∙ not-false _ (c .if2 .left)
 
 sized : (c : tie.Else3) → length (now (entry3 c .args .memory)) ≡ memoryLength (entry3 c .args .total)
-sized c = let after-plate-from = c .before .before in
+sized c =
+    let after-plate-from = c .before .before in
     c .if3 .left ∙ rw (after-plate-from .plate-from .ensures) at (c .before .memory-length .ensures)
 
 passed : (c : tie.Else4) → Unrefused (plate-at (entry4 c)) (now (entry4 c .args .image)) (length (now (entry4 c .args .memory))) (length (now (entry4 c .args .room)))
 passed c =
     let after-else2 = c .before .before .before .before in
-    let after-else2 = after-else2 in
     let after-else1 = after-else2 .before .before .before in
     let start = after-else1 .before .before .before .before .before .before in
     unrefused _ _ (now (start .args .memory)) (now (start .args .room)) (poll 0) (can after-else1) (sound after-else2) (sized (c .before)) (c .if4 .left)
@@ -99,7 +95,6 @@ same-length-2 c = search needs
 returns-2 : tie.Need-returns-2
 returns-2 c =
     let after-else1 = c .before .before .before in
-    let after-else1 = after-else1 in
     unsound _ _ _ _ _ (can after-else1) (sym (c .before .is-sound .ensures) ∙ not-true _ (c .if2 .taken))
 
 plate-from-requires : tie.Need-plate-from-requires
@@ -115,7 +110,8 @@ same-length-3 : tie.Need-same-length-3
 same-length-3 c = search needs
 
 returns-3 : tie.Need-returns-3
-returns-3 c = let after-plate-from = c .before .before in
+returns-3 c =
+    let after-plate-from = c .before .before in
     let after-else2 = after-plate-from .before in
     let after-else1 = after-else2 .before .before .before in
     other-size _ _ _ _ _ (can after-else1) (sound after-else2) (lends-character _ _ _) (λ e. c .if3 .taken (e ∙ sym (rw (after-plate-from .plate-from .ensures) at (c .before .memory-length .ensures))))
@@ -129,25 +125,24 @@ same-length-4 c = search needs
 returns-4 : tie.Need-returns-4
 returns-4 c =
     let after-else2 = c .before .before .before .before in
-    let after-else2 = after-else2 in
     let after-else1 = after-else2 .before .before .before in
     too-narrow _ _ _ _ _ (can after-else1) (sound after-else2) (sized (c .before)) (lends-character _ _ _) (c .if4 .taken)
 
 polled-requires : tie.Need-polled-requires
 polled-requires c κs =
+    let after-plate-from = c .before .before .before .before .before .before in
     let after-else4 = c .before .before .before in
-    let after-else4 = after-else4 in
-    passed after-else4
+    rw (after-plate-from .plate-from .ensures) (passed after-else4)
 
 is-fault-requires : tie.Need-is-fault-requires
 is-fault-requires c κs = search needs
 
 take-character-requires : tie.Need-take-character-requires
 take-character-requires c κs =
+    let after-plate-from = c .before .before .before .before .before .before .before .before .before .before .before .before .before .before .before in
     let after-polled = c .before .before .before .before .before .before .before .before in
-    let after-polled = after-polled in
     let after-else4 = after-polled .before .before .before .before in
-    image-again _ _ _ _ (passed after-else4) _ (after-polled .polled .ensures)
+    image-again _ _ _ _ (passed after-else4) _ (rw (after-plate-from .plate-from .ensures) at (after-polled .polled .ensures))
 
 same-length-5 : tie.Need-same-length-5
 same-length-5 c = search needs
@@ -159,13 +154,15 @@ same-length-7 : tie.Need-same-length-7
 same-length-7 c = search needs
 
 returns-5 : tie.Need-returns-5
-returns-5 c = let after-take-character = c .before .before in
+returns-5 c =
+    let after-plate-from = c .before .before .before .before .before .before .before .before .before .before .before .before .before .before .before .before .before .before in
+    let after-take-character = c .before .before in
     let after-is-fault = after-take-character .before .before in
     let after-slice-known4 = after-is-fault .before .before .before .before .before in
     let after-polled = after-slice-known4 .before .before in
     let after-else4 = after-polled .before .before .before .before in
     let start = after-else4 .before .before .before .before .before .before .before .before .before .before .before .before .before in
-    then-taken _ (now (start .args .image)) _ _ (passed after-else4) _ (after-polled .polled .ensures) _ (after-is-fault .is-fault .ensures) (λ i. (after-slice-known4 .slice-known4 .given i) .fits) (after-take-character .take-character .ensures)
+    then-taken _ (now (start .args .image)) _ _ (passed after-else4) _ (rw (after-plate-from .plate-from .ensures) at (after-polled .polled .ensures)) _ (after-is-fault .is-fault .ensures) (λ i. (after-slice-known4 .slice-known4 .given i) .fits) (after-take-character .take-character .ensures)
 
 pub qs-character-spec : {M : Type 1} → statement M
 qs-character-spec =

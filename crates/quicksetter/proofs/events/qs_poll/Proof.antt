@@ -31,25 +31,21 @@ use Rattle.quicksetter.proofs.given.plate_from.Reads as plate-from-read
 abbrev entry1 : tie.Else1 → tie.Start
 entry1 c =
     let start = c .before .before .before .before .before .before in
-    let start = start in
     start
 
 abbrev entry2 : tie.Else2 → tie.Start
 entry2 c =
     let start = c .before .before .before .before .before .before .before .before .before in
-    let start = start in
     start
 
 abbrev entry3 : tie.Else3 → tie.Start
 entry3 c =
     let start = c .before .before .before .before .before .before .before .before .before .before .before .before in
-    let start = start in
     start
 
 abbrev entry4 : tie.Else4 → tie.Start
 entry4 c =
     let start = c .before .before .before .before .before .before .before .before .before .before .before .before .before in
-    let start = start in
     start
 
 -- the plate that it was given
@@ -63,13 +59,13 @@ sound : (c : tie.Else2) → apart (queueOf (stateIn (now (entry2 c .args .image)
 sound c = sym (c .before .is-sound .ensures) ∙ not-false _ (c .if2 .left)
 
 sized : (c : tie.Else3) → length (now (entry3 c .args .memory)) ≡ memoryLength (entry3 c .args .total)
-sized c = let after-plate-from = c .before .before in
+sized c =
+    let after-plate-from = c .before .before in
     c .if3 .left ∙ rw (after-plate-from .plate-from .ensures) at (c .before .memory-length .ensures)
 
 passed : (c : tie.Else4) → Unrefused (plate-at (entry4 c)) (now (entry4 c .args .image)) (length (now (entry4 c .args .memory))) (length (now (entry4 c .args .room)))
 passed c =
     let after-else2 = c .before .before .before .before in
-    let after-else2 = after-else2 in
     let after-else1 = after-else2 .before .before .before in
     let start = after-else1 .before .before .before .before .before .before in
     unrefused _ _ (now (start .args .memory)) (now (start .args .room)) (poll 0) (can after-else1) (sound after-else2) (sized (c .before)) (c .if4 .left)
@@ -98,7 +94,6 @@ same-length-2 c = search needs
 returns-2 : tie.Need-returns-2
 returns-2 c =
     let after-else1 = c .before .before .before in
-    let after-else1 = after-else1 in
     unsound _ _ _ _ _ (can after-else1) (sym (c .before .is-sound .ensures) ∙ not-true _ (c .if2 .taken))
 
 plate-from-requires : tie.Need-plate-from-requires
@@ -114,7 +109,8 @@ same-length-3 : tie.Need-same-length-3
 same-length-3 c = search needs
 
 returns-3 : tie.Need-returns-3
-returns-3 c = let after-plate-from = c .before .before in
+returns-3 c =
+    let after-plate-from = c .before .before in
     let after-else2 = after-plate-from .before in
     let after-else1 = after-else2 .before .before .before in
     other-size _ _ _ _ _ (can after-else1) (sound after-else2) (lends-poll _) (λ e. c .if3 .taken (e ∙ sym (rw (after-plate-from .plate-from .ensures) at (c .before .memory-length .ensures))))
@@ -128,20 +124,17 @@ same-length-4 c = search needs
 returns-4 : tie.Need-returns-4
 returns-4 c =
     let after-else2 = c .before .before .before .before in
-    let after-else2 = after-else2 in
     let after-else1 = after-else2 .before .before .before in
     too-narrow _ _ _ _ _ (can after-else1) (sound after-else2) (sized (c .before)) (lends-poll _) (c .if4 .taken)
 
 is-over-requires : tie.Need-is-over-requires
 is-over-requires c κs =
     let after-else1 = c .before .before .before .before .before .before .before .before in
-    let after-else1 = after-else1 in
     omega (arith, good _ (an-image _ _ (can after-else1)) .all)
 
 shut-requires : tie.Need-shut-requires
 shut-requires c κs =
     let after-else4 = c .before .before .before .before .before .before in
-    let after-else4 = after-else4 in
     passed after-else4
 
 same-length-5 : tie.Need-same-length-5
@@ -156,7 +149,6 @@ same-length-7 c = search needs
 returns-5 : tie.Need-returns-5
 returns-5 c =
     let after-shut = c .before .before .before .before .before .before in
-    let after-shut = after-shut in
     let after-5 = after-shut .before .before .before .before in
     let after-is-over = after-5 .before in
     (after-shut .shut .ensures _ (sym (after-is-over .is-over .ensures) ∙ after-5 .if5 .taken)) .called
@@ -167,7 +159,6 @@ same-length-8 c = search needs
 returns-6 : tie.Need-returns-6
 returns-6 c =
     let after-else4 = c .before .before .before in
-    let after-else4 = after-else4 in
     let after-slice-known = after-else4 .before .before .before .before .before .before .before .before .before .before .before .before in
     let start = after-slice-known .before in
     (nothing-over _ (now (start .args .image)) _ _ (passed after-else4) _ (λ i. (after-slice-known .slice-known .given i) .fits) (sym (c .before .is-over .ensures) ∙ c .if5 .left)) .called

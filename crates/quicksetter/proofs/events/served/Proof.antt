@@ -22,7 +22,6 @@ leaves-state-requires c κs = search needs
 state-in-requires : tie.Need-state-in-requires
 state-in-requires c κs =
     let start = c .before .before .before .before .before .before in
-    let start = start in
     omega (arith, good _ (start .pre .image) .all)
 
 sub-data-part : tie.Need-sub-data-part
@@ -34,14 +33,14 @@ part-data-part-start c = search needs
 part-data-part-end : tie.Need-part-data-part-end
 part-data-part-end c =
     let start = c .before .before .before .before .before .before .before .before in
-    let start = start in
     omega (arith, start .pre .ends, good _ (start .pre .image) .all)
 
 data-part-requires : tie.Need-data-part-requires
 data-part-requires c κs = search needs
 
 ask-requires : tie.Need-ask-requires
-ask-requires c κs = let after-data-part = c .before .before in
+ask-requires c κs =
+    let after-data-part = c .before .before in
     let after-state-in = after-data-part .before .before .before in
     let after-1 = after-state-in .before .before in
     let after-leaves-state = after-1 .before in
@@ -60,7 +59,6 @@ same-length-3 c = search needs
 returns : tie.Need-returns
 returns c =
     let after-ask = c .before .before .before .before in
-    let after-ask = after-ask in
     let after-data-part = after-ask .before .before .before in
     let after-state-in = after-data-part .before .before .before in
     let after-slice-known = after-state-in .before .before .before .before .before .before in
@@ -70,7 +68,6 @@ returns c =
 state-in-requires-2 : tie.Need-state-in-requires-2
 state-in-requires-2 c κs =
     let start = c .before .before .before .before .before .before in
-    let start = start in
     omega (arith, good _ (start .pre .image) .all)
 
 sub-data-part-2 : tie.Need-sub-data-part-2
@@ -82,14 +79,14 @@ part-data-part-start-2 c = search needs
 part-data-part-end-2 : tie.Need-part-data-part-end-2
 part-data-part-end-2 c =
     let start = c .before .before .before .before .before .before .before .before in
-    let start = start in
     omega (arith, start .pre .ends, good _ (start .pre .image) .all)
 
 data-part-requires-2 : tie.Need-data-part-requires-2
 data-part-requires-2 c κs = search needs
 
 order-requires : tie.Need-order-requires
-order-requires c κs = let after-data-part2 = c .before .before in
+order-requires c κs =
+    let after-data-part2 = c .before .before in
     let after-state-in2 = after-data-part2 .before .before .before in
     let after-else1 = after-state-in2 .before .before in
     let after-leaves-state = after-else1 .before in
@@ -99,7 +96,6 @@ order-requires c κs = let after-data-part2 = c .before .before in
 put-state-requires : tie.Need-put-state-requires
 put-state-requires c κs =
     let start = c .before .before .before .before .before .before .before .before .before .before .before .before .before .before .before .before .before in
-    let start = start in
     omega (arith, good _ (start .pre .image) .all)
 
 same-length-4 : tie.Need-same-length-4
@@ -112,7 +108,8 @@ same-length-6 : tie.Need-same-length-6
 same-length-6 c = search needs
 
 returns-2 : tie.Need-returns-2
-returns-2 c = let after-put-state = c .before .before in
+returns-2 c =
+    let after-put-state = c .before .before in
     let after-order = after-put-state .before .before .before .before .before in
     let after-data-part2 = after-order .before .before .before in
     let after-state-in2 = after-data-part2 .before .before .before in

@@ -18,7 +18,6 @@ piece-requires c κs = search needs
 returns : tie.Need-returns
 returns c =
     let start = c .before .before .before .before in
-    let start = start in
     rw (handed-by (start .args .request .now) (start .args .reply .now) (c .before .judge .result) (c .before .judge .ensures) ∙ sym (c .piece .ensures))
 
 pub qs-data-part-spec : {M : Type 1} → statement M

@@ -32,8 +32,6 @@ returns : tie.Need-returns
 returns c =
     let after-check-code = c .before .before .before in
     let start = after-check-code .before .before .before in
-    let start = start in
-    let after-check-code = after-check-code in
     let after-byte-at = after-check-code .before in
     λ p l m w. barred-49 p _ l m _ w (c .refused .ensures) (given-byte (getD (start .args .state .codes) 0 0) (after-byte-at .byte-at .ensures) (sym (after-check-code .check-code .ensures) ∙ c .before .enum-told2 .given .1))
 
@@ -46,7 +44,6 @@ accepted-requires c κs = search needs
 returns-2 : tie.Need-returns-2
 returns-2 c =
     let start = c .before .before .before .before .before .before .before in
-    let start = start in
     let after-enum-told = c .before .before in
     let after-check-code = after-enum-told .before .before in
     let after-byte-at = after-check-code .before in

@@ -17,24 +17,28 @@ cast-result : tie.Need-cast-result
 cast-result c = search needs
 
 rem-result : tie.Need-rem-result
-rem-result c = let start = c .before .before in
+rem-result c =
+    let start = c .before .before in
     some _ (start .pre) (c .before .size .ensures)
 
 cast-result-2 : tie.Need-cast-result-2
 cast-result-2 c = search needs
 
 add-result : tie.Need-add-result
-add-result c = let after-size = c .before .before in
+add-result c =
+    let after-size = c .before .before in
     let start = after-size .before in
     omega (arith, low _ (start .pre) (after-size .size .ensures), rest _ (start .pre) (after-size .size .ensures) (start .args .state .measured))
 
 rem-result-2 : tie.Need-rem-result-2
-rem-result-2 c = let after-size = c .before .before in
+rem-result-2 c =
+    let after-size = c .before .before in
     let start = after-size .before in
     some _ (start .pre) (after-size .size .ensures)
 
 cast-result-3 : tie.Need-cast-result-3
-cast-result-3 c = let after-size = c .before .before in
+cast-result-3 c =
+    let after-size = c .before .before in
     let start = after-size .before in
     omega (arith, low _ (start .pre) (after-size .size .ensures), rest _ (start .pre) (after-size .size .ensures) (start .args .state .measured % after-size .size .result + start .args .state .offset))
 

@@ -21,7 +21,8 @@ same-length : tie.Need-same-length
 same-length c = search needs
 
 returns : tie.Need-returns
-returns c = let after-read = c .before .before in
+returns c =
+    let after-read = c .before .before in
     let start = after-read .before .before in
     λ p l m d. told-50 p _ l m d _ (start .pre) (c .accepted .ensures) (after-read .read .ensures l)
 

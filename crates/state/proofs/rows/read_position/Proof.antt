@@ -28,7 +28,6 @@ refused-requires c κs = search needs
 returns : tie.Need-returns
 returns c =
     let after-check-unlocked = c .before .before .before in
-    let after-check-unlocked = after-check-unlocked in
     λ p l m d e. locked-42 p _ l m d _ (c .refused .ensures) (failed _ (sym (after-check-unlocked .check-unlocked .ensures) ∙ c .before .enum-told2 .given .1))
 
 position-requires : tie.Need-position-requires
@@ -46,7 +45,6 @@ same-length c = search needs
 returns-2 : tie.Need-returns-2
 returns-2 c =
     let after-put-bytes4 = c .before .before .before in
-    let after-put-bytes4 = after-put-bytes4 in
     let after-position = after-put-bytes4 .before .before in
     let after-enum-told = after-position .before in
     let after-check-unlocked = after-enum-told .before .before in

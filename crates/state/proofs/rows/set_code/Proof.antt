@@ -34,13 +34,11 @@ refused-requires c κs = search needs
 returns : tie.Need-returns
 returns c =
     let after-check-number = c .before .before .before in
-    let after-check-number = after-check-number in
     λ p l m. high-4F p _ l m _ _ (c .refused .ensures) (failed _ (sym (after-check-number .check-number .ensures) ∙ c .before .enum-told2 .given .1))
 
 cast-check-code : tie.Need-cast-check-code
 cast-check-code c =
     let start = c .before .before .before .before .before .before in
-    let start = start in
     let after-check-number = c .before .before in
     search (needs, ltb-false 3 (getD (start .args .request .now) 0 0) (passed _ (sym (after-check-number .check-number .ensures) ∙ c .enum-told .given .1)))
 
@@ -51,8 +49,6 @@ check-code-requires : tie.Need-check-code-requires
 check-code-requires c κs =
     let after-check-number = c .before .before .before in
     let start = after-check-number .before .before .before .before in
-    let start = start in
-    let after-check-number = after-check-number in
     omega (arith, ltb-false 3 (getD (start .args .request .now) 0 0) (passed _ (sym (after-check-number .check-number .ensures) ∙ c .before .enum-told .given .1)))
 
 enum-told-3 : tie.Need-enum-told-3
@@ -67,7 +63,6 @@ refused-requires-2 c κs = search needs
 returns-2 : tie.Need-returns-2
 returns-2 c =
     let after-check-code = c .before .before .before in
-    let after-check-code = after-check-code in
     let after-enum-told = after-check-code .before .before in
     let after-check-number = after-enum-told .before .before in
     λ p l m. barred-4F p _ l m _ _ (passed _ (sym (after-check-number .check-number .ensures) ∙ after-enum-told .enum-told .given .1)) (c .refused2 .ensures) (sym (after-check-code .check-code .ensures) ∙ c .before .enum-told4 .given .1)
@@ -79,8 +74,6 @@ cast-with-code : tie.Need-cast-with-code
 cast-with-code c =
     let after-enum-told = c .before .before .before .before in
     let start = after-enum-told .before .before .before .before .before .before in
-    let start = start in
-    let after-enum-told = after-enum-told in
     let after-check-number = after-enum-told .before .before in
     search (needs, ltb-false 3 (getD (start .args .request .now) 0 0) (passed _ (sym (after-check-number .check-number .ensures) ∙ after-enum-told .enum-told .given .1)))
 
@@ -91,8 +84,6 @@ with-code-requires : tie.Need-with-code-requires
 with-code-requires c κs =
     let after-enum-told = c .before .before .before .before .before in
     let start = after-enum-told .before .before .before .before .before .before in
-    let start = start in
-    let after-enum-told = after-enum-told in
     let after-check-number = after-enum-told .before .before in
     omega (arith, ltb-false 3 (getD (start .args .request .now) 0 0) (passed _ (sym (after-check-number .check-number .ensures) ∙ after-enum-told .enum-told .given .1)))
 
@@ -105,7 +96,6 @@ same-length c = search needs
 returns-3 : tie.Need-returns-3
 returns-3 c =
     let after-enum-told3 = c .before .before .before in
-    let after-enum-told3 = after-enum-told3 in
     let after-check-code = after-enum-told3 .before .before in
     let after-enum-told = after-check-code .before .before in
     let after-check-number = after-enum-told .before .before in

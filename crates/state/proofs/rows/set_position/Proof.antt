@@ -31,7 +31,6 @@ refused-requires c κs = search needs
 returns : tie.Need-returns
 returns c =
     let after-check-unlocked = c .before .before .before in
-    let after-check-unlocked = after-check-unlocked in
     λ p l m w e. locked-43 p _ l m _ w (c .refused .ensures) (failed _ (sym (after-check-unlocked .check-unlocked .ensures) ∙ c .before .enum-told2 .given .1))
 
 shared-slice-read-check-code : tie.Need-shared-slice-read-check-code
@@ -52,7 +51,6 @@ refused-requires-2 c κs = search needs
 returns-2 : tie.Need-returns-2
 returns-2 c =
     let after-check-code = c .before .before .before in
-    let after-check-code = after-check-code in
     let after-enum-told = after-check-code .before .before in
     let after-check-unlocked = after-enum-told .before .before in
     λ p l m w e. barred-43 p _ l m _ w (passed _ (sym (after-check-unlocked .check-unlocked .ensures) ∙ after-enum-told .enum-told .given .1)) (c .refused2 .ensures) (sym (after-check-code .check-code .ensures) ∙ c .before .enum-told4 .given .1)
@@ -87,7 +85,6 @@ refused-requires-3 c κs = search needs
 returns-3 : tie.Need-returns-3
 returns-3 c =
     let after-check-position = c .before .before .before in
-    let after-check-position = after-check-position in
     let after-number-of = after-check-position .before in
     let after-enum-told3 = after-number-of .before .before .before .before .before in
     let after-check-code = after-enum-told3 .before .before in
@@ -108,7 +105,8 @@ accepted-requires : tie.Need-accepted-requires
 accepted-requires c κs = search needs
 
 returns-4 : tie.Need-returns-4
-returns-4 c = let after-offset-for = c .before .before in
+returns-4 c =
+    let after-offset-for = c .before .before in
     let after-enum-told5 = after-offset-for .before in
     let after-check-position = after-enum-told5 .before .before in
     let after-number-of = after-check-position .before in

@@ -36,7 +36,8 @@ loop-less : tie.Need-loop-less Inv-loop μ-loop
 loop-less c = search needs
 
 loop-again : tie.Need-loop-again Inv-loop μ-loop
-loop-again c = let u = c .before .before in
+loop-again c =
+    let u = c .before .before in
     let s = u .before .args .src .now in
     let d = u .before .args .dst .now in (
       search needs,

@@ -35,7 +35,8 @@ same-length : tie.Need-same-length
 same-length c = search needs
 
 returns : tie.Need-returns
-returns c = let u = c .before .before in
+returns c =
+    let u = c .before .before in
     let v = u .before .before .before .before in
     let a = v .before .before .before .before .args in
     let d = a .body .now in

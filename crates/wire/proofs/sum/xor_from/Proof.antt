@@ -29,7 +29,8 @@ loop-less : tie.Need-loop-less Inv-loop μ-loop
 loop-less c = search needs
 
 loop-again : tie.Need-loop-again Inv-loop μ-loop
-loop-again c = let u = c .before .before in
+loop-again c =
+    let u = c .before .before in
     let s = u .before .args .s .now in
     (search needs, xor-more s (u .loop .i) (u .loop .sum) (search needs) ∙ u .loop .inv .1)
 

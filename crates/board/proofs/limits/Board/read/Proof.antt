@@ -11,7 +11,6 @@ read-requires c κs = search needs
 returns : tie.Need-returns
 returns c =
     let start = c .before .before .before in
-    let start = start in
     record { code = λ kept. c .before .read .ensures none .oldest; board = λ kept. c .before .read .ensures (lineOf (start .args .self .frame) kept) .rest }
 
 pub read-spec : {M : Type 1} → statement M

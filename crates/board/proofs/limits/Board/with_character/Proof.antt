@@ -21,7 +21,8 @@ same-length : tie.Need-same-length
 same-length c = search needs
 
 returns : tie.Need-returns
-returns c = let w = c .before .before in
+returns c =
+    let w = c .before .before in
     takes-in _ _ _ _ _ (w .with-character .ensures) (w .with-character .kept .1 .1 .1 .1 .0 ∙ fits (w .before .before .before .before) .all)
 
 pub with-character-spec : {M : Type 1} → statement M

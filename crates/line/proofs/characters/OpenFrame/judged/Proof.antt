@@ -22,18 +22,21 @@ returns-2 c =
     for-another _ _ (long .if1 .left) (sym (c .before .is-addressed .ensures) ∙ not-true _ (c .if2 .taken))
 
 returns-3 : tie.Need-returns-3
-returns-3 c = let ours = c .before in
+returns-3 c =
+    let ours = c .before in
     let long = ours .before .before .before in
     parity-fault _ _ (long .if1 .left) (sym (ours .before .is-addressed .ensures) ∙ not-false _ (ours .if2 .left)) (c .if3 .taken)
 
 returns-4 : tie.Need-returns-4
-returns-4 c = let clean = c .before .before in
+returns-4 c =
+    let clean = c .before .before in
     let ours = clean .before in
     let long = ours .before .before .before in
     wrong-sum _ _ (long .if1 .left) (sym (ours .before .is-addressed .ensures) ∙ not-false _ (ours .if2 .left)) (clean .if3 .left) (ne-eqb _ _ (c .if4 .taken))
 
 returns-5 : tie.Need-returns-5
-returns-5 c = let summed = c .before in
+returns-5 c =
+    let summed = c .before in
     let clean = summed .before .before in
     let ours = clean .before in
     let long = ours .before .before .before in
@@ -47,7 +50,8 @@ row-of-requires : tie.Need-row-of-requires
 row-of-requires c κs = search needs
 
 returns-6 : tie.Need-returns-6
-returns-6 c = let row = c .before .before in
+returns-6 c =
+    let row = c .before .before in
     let short = row .before .before in
     let summed = short .before in
     let clean = summed .before .before in

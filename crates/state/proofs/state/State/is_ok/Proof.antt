@@ -23,7 +23,8 @@ offset-fits-requires : tie.Need-offset-fits-requires
 offset-fits-requires c κs = search needs
 
 returns-2 : tie.Need-returns-2
-returns-2 c = let after-else1 = c .before .before in
+returns-2 c =
+    let after-else1 = c .before .before in
     let start = after-else1 .before .before in
     λ p l e few. within _ p l (four-codes start) few (simp (e, le-leb _ _ (after-else1 .if1 .left), sym (c .before .offset-fits .ensures) ∙ not-true _ (c .if2 .taken)))
 
@@ -31,7 +32,8 @@ is-sound-requires : tie.Need-is-sound-requires
 is-sound-requires c κs = search needs
 
 returns-3 : tie.Need-returns-3
-returns-3 c = let after-offset-fits = c .before .before in
+returns-3 c =
+    let after-offset-fits = c .before .before in
     let after-else1 = after-offset-fits .before in
     let start = after-else1 .before .before in
     λ p l e few. within _ p l (four-codes start) few (simp (e, le-leb _ _ (after-else1 .if1 .left), sym (after-offset-fits .offset-fits .ensures) ∙ not-false _ (c .before .if2 .left), sym (c .is-sound .ensures)))
