@@ -28,7 +28,10 @@ answer =
     51 ∷ 48 ∷ 56 ∷ 32 ∷ 52 ∷ 48 ∷ 32 ∷ 52 ∷ 69 ∷ 32 ∷ 55 ∷ 48 ∷ 32 ∷ 48 ∷ 48 ∷ 32 ∷ 55 ∷ 69 ∷ 10 ∷ []
 
 pub prints : T (same (answersOf tape) (firstLine ++ answer))
-unfolding same part put blank xorFrom xorAll among plateOk fresh none withLine ownByte blocks exists table fieldCount used sound freeBlocks statusAt survey commandOf row lengthFits asked error freeByte memoryStatus worked gap over more taken closed resting close upTo commandByte dataOf ours judged ending sealed warned message still outcome leaves work step little lengthAt recordAt sized characterIn callOf saidBy decimalIn decimalOf digitOf hexOf replyLine firstLine badLine printedOf badRecord begun stepped turn answersFrom answersOf
+unfolding same part put blank xorFrom xorAll among plateOk fresh none withLine ownByte blocks exists table fieldCount used sound freeBlocks statusAt
+    survey commandOf row lengthFits asked error freeByte memoryStatus worked gap over more taken closed resting close upTo commandByte dataOf ours
+    judged ending sealed warned message still outcome leaves work step little lengthAt recordAt sized characterIn callOf saidBy decimalIn decimalOf
+    digitOf hexOf replyLine firstLine badLine printedOf badRecord begun stepped turn answersFrom answersOf
 prints = tt
 
 -- the poll's record, cut by a byte: its place is 39

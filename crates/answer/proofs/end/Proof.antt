@@ -22,7 +22,8 @@ finish-requires c κs = search needs
 
 flush-requires-2 : tie.Need-flush-requires-2
 flush-requires-2 c κs =
-    let p = c .before .before .before .finish .ensures [] [] in omega (arith, p .within, same-size p)
+    let after-finish = c .before .before .before in
+    let p = after-finish .finish .ensures [] [] in omega (arith, p .within, same-size p)
 
 same-length : tie.Need-same-length
 same-length c = search needs
@@ -35,7 +36,8 @@ finish-requires-2 c κs = search needs
 
 flush-requires-3 : tie.Need-flush-requires-3
 flush-requires-3 c κs =
-    let p = c .before .before .before .finish2 .ensures [] [] in omega (arith, p .within, same-size p)
+    let after-finish2 = c .before .before .before in
+    let p = after-finish2 .finish2 .ensures [] [] in omega (arith, p .within, same-size p)
 
 same-length-2 : tie.Need-same-length-2
 same-length-2 c = search needs

@@ -26,7 +26,8 @@ add-turns c = search needs
 
 loop-holds : tie.Need-loop-holds Inv-loop μ-loop
 loop-holds c =
-    let a = c .before .before .before .before .before .pre .0 in
+    let start = c .before .before .before .before .before in
+    let a = start .pre .0 in
     (refl, refl, refl, refl, record { inside = omega arith; space = a .space; ready = λ n. a })
 
 sub-turns : tie.Need-sub-turns Inv-loop μ-loop
@@ -49,7 +50,8 @@ same-length-4 c = search needs
 
 returns : tie.Need-returns Inv-loop μ-loop
 returns c =
-    c .before .before .before .loop .inv .4
+    let at-loop = c .before .before .before in
+    at-loop .loop .inv .4
 
 same-length-5 : tie.Need-same-length-5 Inv-loop μ-loop
 same-length-5 c = search needs
@@ -65,7 +67,8 @@ same-length-8 c = search needs
 
 returns-2 : tie.Need-returns-2 Inv-loop μ-loop
 returns-2 c =
-    c .before .before .before .before .loop .inv .4
+    let at-loop = c .before .before .before .before in
+    at-loop .loop .inv .4
 
 sub-eat : tie.Need-sub-eat Inv-loop μ-loop
 sub-eat c = search needs
@@ -78,48 +81,83 @@ part-eat-end c = search needs
 
 eat-requires : tie.Need-eat-requires Inv-loop μ-loop
 eat-requires c κs =
-    let v = c .before .before .before .before .before .before .before .before .before .loop .inv .4 in
-    with-window _ _ _ _ _ _ (v .ready (not-ended (c .before .before .before .before .before .before .before .before .before .loop .session .phase) (c .before .before .before .before .before .before .before .match .keys2))) _ (c .before .before .before .before .before .if1 .left) (simp (length-take, length-drop) (omega (arith, c .before .before .before .before .before .before .before .before .before .before .before .before .before .before .before .pre .1)))
+    let after-else1 = c .before .before .before .before .before in
+    let at-match-keys2 = after-else1 .before .before in
+    let at-loop = at-match-keys2 .before .before in
+    let start = at-loop .before .before .before .before .before .before in
+    let v = at-loop .loop .inv .4 in
+    with-window _ _ _ _ _ _ (v .ready (not-ended (at-loop .loop .session .phase) (at-match-keys2 .match .keys2))) _ (after-else1 .if1 .left) (simp (length-take, length-drop) (omega (arith, start .pre .1)))
 
 add-at : tie.Need-add-at Inv-loop μ-loop
 add-at c =
-    omega (arith, c .before .before .before .before .before .before .before .before .before .before .eat .ensures .inside, part-fits (c .before .before .before .before .before .before .before .before .before .before .before .before .before .before .before .before .before .before .before .before .before .before .before .before .before .before .args .window .now) (c .before .before .before .before .before .before .before .before .before .before .before .before .before .before .before .before .before .before .before .before .loop .at) (c .before .before .before .before .before .before .before .before .before .before .before .before .before .before .before .before .before .before .before .before .loop .inv .4 .inside), c .before .before .before .before .before .before .before .before .before .before .before .before .before .before .before .before .before .before .before .before .before .before .before .before .before .before .pre .1)
+    let after-eat = c .before .before .before .before .before .before .before .before .before .before in
+    let at-loop = after-eat .before .before .before .before .before .before .before .before .before .before in
+    let start = at-loop .before .before .before .before .before .before in
+    omega (arith, after-eat .eat .ensures .inside, part-fits (start .args .window .now) (at-loop .loop .at) (at-loop .loop .inv .4 .inside), start .pre .1)
 
 enum-told-2 : tie.Need-enum-told-2 Inv-loop μ-loop
 enum-told-2 c = search needs
 
 same-length-9 : tie.Need-same-length-9 Inv-loop μ-loop
 same-length-9 c =
-    c .before .before .before .before .before .before .before .before .before .before .before .eat .kept .1 .1 .0 ∙ c .before .before .before .before .before .before .before .before .before .before .before .before .before .before .before .before .before .before .before .before .before .loop .inv .0
+    let after-eat = c .before .before .before .before .before .before .before .before .before .before .before in
+    let at-loop = after-eat .before .before .before .before .before .before .before .before .before .before in
+    after-eat .eat .kept .1 .1 .0 ∙ at-loop .loop .inv .0
 
 same-length-10 : tie.Need-same-length-10 Inv-loop μ-loop
 same-length-10 c =
-    c .before .before .before .before .before .before .before .before .before .before .before .eat .kept .1 .1 .1 .0 ∙ c .before .before .before .before .before .before .before .before .before .before .before .before .before .before .before .before .before .before .before .before .before .loop .inv .1
+    let after-eat = c .before .before .before .before .before .before .before .before .before .before .before in
+    let at-loop = after-eat .before .before .before .before .before .before .before .before .before .before in
+    after-eat .eat .kept .1 .1 .1 .0 ∙ at-loop .loop .inv .1
 
 same-length-11 : tie.Need-same-length-11 Inv-loop μ-loop
 same-length-11 c =
-    c .before .before .before .before .before .before .before .before .before .before .before .eat .kept .1 .1 .1 .1 .0 ∙ c .before .before .before .before .before .before .before .before .before .before .before .before .before .before .before .before .before .before .before .before .before .loop .inv .2
+    let after-eat = c .before .before .before .before .before .before .before .before .before .before .before in
+    let at-loop = after-eat .before .before .before .before .before .before .before .before .before .before in
+    after-eat .eat .kept .1 .1 .1 .1 .0 ∙ at-loop .loop .inv .2
 
 same-length-12 : tie.Need-same-length-12 Inv-loop μ-loop
 same-length-12 c =
-    c .before .before .before .before .before .before .before .before .before .before .before .eat .kept .1 .1 .1 .1 .1 .0 ∙ c .before .before .before .before .before .before .before .before .before .before .before .before .before .before .before .before .before .before .before .before .before .loop .inv .3
+    let after-eat = c .before .before .before .before .before .before .before .before .before .before .before in
+    let at-loop = after-eat .before .before .before .before .before .before .before .before .before .before in
+    after-eat .eat .kept .1 .1 .1 .1 .1 .0 ∙ at-loop .loop .inv .3
 
 returns-3 : tie.Need-returns-3 Inv-loop μ-loop
 returns-3 c =
-    eaten-leaves _ _ _ _ _ _ (c .before .before .before .before .before .before .before .before .before .before .before .before .before .before .before .before .before .before .before .before .before .loop .inv .4 .ready (not-ended (c .before .before .before .before .before .before .before .before .before .before .before .before .before .before .before .before .before .before .before .before .before .loop .session .phase) (c .before .before .before .before .before .before .before .before .before .before .before .before .before .before .before .before .before .before .before .match .keys2))) _ _ _ _ _ _ _ _ (c .before .before .before .before .before .before .before .before .before .before .before .before .before .before .before .before .before .if1 .left) (c .before .before .before .before .before .before .before .before .before .before .before .before .before .before .before .before .before .before .before .before .before .before .before .before .before .before .before .pre .1) (part-fits (c .before .before .before .before .before .before .before .before .before .before .before .before .before .before .before .before .before .before .before .before .before .before .before .before .before .before .before .args .window .now) (c .before .before .before .before .before .before .before .before .before .before .before .before .before .before .before .before .before .before .before .before .before .loop .at) (c .before .before .before .before .before .before .before .before .before .before .before .before .before .before .before .before .before .before .before .before .before .loop .inv .4 .inside)) (c .before .before .before .before .before .before .before .before .before .before .before .eat .ensures) (c .before .before .before .before .before .before .before .before .before .before .before .eat .kept .1 .1 .0) (c .before .before .before .before .before .before .before .before .before .before .before .eat .kept .1 .1 .1 .0) (c .before .before .before .before .before .before .before .before .before .before .before .eat .kept .1 .1 .1 .1 .0)
+    let after-eat = c .before .before .before .before .before .before .before .before .before .before .before in
+    let after-else1 = after-eat .before .before .before .before .before .before in
+    let at-match-keys2 = after-else1 .before .before in
+    let at-loop = at-match-keys2 .before .before in
+    let start = at-loop .before .before .before .before .before .before in
+    eaten-leaves _ _ _ _ _ _ (at-loop .loop .inv .4 .ready (not-ended (at-loop .loop .session .phase) (at-match-keys2 .match .keys2))) _ _ _ _ _ _ _ _ (after-else1 .if1 .left) (start .pre .1)
+    (part-fits (start .args .window .now) (at-loop .loop .at) (at-loop .loop .inv .4 .inside)) (after-eat .eat .ensures) (after-eat .eat .kept .1 .1 .0) (after-eat .eat .kept .1 .1 .1 .0) (after-eat .eat .kept .1 .1 .1 .1 .0)
 
 flush-requires : tie.Need-flush-requires Inv-loop μ-loop
 flush-requires c κs =
-    (eaten-leaves _ _ _ _ _ _ (c .before .before .before .before .before .before .before .before .before .before .before .before .before .before .before .before .before .before .before .before .before .before .before .loop .inv .4 .ready (not-ended (c .before .before .before .before .before .before .before .before .before .before .before .before .before .before .before .before .before .before .before .before .before .before .before .loop .session .phase) (c .before .before .before .before .before .before .before .before .before .before .before .before .before .before .before .before .before .before .before .before .before .match .keys2))) (c .before .before .before .before .before .before .before .before .before .before .before .before .before .before .before .before .before .before .before .before .before .before .before .before .before .before .before .before .before .args .window .now) _ _ _ _ _ _ _ (c .before .before .before .before .before .before .before .before .before .before .before .before .before .before .before .before .before .before .before .if1 .left) (c .before .before .before .before .before .before .before .before .before .before .before .before .before .before .before .before .before .before .before .before .before .before .before .before .before .before .before .before .before .pre .1) (part-fits (c .before .before .before .before .before .before .before .before .before .before .before .before .before .before .before .before .before .before .before .before .before .before .before .before .before .before .before .before .before .args .window .now) (c .before .before .before .before .before .before .before .before .before .before .before .before .before .before .before .before .before .before .before .before .before .before .before .loop .at) (c .before .before .before .before .before .before .before .before .before .before .before .before .before .before .before .before .before .before .before .before .before .before .before .loop .inv .4 .inside)) (c .before .before .before .before .before .before .before .before .before .before .before .before .before .eat .ensures) (c .before .before .before .before .before .before .before .before .before .before .before .before .before .eat .kept .1 .1 .0) (c .before .before .before .before .before .before .before .before .before .before .before .before .before .eat .kept .1 .1 .1 .0) (c .before .before .before .before .before .before .before .before .before .before .before .before .before .eat .kept .1 .1 .1 .1 .0)) .space
+    let after-eat = c .before .before .before .before .before .before .before .before .before .before .before .before .before in
+    let after-else1 = after-eat .before .before .before .before .before .before in
+    let at-match-keys2 = after-else1 .before .before in
+    let at-loop = at-match-keys2 .before .before in
+    let start = at-loop .before .before .before .before .before .before in
+    (eaten-leaves _ _ _ _ _ _ (at-loop .loop .inv .4 .ready (not-ended (at-loop .loop .session .phase) (at-match-keys2 .match .keys2))) (start .args .window .now) _ _ _ _ _ _ _ (after-else1 .if1 .left) (start .pre .1)
+    (part-fits (start .args .window .now) (at-loop .loop .at) (at-loop .loop .inv .4 .inside)) (after-eat .eat .ensures) (after-eat .eat .kept .1 .1 .0) (after-eat .eat .kept .1 .1 .1 .0) (after-eat .eat .kept .1 .1 .1 .1 .0)) .space
 
 loop-less : tie.Need-loop-less Inv-loop μ-loop
-loop-less c = omega (arith, c .before .before .before .before .before .before .before .before .before .before .before .before .before .before .before .before .before .before .before .before .before .before .before .loop-test .taken)
+loop-less c =
+    let after-loop = c .before .before .before .before .before .before .before .before .before .before .before .before .before .before .before .before .before .before .before .before .before .before .before in
+    omega (arith, after-loop .loop-test .taken)
 
 loop-again : tie.Need-loop-again Inv-loop μ-loop
 loop-again c =
-    let g = eaten-leaves _ _ _ _ _ _ (c .before .before .before .before .before .before .before .before .before .before .before .before .before .before .before .before .before .before .before .before .before .before .before .before .loop .inv .4 .ready (not-ended (c .before .before .before .before .before .before .before .before .before .before .before .before .before .before .before .before .before .before .before .before .before .before .before .before .loop .session .phase) (c .before .before .before .before .before .before .before .before .before .before .before .before .before .before .before .before .before .before .before .before .before .before .match .keys2))) (c .before .before .before .before .before .before .before .before .before .before .before .before .before .before .before .before .before .before .before .before .before .before .before .before .before .before .before .before .before .before .args .window .now) _ _ _ _ _ _ _ (c .before .before .before .before .before .before .before .before .before .before .before .before .before .before .before .before .before .before .before .before .if1 .left) (c .before .before .before .before .before .before .before .before .before .before .before .before .before .before .before .before .before .before .before .before .before .before .before .before .before .before .before .before .before .before .pre .1) (part-fits (c .before .before .before .before .before .before .before .before .before .before .before .before .before .before .before .before .before .before .before .before .before .before .before .before .before .before .before .before .before .before .args .window .now) (c .before .before .before .before .before .before .before .before .before .before .before .before .before .before .before .before .before .before .before .before .before .before .before .before .loop .at) (c .before .before .before .before .before .before .before .before .before .before .before .before .before .before .before .before .before .before .before .before .before .before .before .before .loop .inv .4 .inside)) (c .before .before .before .before .before .before .before .before .before .before .before .before .before .before .eat .ensures) (c .before .before .before .before .before .before .before .before .before .before .before .before .before .before .eat .kept .1 .1 .0) (c .before .before .before .before .before .before .before .before .before .before .before .before .before .before .eat .kept .1 .1 .1 .0) (c .before .before .before .before .before .before .before .before .before .before .before .before .before .before .eat .kept .1 .1 .1 .1 .0) in
-    let v = c .before .before .before .before .before .before .before .before .before .before .before .before .before .before .before .before .before .before .before .before .before .before .before .before .loop .inv in
-    let w = c .before .before .before .before .before .before .before .before .before .before .before .before .before .before .eat .kept in
+    let after-eat = c .before .before .before .before .before .before .before .before .before .before .before .before .before .before in
+    let after-else1 = after-eat .before .before .before .before .before .before in
+    let at-match-keys2 = after-else1 .before .before in
+    let at-loop = at-match-keys2 .before .before in
+    let start = at-loop .before .before .before .before .before .before in
+    let g = eaten-leaves _ _ _ _ _ _ (at-loop .loop .inv .4 .ready (not-ended (at-loop .loop .session .phase) (at-match-keys2 .match .keys2))) (start .args .window .now) _ _ _ _ _ _ _ (after-else1 .if1 .left) (start .pre .1)
+    (part-fits (start .args .window .now) (at-loop .loop .at) (at-loop .loop .inv .4 .inside)) (after-eat .eat .ensures) (after-eat .eat .kept .1 .1 .0) (after-eat .eat .kept .1 .1 .1 .0) (after-eat .eat .kept .1 .1 .1 .1 .0) in
+    let v = at-loop .loop .inv in
+    let w = after-eat .eat .kept in
     (w .1 .1 .0 ∙ v .0, w .1 .1 .1 .0 ∙ v .1, w .1 .1 .1 .1 .0 ∙ v .2, w .1 .1 .1 .1 .1 .0 ∙ v .3, record { inside = g .inside; space = omega arith; ready = λ n. emptied _ _ _ _ _ _ (g .ready n) })
 
 same-length-13 : tie.Need-same-length-13 Inv-loop μ-loop

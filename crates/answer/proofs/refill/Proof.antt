@@ -26,7 +26,9 @@ same-length : tie.Need-same-length
 same-length c = search needs
 
 returns : tie.Need-returns
-returns c = record { more = search needs; within = search needs; front = front-kept _ _ _ (c .before .before .before .before .before .pre) }
+returns c =
+    let start = c .before .before .before .before .before in
+    record { more = search needs; within = search needs; front = front-kept _ _ _ (start .pre) }
 
 pub refill-spec : {M : Type 1} → statement M
 refill-spec =

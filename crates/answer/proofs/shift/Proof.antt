@@ -52,7 +52,8 @@ same-length c = search needs
 
 returns : tie.Need-returns Inv-loop μ-loop
 returns c =
-    let a = c .before .before .args in
+    let start = c .before .before in
+    let a = start .args in
     let v = c .before .loop .inv in
     let e : c .before .loop .i ≡ a .to - a .from = omega (arith, v .1, c .loop-test .left) in
     (omega arith, v .2 ∙ ap (λ (n : ℕ). put (a .window .now) 0 (part (a .window .now) (a .from) n)) e)

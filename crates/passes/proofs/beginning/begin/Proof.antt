@@ -27,13 +27,17 @@ with-board-requires : tie.Need-with-board-requires
 with-board-requires c κs = search needs
 
 returns : tie.Need-returns
-returns c = rw (c .with-board .ensures) (goes-on (not-opening (c .before .before .before .before .before .args .session .phase) (c .before .match .keys2)) refl refl refl)
+returns c =
+    let start = c .before .before .before .before .before in
+    rw (c .with-board .ensures) (goes-on (not-opening (start .args .session .phase) (c .before .match .keys2)) refl refl refl)
 
 with-board-requires-2 : tie.Need-with-board-requires-2
 with-board-requires-2 c κs = search needs
 
 returns-2 : tie.Need-returns-2
-returns-2 c = rw (c .with-board2 .ensures) (c .before .before .enum-told .given .1, c .before .if1 .taken)
+returns-2 c =
+    let after-enum-told = c .before .before in
+    rw (c .with-board2 .ensures) (after-enum-told .enum-told .given .1, c .before .if1 .taken)
 
 open-requires : tie.Need-open-requires
 open-requires c κs = search needs
@@ -60,14 +64,26 @@ with-board-requires-5 : tie.Need-with-board-requires-5
 with-board-requires-5 c κs = search needs
 
 returns-3 : tie.Need-returns-3
-returns-3 c = rw (c .with-board3 .ensures) (c .before .before .before .before .before .enum-told .given .1, (c .before .before .before .before .if1 .left, opens-as _ _ _ (c .before .before .before .open .ensures) (c .before .enum-told2 .given .1)))
+returns-3 c =
+    let after-open = c .before .before .before in
+    let after-else1 = after-open .before in
+    let after-enum-told = after-else1 .before in
+    rw (c .with-board3 .ensures) (after-enum-told .enum-told .given .1, (after-else1 .if1 .left, opens-as _ _ _ (after-open .open .ensures) (c .before .enum-told2 .given .1)))
 
 returns-4 : tie.Need-returns-4
-returns-4 c = rw (c .with-board4 .ensures) (c .before .before .before .before .before .enum-told .given .1, c .before .before .before .before .if1 .left, opens-as _ _ _ (c .before .before .before .open .ensures) (c .before .enum-told3 .given .1))
+returns-4 c =
+    let after-open = c .before .before .before in
+    let after-else1 = after-open .before in
+    let after-enum-told = after-else1 .before in
+    rw (c .with-board4 .ensures) (after-enum-told .enum-told .given .1, after-else1 .if1 .left, opens-as _ _ _ (after-open .open .ensures) (c .before .enum-told3 .given .1))
 
 returns-5 : tie.Need-returns-5
 returns-5 c =
-    let o = opens-as _ _ _ (c .before .before .before .before .before .open .ensures) (c .before .before .before .first .given .1) in rw (c .with-board5 .ensures) (begins (c .before .before .before .before .before .before .before .enum-told .given .1) (c .before .before .before .before .before .before .if1 .left) (o .0) (o .1) (c .before .fresh .ensures))
+    let after-first = c .before .before .before in
+    let after-open = after-first .before .before in
+    let after-else1 = after-open .before in
+    let after-enum-told = after-else1 .before in
+    let o = opens-as _ _ _ (after-open .open .ensures) (after-first .first .given .1) in rw (c .with-board5 .ensures) (begins (after-enum-told .enum-told .given .1) (after-else1 .if1 .left) (o .0) (o .1) (c .before .fresh .ensures))
 
 pub begin-spec : {M : Type 1} → statement M
 begin-spec =

@@ -96,7 +96,14 @@ loop-again c =
     let after-hear = after-event .before .before in
     let after-loop = after-hear .before in
     let at-loop = after-loop .before in
-    let h = hears-as _ _ _ _ (after-hear .hear .ensures) (after-event .event .given .1) in (after-taken-in .taken-in .kept .1 .1 .1 .0 ∙ at-loop .loop .inv .0, at-loop .loop .inv .1, at-loop .loop .inv .2, at-loop .loop .inv .3, quiet-goes (at-loop .loop .inv .4) _ _ (after-loop .loop-test .taken) (sym (h .heard)) (after-taken-in .taken-in .ensures) (h .next))
+    let h = hears-as _ _ _ _ (after-hear .hear .ensures) (after-event .event .given .1) in (
+      after-taken-in .taken-in .kept .1 .1 .1 .0 ∙ at-loop .loop .inv .0,
+      at-loop .loop .inv .1,
+      at-loop .loop .inv .2,
+      at-loop .loop .inv .3,
+      quiet-goes (at-loop .loop .inv .4) _ _ (after-loop .loop-test .taken) (sym (h .heard))
+          (after-taken-in .taken-in .ensures) (h .next),
+    )
 
 add-here : tie.Need-add-here Inv-loop μ-loop
 add-here c = search needs
@@ -159,7 +166,14 @@ loop-again-2 c =
     let after-hear = after-event .before .before in
     let after-loop = after-hear .before in
     let at-loop = after-loop .before in
-    let h = hears-as _ _ _ _ (after-hear .hear .ensures) (after-event .event .given .1) in let l = after-turn .turn .kept in (l .1 .1 .1 .1 .0 ∙ at-loop .loop .inv .0, l .1 .1 .1 .1 .1 .0 ∙ at-loop .loop .inv .1, l .1 .1 .1 .1 .1 .1 .0 ∙ at-loop .loop .inv .2, l .1 .1 .1 .1 .1 .1 .1 .0 ∙ at-loop .loop .inv .3, turn-goes (at-loop .loop .inv .4) _ _ (after-loop .loop-test .taken) (sym (h .heard)) (after-turn .turn .ensures) _ (c .if2 .left) (h .next))
+    let h = hears-as _ _ _ _ (after-hear .hear .ensures) (after-event .event .given .1) in let l = after-turn .turn .kept in (
+      l .1 .1 .1 .1 .0 ∙ at-loop .loop .inv .0,
+      l .1 .1 .1 .1 .1 .0 ∙ at-loop .loop .inv .1,
+      l .1 .1 .1 .1 .1 .1 .0 ∙ at-loop .loop .inv .2,
+      l .1 .1 .1 .1 .1 .1 .1 .0 ∙ at-loop .loop .inv .3,
+      turn-goes (at-loop .loop .inv .4) _ _
+          (after-loop .loop-test .taken) (sym (h .heard)) (after-turn .turn .ensures) _ (c .if2 .left) (h .next),
+    )
 
 halt-requires-3 : tie.Need-halt-requires-3 Inv-loop μ-loop
 halt-requires-3 c κs = search needs

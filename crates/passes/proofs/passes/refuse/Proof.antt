@@ -20,8 +20,9 @@ same-length c = search needs
 
 returns : tie.Need-returns
 returns c =
+    let after-bad-line = c .before .before .before .before .before in
     let e = c .stopped .ensures in
-    record { eaten = rw e refl; printed = rw e (c .before .before .before .before .before .bad-line .ensures) }
+    record { eaten = rw e refl; printed = rw e (after-bad-line .bad-line .ensures) }
 
 pub refuse-spec : {M : Type 1} → statement M
 refuse-spec = tie.close (tie.spec bad-line-requires stopped-requires same-length returns)

@@ -20,10 +20,15 @@ shared-slice-read-fault : tie.Need-shared-slice-read-fault
 shared-slice-read-fault c = search needs
 
 returns-2 : tie.Need-returns-2
-returns-2 c = character-unfit _ (c .before .before .before .before .if1 .left) (c .if2 .taken)
+returns-2 c =
+    let after-else1 = c .before .before .before .before in
+    character-unfit _ (after-else1 .if1 .left) (c .if2 .taken)
 
 returns-3 : tie.Need-returns-3
-returns-3 c = character-said _ _ (c .before .before .before .before .if1 .left) (c .before .before .before .number-at .ensures) (c .if2 .left)
+returns-3 c =
+    let after-number-at = c .before .before .before in
+    let after-else1 = after-number-at .before in
+    character-said _ _ (after-else1 .if1 .left) (after-number-at .number-at .ensures) (c .if2 .left)
 
 pub character-in-spec : {M : Type 1} → statement M
 character-in-spec =

@@ -25,7 +25,9 @@ shared-slice-read-t13 : tie.Need-shared-slice-read-t13
 shared-slice-read-t13 c = search needs
 
 returns-2 : tie.Need-returns-2
-returns-2 c = fitted _ 5 _ (c .before .before .before .before .before .if1 .left)
+returns-2 c =
+    let after-else1 = c .before .before .before .before .before in
+    fitted _ 5 _ (after-else1 .if1 .left)
 
 pub plate-in-spec : {M : Type 1} → statement M
 plate-in-spec =

@@ -30,7 +30,10 @@ add-result : tie.Need-add-result
 add-result c = search needs
 
 returns : tie.Need-returns
-returns c = rw (little-two _ _ (c .before .before .before .before .before .pre)) (omega (arith, c .wide162 .ensures .0, c .before .before .wide16 .ensures .0))
+returns c =
+    let after-wide16 = c .before .before in
+    let start = after-wide16 .before .before .before in
+    rw (little-two _ _ (start .pre)) (omega (arith, c .wide162 .ensures .0, after-wide16 .wide16 .ensures .0))
 
 pub get16-spec : {M : Type 1} → statement M
 get16-spec =

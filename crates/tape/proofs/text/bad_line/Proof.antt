@@ -29,13 +29,17 @@ add-result c = search needs
 
 same-length : tie.Need-same-length
 same-length c =
-    let h = c .before .before .long-decimal in
-    length-set (h .last .1 .0) (h .result) 10 ∙ same-size (h .ensures .0) ∙ same-size (c .before .before .before .before .before .before .copy .ensures)
+    let after-long-decimal = c .before .before in
+    let after-copy = after-long-decimal .before .before .before .before in
+    let h = after-long-decimal .long-decimal in
+    length-set (h .last .1 .0) (h .result) 10 ∙ same-size (h .ensures .0) ∙ same-size (after-copy .copy .ensures)
 
 returns : tie.Need-returns
 returns c =
-    let h = c .before .before .long-decimal in
-    let p = c .before .before .before .before .before .before .copy .ensures in
+    let after-long-decimal = c .before .before in
+    let after-copy = after-long-decimal .before .before .before .before in
+    let h = after-long-decimal .long-decimal in
+    let p = after-copy .copy .ensures in
     bad-printed _ p (h .ensures .0) (omega (arith, h .ensures .1, p .next))
 
 pub bad-line-spec : {M : Type 1} → statement M

@@ -32,12 +32,14 @@ same-length c = search needs
 
 returns : tie.Need-returns
 returns c =
-    let a = c .before .before .before .before .before .before .args in
+    let after-fill = c .before .before in
+    let start = after-fill .before .before .before .before in
+    let a = start .args in
     let out = a .out .now in
     let at = a .at in
     record {
       next = search needs;
-      bytes = ap (putMid at (length out - at) out) (c .before .before .fill .ensures) ∙ tail-filled out (a .s .now) at (omega arith);
+      bytes = ap (putMid at (length out - at) out) (after-fill .fill .ensures) ∙ tail-filled out (a .s .now) at (omega arith);
       within = omega arith;
     }
 

@@ -58,7 +58,8 @@ loop-less c = search needs
 
 loop-again : tie.Need-loop-again Inv-loop μ-loop
 loop-again c =
-    let u = c .before .before .before .before in
+    let at-loop = c .before .before .before .before in
+    let u = at-loop in
     let a = u .before .before .before .args in
     let v = u .loop .inv in (
       omega arith,
@@ -73,7 +74,8 @@ same-length c = search needs
 returns : tie.Need-returns Inv-loop μ-loop
 unfolding hexOf
 returns c =
-    let a = c .before .before .before .before .args in
+    let start = c .before .before .before .before in
+    let a = start .args in
     let v = c .before .loop .inv in
     record { next = rw (length-hex (a .s .now)) (omega arith); bytes = none-left (a .s .now) _ (c .before .loop .i) (c .before .loop .to) hexOf refl (omega arith) (v .3); within = omega arith }
 

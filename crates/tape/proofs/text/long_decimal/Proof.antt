@@ -26,16 +26,20 @@ slice-aggregate-copy : tie.Need-slice-aggregate-copy
 slice-aggregate-copy c = search needs
 
 copy-requires : tie.Need-copy-requires
-copy-requires c κs = omega (arith, few (c .before .before), c .before .before .decimal .ensures .0 .1)
+copy-requires c κs =
+    let after-decimal = c .before .before in
+    omega (arith, few (c .before .before), after-decimal .decimal .ensures .0 .1)
 
 same-length : tie.Need-same-length
 same-length c = search needs
 
 returns : tie.Need-returns
 returns c =
-    let u = c .before .before .before .before .before in
+    let after-copy = c .before .before in
+    let after-decimal = after-copy .before .before .before in
+    let u = after-decimal in
     let d = u .decimal .ensures in
-    let p = c .before .before .copy .ensures in
+    let p = after-copy .copy .ensures in
     (printed-as (d .1 .1 ∙ same-digits _ _ (few u) (d .1 .0)) p, omega (arith, p .next, few u, d .0 .1))
 
 pub long-decimal-spec : {M : Type 1} → statement M

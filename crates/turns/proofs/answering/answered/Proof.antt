@@ -16,7 +16,9 @@ use Rattle.tape.proofs.reply_line.Reads as reply-line-reads
 
 -- the reply lies in its room
 few : (c : tie.After-reply-length) → c .reply-length .result ≤ length (c .before .before .before .before .args .reply .now)
-few c = rw (c .reply-length .ensures) (c .before .before .before .before .pre .room)
+few c =
+    let start = c .before .before .before .before in
+    rw (c .reply-length .ensures) (start .pre .room)
 
 reply-length-requires : tie.Need-reply-length-requires
 reply-length-requires c κs = search needs
@@ -25,14 +27,18 @@ after-requires : tie.Need-after-requires
 after-requires c κs = search needs
 
 returns : tie.Need-returns
-returns c = no-line _ _ _ _ _ _ _ (c .before .before .reply-length .ensures) (c .after .ensures) (c .before .if1 .taken) (omega (arith, c .before .before .before .before .before .before .pre .space))
+returns c =
+    let after-reply-length = c .before .before in
+    let start = after-reply-length .before .before .before .before in
+    no-line _ _ _ _ _ _ _ (after-reply-length .reply-length .ensures) (c .after .ensures) (c .before .if1 .taken) (omega (arith, start .pre .space))
 
 slice-aggregate-reply-line : tie.Need-slice-aggregate-reply-line
 slice-aggregate-reply-line c = sym (length-take-le _ _ (few (c .before .before)))
 
 reply-line-requires : tie.Need-reply-line-requires
 reply-line-requires c κs =
-    let u = c .before .before .before in
+    let after-reply-length = c .before .before .before in
+    let u = after-reply-length in
     let p = u .before .before .before .before .pre in
     omega (arith, length-take-le (u .reply-length .result) (u .before .before .before .before .args .reply .now) (few u), u .reply-length .ensures, p .few, p .space)
 
@@ -44,7 +50,8 @@ same-length c = search needs
 
 returns-2 : tie.Need-returns-2
 returns-2 c =
-    let l = c .before .before .before in
+    let after-reply-line = c .before .before .before in
+    let l = after-reply-line in
     let e = l .before .before .before in
     let n = e .before in
     a-line _ _ _ _ _ _ _ (n .reply-length .ensures) _ _ (c .after2 .ensures) (e .if1 .left) (few n) (l .reply-line .ensures)

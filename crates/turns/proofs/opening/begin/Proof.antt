@@ -36,11 +36,15 @@ is-ok-requires c κs = search needs
 
 returns-2 : tie.Need-returns-2
 unfolding checked
-returns-2 c = rw (c .before .before .before .event .given .1, sym (c .before .is-ok .ensures) ∙ not-true _ (c .if1 .taken))
+returns-2 c =
+    let after-event = c .before .before .before in
+    rw (after-event .event .given .1, sym (c .before .is-ok .ensures) ∙ not-true _ (c .if1 .taken))
 
 returns-3 : tie.Need-returns-3
 unfolding checked
-returns-3 c = rw (c .before .before .before .event .given .1, sym (c .before .is-ok .ensures) ∙ not-false _ (c .if1 .left))
+returns-3 c =
+    let after-event = c .before .before .before in
+    rw (after-event .event .given .1, sym (c .before .is-ok .ensures) ∙ not-false _ (c .if1 .left))
 
 pub begin-spec : {M : Type 1} → statement M
 begin-spec =

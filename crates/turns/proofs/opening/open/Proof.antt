@@ -25,7 +25,10 @@ begin-requires : tie.Need-begin-requires
 begin-requires c κs = search needs
 
 returns-2 : tie.Need-returns-2
-returns-2 c = c .begin .ensures ∙ rw (c .before .before .event .given .1) at (ap openedBy (c .before .before .before .before .hear .ensures))
+returns-2 c =
+    let after-event = c .before .before in
+    let after-hear = after-event .before .before in
+    c .begin .ensures ∙ rw (after-event .event .given .1) at (ap openedBy (after-hear .hear .ensures))
 
 pub open-spec : {M : Type 1} → statement M
 open-spec = tie.close (tie.spec hear-requires enum-known-event enum-told returns begin-requires returns-2)

@@ -15,7 +15,9 @@ use Rattle.tape.proofs.record.Cursor.read.Reads as read-reads
 
 -- a whole record's body lies within the window
 inside : (c : tie.After-known-told) → c .before .kind .given .0 .1 .0 + c .before .kind .given .0 .1 .1 .0 ≤ length (c .before .before .before .before .before .args .window .now)
-inside c = body-inside _ _ _ _ _ _ (sym (c .before .before .before .read .ensures) ∙ c .before .kind .given .1)
+inside c =
+    let after-read = c .before .before .before in
+    body-inside _ _ _ _ _ _ (sym (after-read .read .ensures) ∙ c .before .kind .given .1)
 
 read-requires : tie.Need-read-requires
 read-requires c κs = search needs

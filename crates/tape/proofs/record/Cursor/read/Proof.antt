@@ -24,10 +24,15 @@ get16-requires : tie.Need-get16-requires
 get16-requires c κs = search needs
 
 returns-3 : tie.Need-returns-3
-returns-3 c = no-kind _ _ _ _ (c .before .before .if2 .left) (c .before .get16 .ensures) (c .if3 .taken)
+returns-3 c =
+    let after-else2 = c .before .before in
+    no-kind _ _ _ _ (after-else2 .if2 .left) (c .before .get16 .ensures) (c .if3 .taken)
 
 returns-4 : tie.Need-returns-4
-returns-4 c = too-long _ _ _ _ (c .before .before .before .if2 .left) (c .before .before .get16 .ensures) (c .before .if3 .left) (c .if4 .taken)
+returns-4 c =
+    let after-get16 = c .before .before in
+    let after-else2 = after-get16 .before in
+    too-long _ _ _ _ (after-else2 .if2 .left) (after-get16 .get16 .ensures) (c .before .if3 .left) (c .if4 .taken)
 
 wide64-requires : tie.Need-wide64-requires
 wide64-requires c κs = search needs
@@ -58,8 +63,10 @@ add-t12 c = search needs
 
 returns-6 : tie.Need-returns-6
 returns-6 c =
-    let w = c .before .before .wide64 .ensures in
-    let u = c .before .before .before in
+    let after-wide64 = c .before .before in
+    let after-else4 = after-wide64 .before in
+    let w = after-wide64 .wide64 .ensures in
+    let u = after-else4 in
     rw w (all-there _ _ _ _ (u .before .before .before .if2 .left) (u .before .before .get16 .ensures) _ (u .before .if3 .left) (u .if4 .left) (omega (arith, c .before .if5 .left, w)) (c .get162 .ensures))
 
 pub read-spec : {M : Type 1} → statement M
