@@ -6,9 +6,10 @@ use lib.Dec.{eqb}
 use Rattle.meaning.specs.Bytes.{pick}
 use Rattle.meaning.specs.Bench as meaning
 use Rattle.wire.proofs.Tight.{one-outcome}
-use Rattle.bench.specs.Outcomes.{writtenOf, numberOf, verdictOf, withoutData}
+use Rattle.bench.specs.Outcomes.{writtenOf, checkNumber, verdictOf, withoutData, pieceFrom}
 use Rattle.bench.specs.declared.request.Written.{Written}
 use Rattle.bench.specs.declared.request.Written.the-variants.{Request, R4, R5}
+use Rattle.bench.specs.declared.reply.Piece.{Piece}
 use Rattle.bench.specs.declared.reply.Refusal.{Refusal}
 use Rattle.bench.specs.declared.reply.Refusal.the-variants.{B0, B1, B2, B3, B4, B5, B6}
 use Rattle.bench.specs.declared.reply.Verdict.{Verdict}
@@ -24,7 +25,7 @@ verdictBack (meaning.refusal n) = Refused (refusalAt n)
 verdictBack (meaning.done w d) = pick w DoneWithWarning Done
 verdictBack (meaning.failed w e) = pick w (ErrorWithWarning e) (Error e)
 
-number-back : (b : Refusal) → refusalAt (numberOf b) ≡ b
+number-back : (b : Refusal) → refusalAt (checkNumber b) ≡ b
 number-back B0 = refl
 number-back B1 = refl
 number-back B2 = refl
@@ -59,3 +60,8 @@ write-request-tight n c d buffer a b = one-outcome (λ (w : Written × List ℕ)
 -- the piece: its bytes and its place are each given
 pub data-of-tight : {P : Type 0} (bytes : List ℕ) (place : P) (a b : List ℕ × P) → a ≡ (bytes, place) → b ≡ (bytes, place) → a ≡ b
 data-of-tight {P} bytes place a b = one-outcome (λ (x : List ℕ × P). x) (λ (x : List ℕ × P). x) (λ (x : List ℕ × P). refl) (bytes, place) a b
+
+-- the piece as numbers
+pub piece-tight : (h : meaning.Piece) (a b : Piece) → pieceFrom a ≡ h → pieceFrom b ≡ h → a ≡ b
+piece-tight h a b =
+    one-outcome pieceFrom (λ (x : meaning.Piece). record { from = x .from; count = x .count }) (λ (x : Piece). refl) h a b

@@ -19,14 +19,14 @@ writtenOf (Request n) buffer = record { refusal = 0; count = n; buffer = buffer 
 writtenOf R4 buffer = record { refusal = 4; count = 0; buffer = buffer }
 writtenOf R5 buffer = record { refusal = 5; count = 0; buffer = buffer }
 
-abbrev pub numberOf : Refusal → ℕ
-numberOf B0 = 0
-numberOf B1 = 1
-numberOf B2 = 2
-numberOf B3 = 3
-numberOf B4 = 4
-numberOf B5 = 5
-numberOf B6 = 6
+abbrev pub checkNumber : Refusal → ℕ
+checkNumber B0 = 0
+checkNumber B1 = 1
+checkNumber B2 = 2
+checkNumber B3 = 3
+checkNumber B4 = 4
+checkNumber B5 = 5
+checkNumber B6 = 6
 
 -- the verdict says nothing of the data: that is handed back by a second call
 abbrev pub verdictOf : Verdict → meaning.Verdict
@@ -34,7 +34,7 @@ verdictOf Done = meaning.done false []
 verdictOf DoneWithWarning = meaning.done true []
 verdictOf (Error e) = meaning.failed false e
 verdictOf (ErrorWithWarning e) = meaning.failed true e
-verdictOf (Refused b) = meaning.refusal (numberOf b)
+verdictOf (Refused b) = meaning.refusal (checkNumber b)
 
 abbrev pub withoutData : meaning.Verdict → meaning.Verdict
 withoutData (meaning.refusal n) = meaning.refusal n

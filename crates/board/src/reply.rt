@@ -7,7 +7,13 @@ use wire::Answer;
 use wire::codes::ERROR_REPLY;
 
 // The reply's data stands at place 2 of the room on; its length comes back, 0 being silence.
-pub fn reply(plate: Plate, state: State, command: u8, answer: Answer, room: &mut [u8]) -> usize
+pub(crate) fn reply(
+    plate: Plate,
+    state: State,
+    command: u8,
+    answer: Answer,
+    room: &mut [u8],
+) -> usize
     requires { ⌜ Sendable plate answer (now room) ⌝ }
     ensures { λ r. ⌜ Sends (plateOf plate) state command answer (now (room .entry)) r (now (room .exit)) ⌝ }
 {

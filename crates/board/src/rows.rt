@@ -30,7 +30,7 @@ pub fn leaves_state(command: u8) -> bool
 }
 
 // `request` is the data part, of the length that its row wants. A command that is not in the table has no such length.
-pub fn tell(
+pub(crate) fn tell(
     plate: Plate,
     state: State,
     command: u8,
@@ -67,7 +67,13 @@ pub fn tell(
 }
 
 // The commands that change the state; the memory stays as it is.
-pub fn change(bits: u32, state: State, command: u8, request: &[u8], room: &mut [u8]) -> Worked
+pub(crate) fn change(
+    bits: u32,
+    state: State,
+    command: u8,
+    request: &[u8],
+    room: &mut [u8],
+) -> Worked
     requires { ⌜ Changeable bits state command (now request) (now room) ⌝ }
     ensures { λ r. ⌜ ((p : meaning.Plate) (m : List ℕ) → p .bits ≡ bits → WorksOn (worked (commandOf command) p (stateWith state none) m (now (request .entry))) state m (now (room .entry)) r m (now (room .exit))) ⌝ }
 {

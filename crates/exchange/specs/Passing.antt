@@ -41,10 +41,14 @@ abbrev pub endedOf : code.Ended → Ended
 endedOf (ended.Refused x) = refused (unsentNumber x)
 endedOf (Heard n k v) = heard n k (verdictOf v)
 
--- 01, "handed back as a piece of the reply itself": of the request and the reply that stand at the fronts of q and w
+-- 01, "handed back as a piece of the reply itself": of the request and the reply that stand at the fronts of q and w; its bytes, and its place in w
 abbrev pub dataHeard : code.Ended → List ℕ → List ℕ → List ℕ
 dataHeard (ended.Refused x) q w = []
 dataHeard (Heard n k v) q w = part (take k w) ((handed (take n q) (take k w)) .from) ((handed (take n q) (take k w)) .count)
+
+abbrev pub placeHeard : code.Ended → List ℕ → List ℕ → ℕ
+placeHeard (ended.Refused x) q w = 0
+placeHeard (Heard n k v) q w = (handed (take n q) (take k w)) .from
 
 -- R1, R2, R3; a frame open already; a spacing not below the pause; R4, R5. 0 where none applies
 unfoldable pub refusalFor : Plate → Board → ℕ → ℕ → List ℕ → ℕ → List ℕ → List ℕ → List ℕ → List ℕ → ℕ

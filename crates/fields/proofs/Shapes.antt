@@ -16,7 +16,7 @@ use Rattle.meaning.specs.Fields.{bytesOf, dataBytes, blocks, exists, clear, put
 use Rattle.meaning.specs.Commands.{Answer, refuse, accept, error, choose, wrongCode, create, modify, delete, resize, shapeField}
 use Rattle.meaning.proofs.Puts.{length-put, stored-is-put}
 use Rattle.fields.specs.Memory.{Sits}
-use Rattle.fields.specs.Shape.{shaped, codeOf, Judged, Shapes}
+use Rattle.fields.specs.Shape.{shaped, grantCode, Judged, Shapes}
 use Rattle.fields.specs.declared.shape.Grant.{Grant}
 use Rattle.fields.specs.declared.shape.Grant.the-variants.{Granted, Refused}
 use Rattle.fields.proofs.shape.Grant as declared
@@ -257,6 +257,6 @@ module _ (codes : List ℕ) (t : ℕ) (v : Survey) (d : List ℕ) where
     }
 
 -- in the `else` of `let Grant::Granted(..) = .. else` stands a refusal
-pub not-granted : (g : Grant) → OneOf (1 ∷ []) (tagOf declared.the-type g) → (t : ℕ) (s : State) (m : List ℕ) (f asked : ℕ) → shaped g t s m f asked ≡ refuse (codeOf g)
+pub not-granted : (g : Grant) → OneOf (1 ∷ []) (tagOf declared.the-type g) → (t : ℕ) (s : State) (m : List ℕ) (f asked : ℕ) → shaped g t s m f asked ≡ refuse (grantCode g)
 not-granted (Granted c) k t s m f asked = absurd (miss (1 ∷ []) 0 tt k)
 not-granted (Refused e) k t s m f asked = refl

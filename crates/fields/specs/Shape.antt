@@ -26,9 +26,9 @@ shaped (Granted c) t s m f asked = accept (f ∷ asked ∷ []) s (putStatus t (r
 shaped (Refused e) t s m f asked = refuse e
 
 -- the error code, 0 where there is none
-abbrev pub codeOf : Grant → ℕ
-codeOf (Granted c) = 0
-codeOf (Refused e) = e
+abbrev pub grantCode : Grant → ℕ
+grantCode (Granted c) = 0
+grantCode (Refused e) = e
 
 -- the field has its place in the table, and its blocks in the memory before and after
 pub record Room (t f : ℕ) (c : Change) : Type 0 where
@@ -36,9 +36,9 @@ pub record Room (t f : ℕ) (c : Change) : Type 0 where
   pub ends : c .start + c .old ≤ t
   pub will-end : c .start + c .new ≤ t
 
-abbrev pub Placed : ℕ → ℕ → Grant → Type 0
-Placed t f (Granted c) = Room t f c
-Placed t f (Refused e) = Unit
+abbrev pub SitsIn : ℕ → ℕ → Grant → Type 0
+SitsIn t f (Granted c) = Room t f c
+SitsIn t f (Refused e) = Unit
 
 pub record Settable (t : ℕ) (m : List ℕ) (f : ℕ) (c : Change) : Type 0 where
   pub fit : Sized t m
@@ -47,7 +47,7 @@ pub record Settable (t : ℕ) (m : List ℕ) (f : ℕ) (c : Change) : Type 0 whe
 -- one of create, modify, delete, judged
 pub record Judged (codes : List ℕ) (t f asked : ℕ) (row : State → List ℕ → Answer) (r : Grant) : Type 0 where
   pub answer : (s : State) (m : List ℕ) → s .codes ≡ codes → row s m ≡ shaped r t s m f asked
-  pub place : Placed t f r
+  pub place : SitsIn t f r
 
 -- free blocks among a number of blocks
 pub record Blocks (t free : ℕ) : Type 0 where
@@ -65,4 +65,4 @@ pub record Surveyed (t : ℕ) (v : Survey) (d : List ℕ) : Type 0 where
 pub record Shapes (codes : List ℕ) (t : ℕ) (v : Survey) (d : List ℕ) (r : Grant) : Type 0 where
   pub answer : (p : Plate) (s : State) (m : List ℕ) → p .total ≡ t → s .codes ≡ codes → v ≡ survey t m (arg d 0)
       → shapeField p s m d ≡ shaped r t s m (arg d 0) (arg d 1)
-  pub place : Placed t (arg d 0) r
+  pub place : SitsIn t (arg d 0) r

@@ -8,7 +8,7 @@ ghost use Rattle.meaning.specs.Commands.{c4D, create, modify, delete, shapeFiel
 ghost use Rattle.wire.specs.Answers.{Works};
 ghost use Rattle.fields.specs.Memory.{Sits, surveyOf};
 ghost use Rattle.fields.specs.Replies.{Asked};
-ghost use Rattle.fields.specs.Shape.{Blocks, Judged, Shapes, Surveyed, codeOf};
+ghost use Rattle.fields.specs.Shape.{Blocks, Judged, Shapes, Surveyed, grantCode};
 use crate::change::Change;
 use crate::change::apply;
 use crate::change::lacks_room;
@@ -33,7 +33,7 @@ pub enum Grant {
 impl Grant {
     // The error code, 00h where the change is granted.
     fn code(self) -> u8
-        ensures { λ r. ⌜ r ≡ codeOf self ⌝ }
+        ensures { λ r. ⌜ r ≡ grantCode self ⌝ }
     {
         match self {
             Grant::Refused(code) => code,

@@ -76,7 +76,7 @@ fn walk(statuses: &[u8], total: usize, field: usize) -> Survey
 }
 
 // 01, "Memory": all that a command reads of the table, whether it is sound or not.
-pub fn survey(memory: &[u8], total: usize, field: u8) -> Survey
+pub(crate) fn survey(memory: &[u8], total: usize, field: u8) -> Survey
     requires { ⌜ Sized total (now memory) ⌝ }
     ensures { λ r. ⌜ surveyOf r ≡ survey total (now (memory .entry)) field ⌝ }
 {

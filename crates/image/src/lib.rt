@@ -4,7 +4,6 @@ mod read;
 mod write;
 
 pub use layout::COUNTER;
-pub use layout::FRAME;
 pub use layout::KEPT;
 pub use layout::LENGTH;
 pub use layout::OFFSET;

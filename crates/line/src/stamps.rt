@@ -4,7 +4,7 @@ ghost use Prim.Native.Nat.{_+_, _%_, _^_};
 ghost use Rattle.meaning.specs.Characters as characters;
 
 // 01, "a gap is taken modulo 2^32": a clock stepped back by one tick reads as a very long gap.
-pub fn gap(from: u32, to: u32) -> u32
+pub(crate) fn gap(from: u32, to: u32) -> u32
     ensures { λ r. ⌜ r ≡ characters.gap from to ⌝ }
 {
     std::num::wrapping_sub_u32(to, from)

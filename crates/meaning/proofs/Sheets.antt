@@ -11,7 +11,7 @@ use Rattle.meaning.specs.Characters.{whole}
 use Rattle.meaning.specs.Frames.{Outcome, work, resting, upTo}
 use Rattle.meaning.specs.Run.{Call, poll, Heard, step, runFrom, closes}
 use Rattle.meaning.specs.Sheet.{Case, fits, holds, allHold, sheet, sheetPlate}
-use Rattle.meaning.specs.Demands.{atClose, spoken, Plays, AllPlay, SheetByCharacters}
+use Rattle.meaning.specs.Demands.{atClose, spoken, PlayedInTurn, AllPlay, SheetByCharacters}
 use Rattle.meaning.proofs.Steps.{both-0, both-1}
 use Rattle.meaning.proofs.Computed.{sheet-holds}
 use Rattle.meaning.proofs.Lines.{heard-whole, rests-same}
@@ -29,7 +29,7 @@ put-away : (s : State) → s .line ≡ none → resting s ≡ s
 unfolding resting withLine
 put-away s e = λ i. record { codes = s .codes; counter = s .counter; offset = s .offset; measured = s .measured; queue = s .queue; locked = s .locked; line = sym e i }
 
-plays : (p : Plate) (s : State) (m : List ℕ) (ls : List Heard) → s .line ≡ none → T (fits p s m ls) → Plays p s m ls
+plays : (p : Plate) (s : State) (m : List ℕ) (ls : List Heard) → s .line ≡ none → T (fits p s m ls) → PlayedInTurn p s m ls
 unfolding none
 plays p s m [] e h = tt
 plays p s m (l ∷ ls) e h = λ gs now said only whole-sent over.
@@ -38,10 +38,10 @@ plays p s m (l ∷ ls) e h = λ gs now said only whole-sent over.
     let w : runFrom p s m (poll now ∷ gs) ≡ o
     = unfold runFrom step in (heard-whole p s m gs now (ap (λ (x : Line). x .begun) e) whole-sent (unfold closes in over)
     ∙ ap₂ (λ (x : State) (b : List ℕ). work p x m (whole b)) (rests-same p s m gs only whole-sent ∙ put-away s e) said) in
-    let next : Plays p (o .state) (o .memory) ls
+    let next : PlayedInTurn p (o .state) (o .memory) ls
     = plays p (o .state) (o .memory) ls (work-rests p s m (whole (l .asked)) ∙ e) (both-1 (same (o .reply) (l .answered)) (fits p (o .state) (o .memory) ls) k) in (
       ap (λ (x : Outcome). x .reply) w ∙ same-eq (o .reply) (l .answered) (both-0 (same (o .reply) (l .answered)) (fits p (o .state) (o .memory) ls) k),
-      subst (λ (x : Outcome). Plays p (x .state) (x .memory) ls) (sym w) next,
+      subst (λ (x : Outcome). PlayedInTurn p (x .state) (x .memory) ls) (sym w) next,
     )
 
 all-play : (cs : List Case) → T (allHold cs) → AllPlay cs

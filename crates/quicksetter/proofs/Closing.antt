@@ -37,7 +37,7 @@ use Rattle.board.proofs.Endings.{own-known, answerable, long, workable, refused
 use Rattle.image.specs.Image.{isImage, stateIn, frameIn, keptIn, heldIn, stateBytes, lineBytes, imageOf, PutsState, PutsFrame, PutsBoard, Takes}
 use Rattle.image.proofs.Parts.{kept-length, front-length, state-as-it-was, same-front, state-length, puts-board}
 use Rattle.image.proofs.Round.{good, kept-stays, lent-back, image-as-it-was}
-use Rattle.quicksetter.specs.Calls.{boardIn, dataTo, calledBy, numberOf, imageAfter, Called, Unrefused, Servable, ServedIn, ClosedIn, Polls}
+use Rattle.quicksetter.specs.Calls.{boardIn, dataTo, calledBy, callNumber, imageAfter, Called, Unrefused, Servable, ServedIn, ClosedIn, Polls}
 use Rattle.quicksetter.proofs.Finishing.{written-over}
 use Rattle.quicksetter.proofs.Leaving.{finished}
 use Rattle.quicksetter.proofs.Staying.{image-of-state}
@@ -61,7 +61,7 @@ module _ (p : Plate) (img m w : List ℕ) (u : Unrefused p img (length m) (lengt
 
   -- a frame that is not over, or none: nothing is done
   pub nothing-over : (tick : ℕ) → ((i : ℕ) → arg img i < 256) → over p (heldIn img) tick ≡ false → Polls p img m w tick 0 img m w
-  unfolding numberOf imageAfter step upTo still
+  unfolding callNumber imageAfter step upTo still
   nothing-over tick small o =
       let k : calledBy p img m w (poll tick) ≡ (record { refusal = 0; count = 0; state = heldIn img; memory = m; room = put w 0 [] }) = served (poll tick) ∙ rw o in
       record {
@@ -130,7 +130,7 @@ module _ (p : Plate) (img m w : List ℕ) (u : Unrefused p img (length m) (lengt
 
     pub then-taken : (v : ℕ) {bad worse : Bool} {img″ : List ℕ} → bad ≡ worse → ((i : ℕ) → arg img′ i < 256) → Takes (next v bad) img′ img″
         → Called p img m w (character tick v worse) r img″ m′ w′
-    unfolding numberOf imageAfter imageOf step
+    unfolding callNumber imageAfter imageOf step
     then-taken v {bad} {worse} {img″} b small t =
         let n : Line = next v bad in
         let long : length img′ ≡ 165 = (good img′ image-again) .all in

@@ -30,7 +30,7 @@ use Rattle.image.proofs.Standing.{line-row}
 use Rattle.image.proofs.Parts.{kept-length}
 use Rattle.image.proofs.Round.{good, kept-stays, lent-back}
 use Rattle.quicksetter.specs.declared.notes.Note.{Note}
-use Rattle.quicksetter.specs.Calls.{boardIn, callFor, calledBy, numberOf, imageAfter, Called, outcomeNumber, LeftBy, Finishes}
+use Rattle.quicksetter.specs.Calls.{boardIn, callFor, calledBy, callNumber, imageAfter, Called, outcomeNumber, LeftBy, Finishes}
 
 -- a call that closes no frame brings no reply
 silent : (p : Plate) (s : meaning.State) (m : List ℕ) (g : Call) → closes p s g ≡ false → (step p s m g) .reply ≡ []
@@ -84,7 +84,7 @@ left-by-refusal n o b img img′ i h = go (eqb n 1) (eqb n 2) (rw i at h)
 module _ (p : Plate) (img m w : List ℕ) (g : Call) where
   -- R1 for what is no image
   pub no-image : isImage img ≡ false → Called p img m w g 257 img m w
-  unfolding calledBy numberOf imageAfter
+  unfolding calledBy callNumber imageAfter
   no-image e = record { answer = rw e; state = rw e; image = rw e; memory = rw e; room = rw e }
 
   module _ (e : isImage img ≡ true) where
@@ -119,7 +119,7 @@ module _ (p : Plate) (img m w : List ℕ) (g : Call) where
 
       -- refused: nothing is written
       refused-call : eqb (h .refusal) 0 ≡ false → r ≡ 256 + h .refusal → img′ ≡ back → Called p img m w g r img′ m′ w′
-      unfolding numberOf imageAfter
+      unfolding callNumber imageAfter
       refused-call q a b =
           let s : h .state ≡ heldIn img = refused-state p (heldIn img) m w g q in
           let k : kept ≡ keptIn img =
@@ -135,7 +135,7 @@ module _ (p : Plate) (img m w : List ℕ) (g : Call) where
 
       -- served: the board is written back
       served-call : eqb (h .refusal) 0 ≡ true → r ≡ h .count → PutsBoard (t .board .state) (t .board .frame) back img′ → Called p img m w g r img′ m′ w′
-      unfolding numberOf imageAfter imageOf
+      unfolding callNumber imageAfter imageOf
       served-call q a b =
           let f : OpenFrame = t .board .frame in
           let few : f .len ≤ 135 = st .few (ap (λ (x : Held). x .refusal) on-board ∙ eqb-true (h .refusal) 0 q) in

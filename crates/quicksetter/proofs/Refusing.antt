@@ -19,7 +19,7 @@ use Rattle.state.proofs.States.{within}
 use Rattle.image.specs.Image.{numberAt, isImage, stateIn, frameIn, keptIn, heldIn}
 use Rattle.image.proofs.Parts.{kept-length}
 use Rattle.image.proofs.Round.{good}
-use Rattle.quicksetter.specs.Calls.{possible, calledBy, numberOf, imageAfter, Called, Unrefused}
+use Rattle.quicksetter.specs.Calls.{possible, calledBy, callNumber, imageAfter, Called, Unrefused}
 use Rattle.quicksetter.proofs.Leaving.{no-image}
 
 empty-queue : (img : List ℕ) → numberAt img 16 ≡ 0 → queueOf (stateIn img .faults) ≡ []
@@ -61,11 +61,11 @@ mixed true true true = refl
 module _ (p : Plate) (img m w : List ℕ) (g : Call) where
   -- refused by its number: nothing is done
   refused-call : (n : ℕ) → eqb n 0 ≡ false → isImage img ≡ true → refusedBy p (heldIn img) m (length w) g ≡ n → Called p img m w g (256 + n) img m w
-  unfolding calledBy called numberOf imageAfter
+  unfolding calledBy called callNumber imageAfter
   refused-call n z e r =
       let k : calledBy p img m w g ≡ (record { refusal = n; count = 0; state = heldIn img; memory = m; room = w }) = rw (e, r, z) in
       record {
-        answer = sym (ap numberOf k ∙ rw z);
+        answer = sym (ap callNumber k ∙ rw z);
         state = sym (ap (λ (h : Held). h .state) k);
         image = sym (ap (imageAfter img) k ∙ rw z);
         memory = sym (ap (λ (h : Held). h .memory) k);

@@ -28,7 +28,7 @@ use Rattle.meaning.proofs.Told.{reads-by-traffic}
 use Rattle.line.proofs.Limits.{low-address}
 use Rattle.image.specs.Image.{heldIn, imageOf}
 use Rattle.quicksetter.specs.Calls.{freshOk, Freshens, Called}
-use Rattle.quicksetter.specs.Promises.{Ran, began, called, AsRun, QsRuns, QsMemoryByTraffic, QsTrafficAlone, QsCarriedTheCode, Replied, replied, QsRefusedForRoom, Asks, QsRepliesAsMeant, QsFreeByTraffic, QsReadsByTraffic}
+use Rattle.quicksetter.specs.Promises.{Ran, began, called, AsRun, QsRuns, QsMemoryByTraffic, QsTrafficAlone, QsCarriedTheCode, ClosesNext, closes-next, QsRefusedForRoom, HoldsRequest, QsRepliesAsMeant, QsFreeByTraffic, QsReadsByTraffic}
 use Rattle.quicksetter.proofs.Freshening.{fresh-holds}
 use Rattle.quicksetter.proofs.Theorems.{qs-steps}
 use Rattle.quicksetter.proofs.Staying.{Holds, unrefused, was-fresh, starts, goes-on}
@@ -93,7 +93,7 @@ module _ (p : Plate) (s : meaning.State) (m : List ℕ) where
   closing power-on o = absurd o
 
 pub qs-refused-for-room : QsRefusedForRoom
-qs-refused-for-room p t img m _ (replied gs x w g r img′ m′ w′ h wide c o) W =
+qs-refused-for-room p t img m _ (closes-next gs x w g r img′ m′ w′ h wide c o) W =
     let k = stays p gs t img m x h in
     let z = closing p (heldIn img) m g o in
     replies p img m w g r img′ m′ w′ k wide c ∙ z .1 .1
@@ -104,7 +104,7 @@ qs-refused-for-room p t img m _ (replied gs x w g r img′ m′ w′ h wide c o)
 
 pub qs-replies-as-meant : QsRepliesAsMeant
 unfolding upTo close meant ownByte
-qs-replies-as-meant p t img m _ a c d (replied gs x w g r img′ m′ w′ h wide q o) A =
+qs-replies-as-meant p t img m _ a c d (closes-next gs x w g r img′ m′ w′ h wide q o) A =
     let s = heldIn img in
     let k = stays p gs t img m x h in
     let z = closing p s m g o in
@@ -114,16 +114,16 @@ qs-replies-as-meant p t img m _ a c d (replied gs x w g r img′ m′ w′ h wid
     ∙ ap (work p (resting s) m) (A .frame) ∙ work-request p (resting s) m a c d sent)
 
 -- what holds after every run holds where a frame is closed
-where-replied : (p : Plate) (t : List Heard) (img m y : List ℕ) (P : meaning.State → List ℕ → List Heard → Type 0)
-    → ((gs : List Call) → P ((run p gs) .state) ((run p gs) .memory) (traffic p gs)) → Replied p t img m y → P (heldIn img) m t
-where-replied p t img m _ P always (replied gs x w g r img′ m′ w′ h wide c o) = as-run p gs t img m x h P (always gs)
+where-closes-next : (p : Plate) (t : List Heard) (img m y : List ℕ) (P : meaning.State → List ℕ → List Heard → Type 0)
+    → ((gs : List Call) → P ((run p gs) .state) ((run p gs) .memory) (traffic p gs)) → ClosesNext p t img m y → P (heldIn img) m t
+where-closes-next p t img m _ P always (closes-next gs x w g r img′ m′ w′ h wide c o) = as-run p gs t img m x h P (always gs)
 
 pub qs-free-by-traffic : QsFreeByTraffic
 unfolding meant commandOf worked outcome
 qs-free-by-traffic p t img m y a z A =
     qs-replies-as-meant p t img m y a 0x4E [] z A
     ∙ ap (λ (b : Answer). (outcome p (resting (heldIn img)) m 0x4E b) .reply)
-    (where-replied p t img m y
+    (where-closes-next p t img m y
     (λ (s : meaning.State) (m : List ℕ) (t : List Heard). memoryStatus p (resting s) m [] ≡ accept (freeByte (p .total + back t - granted t) ∷ fieldsOf t ∷ []) (resting s) m)
     (λ gs. free-by-traffic p gs (resting ((run p gs) .state))) z)
 
@@ -143,5 +143,5 @@ unfolding meant commandOf worked
 qs-reads-by-traffic p t img m y a d z A k i l =
     let e = qs-replies-as-meant p t img m y a 0x4A d z A in
     let told : BringsTold t d (readField p (resting (heldIn img)) m d)
-    = where-replied p t img m y (λ (s : meaning.State) (m : List ℕ) (t : List Heard). BringsTold t d (readField p (resting s) m d)) (λ gs. reads-by-traffic p gs (resting ((run p gs) .state)) d) z in
+    = where-closes-next p t img m y (λ (s : meaning.State) (m : List ℕ) (t : List Heard). BringsTold t d (readField p (resting s) m d)) (λ gs. reads-by-traffic p gs (resting ((run p gs) .state)) d) z in
     rw e (brought p (resting (heldIn img)) m t d (readField p (resting (heldIn img)) m d) told (rw (← e) k) i l)

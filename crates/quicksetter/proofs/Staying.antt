@@ -21,7 +21,7 @@ use Rattle.image.specs.Image.{flagByte, flagsOk, isImage, heldIn, keptIn, state
 use Rattle.image.proofs.Parts.{kept-length}
 use Rattle.image.proofs.Round.{good}
 use Rattle.quicksetter.specs.Calls.{imageAfter, freshOk, Called, Freshens}
-use Rattle.quicksetter.specs.Promises.{Reached, start, next, NeverRefused}
+use Rattle.quicksetter.specs.Promises.{Reached, start, next, QsNeverRefused}
 use Rattle.quicksetter.proofs.Freshening.{fresh-holds}
 use Rattle.quicksetter.proofs.Theorems.{on-image, qs-steps}
 
@@ -85,7 +85,7 @@ reached : (p : Plate) (img m : List ℕ) → Reached p img m → Holds p img m
 reached p img m (start old _ _ f l) = starts p old img m f l
 reached p img m (next img₀ m₀ w g r _ _ w′ h wide c) = goes-on p img₀ m₀ w g r img m w′ (reached p img₀ m₀ h) wide c
 
-pub never-refused : NeverRefused
+pub never-refused : QsNeverRefused
 never-refused p img m w g r img′ m′ w′ h wide c =
     let k = reached p img m h in
     let free : T (eqb (refusedBy p (heldIn img) m (length w) g) 0) = rw (unrefused p img m (length w) g k wide) tt in

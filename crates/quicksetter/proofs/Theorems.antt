@@ -15,22 +15,22 @@ use Rattle.meaning.proofs.Lines.{poll-without-frame}
 use Rattle.meaning.proofs.Warning.{warns-exactly}
 use Rattle.image.specs.Image.{isImage, heldIn}
 use Rattle.image.proofs.Round.{image-as-it-was}
-use Rattle.quicksetter.specs.Calls.{calledBy, numberOf, imageAfter, Called}
-use Rattle.quicksetter.specs.Promises.{QsSteps, QsWarnsExactly, QsPollWithoutFrame, Untouched, RefusedUntouched, NoImageUntouched}
+use Rattle.quicksetter.specs.Calls.{calledBy, callNumber, imageAfter, Called}
+use Rattle.quicksetter.specs.Promises.{QsSteps, QsWarnsExactly, QsPollWithoutFrame, Untouched, QsRefusedUntouched, NoImageUntouched}
 
 pub on-image : (p : Plate) (img m w : List ℕ) (g : Call) → isImage img ≡ true → calledBy p img m w g ≡ called p (heldIn img) m w g
 unfolding calledBy
 on-image p img m w g e = rw e
 
-count-told : (h : Held) → h .refusal ≡ 0 → numberOf h ≡ h .count
-unfolding numberOf
+count-told : (h : Held) → h .refusal ≡ 0 → callNumber h ≡ h .count
+unfolding callNumber
 count-told h e = rw e
 
 pub qs-steps : QsSteps
 qs-steps p img m w g r img′ m′ w′ c e free =
     let k = on-image p img m w g e in
     let s = calls.served-otherwise p (heldIn img) m w g free in
-    let n : r ≡ (called p (heldIn img) m w g) .count = c .answer ∙ ap numberOf k ∙ count-told (called p (heldIn img) m w g) (s .unrefused) in
+    let n : r ≡ (called p (heldIn img) m w g) .count = c .answer ∙ ap callNumber k ∙ count-told (called p (heldIn img) m w g) (s .unrefused) in
     let q : w′ ≡ (called p (heldIn img) m w g) .room = c .room ∙ ap (λ (h : Held). h .room) k in
     record {
       unrefused = refl;
@@ -64,7 +64,7 @@ qs-poll-without-frame p img m w now r img′ m′ w′ c e low free n =
 module _ (p : Plate) (img m w : List ℕ) (g : Call) {r : ℕ} {img′ m′ w′ : List ℕ} (c : Called p img m w g r img′ m′ w′) where
   nothing-done : (n : ℕ) → eqb n 0 ≡ false → calledBy p img m w g ≡ (record { refusal = n; count = 0; state = heldIn img; memory = m; room = w })
       → Untouched n img m w r img′ m′ w′
-  unfolding numberOf imageAfter
+  unfolding callNumber imageAfter
   nothing-done n z k =
       record {
         number = c .answer ∙ rw (k, z);
@@ -77,7 +77,7 @@ is-not : (b : Bool) → T (not b) → b ≡ false
 is-not true h = absurd h
 is-not false h = refl
 
-pub refused-untouched : RefusedUntouched
+pub refused-untouched : QsRefusedUntouched
 refused-untouched p img m w g r img′ m′ w′ c e h =
     let n = refusedBy p (heldIn img) m (length w) g in
     nothing-done p img m w g c n (is-not (eqb n 0) h) (on-image p img m w g e ∙ calls.refused-untouched p (heldIn img) m w g h)

@@ -8,7 +8,7 @@ use Rattle.meaning.specs.Bench as meaning
 use Rattle.wire.proofs.Tight.{same-outcome}
 use Rattle.quicksetter.specs.declared.replies.Piece.{Piece}
 use Rattle.quicksetter.specs.Calls.{Called, Freshens}
-use Rattle.quicksetter.specs.Verdicts.{Writes, verdictNumber, pieceFrom}
+use Rattle.quicksetter.specs.Verdicts.{Writes, verdictNumber, pieceForC}
 
 -- what a call's outcome is made of
 pub record Alike (r t : ℕ) (img′ img″ m′ m″ w′ w″ : List ℕ) : Type 0 where
@@ -42,5 +42,5 @@ request-tight w x y = (x .answer ∙ sym (y .answer), x .buffer ∙ sym (y .buff
 pub judge-tight : (q a : List ℕ) (r t : ℕ) → r ≡ verdictNumber (meaning.judge q a) → t ≡ verdictNumber (meaning.judge q a) → r ≡ t
 judge-tight q a = same-outcome (verdictNumber (meaning.judge q a))
 
-pub data-part-tight : (q a : List ℕ) (r t : Piece) → r ≡ pieceFrom (meaning.handed q a) → t ≡ pieceFrom (meaning.handed q a) → r ≡ t
-data-part-tight q a = same-outcome (pieceFrom (meaning.handed q a))
+pub data-part-tight : (q a : List ℕ) (r t : Piece) → r ≡ pieceForC (meaning.handed q a) → t ≡ pieceForC (meaning.handed q a) → r ≡ t
+data-part-tight q a = same-outcome (pieceForC (meaning.handed q a))

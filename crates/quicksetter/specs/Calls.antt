@@ -33,15 +33,15 @@ calledBy p img m room g =
     (record { refusal = 1; count = 0; state = heldIn img; memory = m; room = room })
 
 -- 0 for silence, 1 to 134 the reply's length, 256 + n for Rn
-unfoldable pub numberOf : Held → ℕ
-numberOf h = pick (eqb (h .refusal) 0) (h .count) (256 + h .refusal)
+unfoldable pub callNumber : Held → ℕ
+callNumber h = pick (eqb (h .refusal) 0) (h .count) (256 + h .refusal)
 
 -- the state after the call, its unused places as they were; a refused call leaves the image as it was
 unfoldable pub imageAfter : List ℕ → Held → List ℕ
 imageAfter img h = pick (eqb (h .refusal) 0) (imageOf (h .state) (keptIn img)) img
 
 pub record Called (p : meaning.Plate) (img m w : List ℕ) (g : Call) (r : ℕ) (img′ m′ w′ : List ℕ) : Type 0 where
-  pub answer : r ≡ numberOf (calledBy p img m w g)
+  pub answer : r ≡ callNumber (calledBy p img m w g)
   pub state : heldIn img′ ≡ (calledBy p img m w g) .state
   pub image : img′ ≡ imageAfter img (calledBy p img m w g)
   pub memory : m′ ≡ (calledBy p img m w g) .memory

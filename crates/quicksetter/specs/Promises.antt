@@ -33,8 +33,8 @@ pub record Untouched (n : ℕ) (img m w : List ℕ) (r : ℕ) (img′ m′ w′ 
   pub room : w′ ≡ w
 
 -- 01, "Named refusals": a refused call touches nothing and tells its number
-abbrev pub RefusedUntouched : Type 0
-RefusedUntouched = (p : Plate) (img m w : List ℕ) (g : Call) (r : ℕ) (img′ m′ w′ : List ℕ) → Called p img m w g r img′ m′ w′
+abbrev pub QsRefusedUntouched : Type 0
+QsRefusedUntouched = (p : Plate) (img m w : List ℕ) (g : Call) (r : ℕ) (img′ m′ w′ : List ℕ) → Called p img m w g r img′ m′ w′
     → isImage img ≡ true → T (not (eqb (refusedBy p (heldIn img) m (length w) g) 0)) → Untouched (refusedBy p (heldIn img) m (length w) g) img m w r img′ m′ w′
 
 -- 01, R1: what is no image, an impossible state
@@ -48,8 +48,8 @@ pub data Reached (p : Plate) : List ℕ → List ℕ → Type 0 where
   next : (img m w : List ℕ) (g : Call) (r : ℕ) (img′ m′ w′ : List ℕ) → Reached p img m → longestReply ≤ length w → Called p img m w g r img′ m′ w′ → Reached p img′ m′
 
 -- Demand 1: no such call is ever refused: what comes back is the length of a reply
-abbrev pub NeverRefused : Type 0
-NeverRefused = (p : Plate) (img m w : List ℕ) (g : Call) (r : ℕ) (img′ m′ w′ : List ℕ) → Reached p img m → longestReply ≤ length w → Called p img m w g r img′ m′ w′ → r ≤ longestReply
+abbrev pub QsNeverRefused : Type 0
+QsNeverRefused = (p : Plate) (img m w : List ℕ) (g : Call) (r : ℕ) (img′ m′ w′ : List ℕ) → Reached p img m → longestReply ≤ length w → Called p img m w g r img′ m′ w′ → r ≤ longestReply
 
 -- Demand 3: a host that starts with a fresh image and blank memory, and then only calls, with room enough: its calls, newest first; the traffic, each frame that a
 -- call closed with the reply that the call left; image, memory and last reply
@@ -81,33 +81,33 @@ abbrev pub QsCarriedTheCode : Type 0
 QsCarriedTheCode = (p : Plate) (gs : List Call) (t : List Heard) (img m x : List ℕ) → Ran p gs t img m x → Honest t
 
 -- such a host's next call, a character or a poll, closes the open frame and leaves a reply
-pub data Replied (p : Plate) (t : List Heard) (img m : List ℕ) : List ℕ → Type 0 where
-  replied : (gs : List Call) (x w : List ℕ) (g : Call) (r : ℕ) (img′ m′ w′ : List ℕ) → Ran p gs t img m x → longestReply ≤ length w → Called p img m w g r img′ m′ w′
-      → T (closes p (heldIn img) g) → Replied p t img m (take r w′)
+pub data ClosesNext (p : Plate) (t : List Heard) (img m : List ℕ) : List ℕ → Type 0 where
+  closes-next : (gs : List Call) (x w : List ℕ) (g : Call) (r : ℕ) (img′ m′ w′ : List ℕ) → Ran p gs t img m x → longestReply ≤ length w → Called p img m w g r img′ m′ w′
+      → T (closes p (heldIn img) g) → ClosesNext p t img m (take r w′)
 
 -- Demand 3: of a 4Dh that passes the earlier checks the reply is 10h exactly if it asks more than is free, else the acceptance
 abbrev pub QsRefusedForRoom : Type 0
-QsRefusedForRoom = (p : Plate) (t : List Heard) (img m y : List ℕ) → Replied p t img m y → Wanted p (resting (heldIn img)) t (closed ((heldIn img) .line))
+QsRefusedForRoom = (p : Plate) (t : List Heard) (img m y : List ℕ) → ClosesNext p t img m y → Wanted p (resting (heldIn img)) t (closed ((heldIn img) .line))
     → y ≡ roomReply p (resting (heldIn img)) t (arg ((heldIn img) .line .kept) 2) (arg ((heldIn img) .line .kept) 3)
 
 -- the open frame is the request with address a, command c and data d, one that the bench writes, and for this board
-pub record Asks (p : Plate) (img : List ℕ) (a c : ℕ) (d : List ℕ) : Type 0 where
+pub record HoldsRequest (p : Plate) (img : List ℕ) (a c : ℕ) (d : List ℕ) : Type 0 where
   pub frame : closed ((heldIn img) .line) ≡ whole (request a c d)
   pub ours : T (either (eqb a (ownByte p (heldIn img))) (eqb a 0xFF))
   pub may : T (allowed (commandOf c) d)
 
 -- Demand 2: the reply to it is the one that its row means
 abbrev pub QsRepliesAsMeant : Type 0
-QsRepliesAsMeant = (p : Plate) (t : List Heard) (img m y : List ℕ) (a c : ℕ) (d : List ℕ) → Replied p t img m y → Asks p img a c d → y ≡ (meant p (resting (heldIn img)) m c d) .reply
+QsRepliesAsMeant = (p : Plate) (t : List Heard) (img m y : List ℕ) (a c : ℕ) (d : List ℕ) → ClosesNext p t img m y → HoldsRequest p img a c d → y ≡ (meant p (resting (heldIn img)) m c d) .reply
 
 -- Demand 3: 4Eh tells the traffic's free blocks, total less granted plus given back, and its number of fields
 abbrev pub QsFreeByTraffic : Type 0
-QsFreeByTraffic = (p : Plate) (t : List Heard) (img m y : List ℕ) (a : ℕ) → Replied p t img m y → Asks p img a 0x4E []
+QsFreeByTraffic = (p : Plate) (t : List Heard) (img m y : List ℕ) (a : ℕ) → ClosesNext p t img m y → HoldsRequest p img a 0x4E []
     → y ≡ message p (resting (heldIn img)) 0x4E (freeByte (p .total + back t - granted t) ∷ fieldsOf t ∷ [])
 
 -- Demand 3, "each byte": an accepted 4Ah brings, behind field, offset and count, the bytes that the traffic tells
 abbrev pub QsReadsByTraffic : Type 0
-QsReadsByTraffic = (p : Plate) (t : List Heard) (img m y : List ℕ) (a : ℕ) (d : List ℕ) → Replied p t img m y → Asks p img a 0x4A d → bare y ≡ 0x4A
+QsReadsByTraffic = (p : Plate) (t : List Heard) (img m y : List ℕ) (a : ℕ) (d : List ℕ) → ClosesNext p t img m y → HoldsRequest p img a 0x4A d → bare y ≡ 0x4A
     → (i : ℕ) → i < arg d 2 → getD (drop 3 (dataOf y)) i 0 ≡ byteOf t (arg d 0) (arg d 1 + i)
 
 -- 01, "Bit 7 of every reply's command byte": where a call that is not refused leaves a reply, bit 7 is set exactly if codes wait in the image after it

@@ -10,7 +10,7 @@ use Rattle.bench.specs.declared.request.Written.{Written}
 use Rattle.bench.specs.declared.request.Written.the-variants.{Request, R4, R5}
 use Rattle.bench.specs.declared.reply.Verdict.{Verdict}
 use Rattle.bench.specs.declared.reply.Verdict.the-variants.{Done, DoneWithWarning, Error, ErrorWithWarning, Refused}
-use Rattle.bench.specs.Outcomes.{numberOf}
+use Rattle.bench.specs.Outcomes.{checkNumber}
 use Rattle.quicksetter.specs.declared.replies.Piece.{Piece}
 
 -- a request's length, or 256 + n for Rn
@@ -40,8 +40,8 @@ verdictCode Done = 0
 verdictCode DoneWithWarning = 1
 verdictCode (Error e) = 256 + e
 verdictCode (ErrorWithWarning e) = 512 + e
-verdictCode (Refused b) = 1024 + numberOf b
+verdictCode (Refused b) = 1024 + checkNumber b
 
 -- where the data part starts in the reply, and its length
-abbrev pub pieceFrom : meaning.Piece → Piece
-pieceFrom h = record { place = h .from; length = h .count }
+abbrev pub pieceForC : meaning.Piece → Piece
+pieceForC h = record { place = h .from; length = h .count }

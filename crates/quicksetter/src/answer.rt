@@ -9,7 +9,7 @@ use board::Stepped;
 pub const REFUSED: usize = 0x100;
 
 // The board goes back to its image, but for a refused call's.
-pub fn finish(stepped: Stepped, image: &mut [u8]) -> usize
+pub(crate) fn finish(stepped: Stepped, image: &mut [u8]) -> usize
     requires { ⌜ length (now image) ≡ 165 ⌝ }
     ensures { λ r. ⌜ Finishes stepped (now (image .entry)) r (now (image .exit)) ⌝ }
 {

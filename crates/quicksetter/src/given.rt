@@ -6,7 +6,7 @@ ghost use Rattle.quicksetter.specs.Calls.{plateFrom, boardIn};
 use board::Board;
 use line::Plate;
 
-pub fn plate_from(total: u32, bits: u32, address: u32, ticks: u32, pause: u32) -> Plate
+pub(crate) fn plate_from(total: u32, bits: u32, address: u32, ticks: u32, pause: u32) -> Plate
     ensures { λ r. ⌜ r ≡ plateFrom total bits address ticks pause ⌝ }
 {
     Plate {
@@ -18,7 +18,7 @@ pub fn plate_from(total: u32, bits: u32, address: u32, ticks: u32, pause: u32) -
     }
 }
 
-pub fn board_in(image: &[u8]) -> Board
+pub(crate) fn board_in(image: &[u8]) -> Board
     requires { ⌜ 165 ≤ length (now image) ⌝ }
     ensures { λ r. ⌜ r ≡ boardIn (now (image .entry)) ⌝ }
 {

@@ -3,8 +3,8 @@ ghost use mathlib.Core.Path.{_≡_};
 ghost use Prim.Native.Nat.{_<_};
 ghost use lib.ListN.{length};
 ghost use Rattle.meaning.specs.Bench as meaning;
-ghost use Rattle.bench.specs.Outcomes.{numberOf};
-ghost use Rattle.quicksetter.specs.Verdicts.{writtenNumber, verdictNumber, verdictCode, pieceFrom, Writes};
+ghost use Rattle.bench.specs.Outcomes.{checkNumber};
+ghost use Rattle.quicksetter.specs.Verdicts.{writtenNumber, verdictNumber, verdictCode, pieceForC, Writes};
 use crate::answer::REFUSED;
 use bench::Refusal;
 use bench::Verdict;
@@ -42,7 +42,7 @@ fn wide(b: u8) -> u32
 }
 
 fn refusal_number(refusal: Refusal) -> u32
-    ensures { λ r. ⌜ (r ≡ numberOf refusal) × (r < 7) ⌝ }
+    ensures { λ r. ⌜ (r ≡ checkNumber refusal) × (r < 7) ⌝ }
 {
     match refusal {
         Refusal::B0 => 0,
@@ -77,7 +77,7 @@ pub extern "C" fn qs_judge(request: &[u8], reply: &[u8]) -> u32
 // 01, "the data part is handed back as a piece of the reply itself, and on refusal as the empty piece at its front".
 #[no_mangle]
 pub extern "C" fn qs_data_part(request: &[u8], reply: &[u8]) -> Piece
-    ensures { λ r. ⌜ r ≡ pieceFrom (meaning.handed (now (request .entry)) (now (reply .entry))) ⌝ }
+    ensures { λ r. ⌜ r ≡ pieceForC (meaning.handed (now (request .entry)) (now (reply .entry))) ⌝ }
 {
     let verdict = bench::judge(request, reply);
     let piece = verdict.piece(reply.len());

@@ -19,6 +19,7 @@ pub fn byte_at(s: &[u8], i: usize) -> u8
 // The first n bytes, or all where there are fewer.
 pub fn front(s: &[u8], n: usize) -> &[u8]
     ensures { λ r. ⌜ now r ≡ take n (now (s .entry)) ⌝ }
+    ensures { λ r. ⌜ ptr r ≡ ptr (s .entry) ⌝ }
 {
     if n < s.len() {
         return &s[..n];

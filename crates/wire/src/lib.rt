@@ -16,7 +16,6 @@ pub use framing::seal;
 pub use framing::write;
 pub use number::bytes_of;
 pub use number::number_at;
-pub use sum::xor_from;
 pub use sum::xor_of;
 pub use table::Length;
 pub use table::Row;

@@ -2,7 +2,7 @@
 ghost use mathlib.Core.Path.{_≡_};
 ghost use Rattle.meaning.specs.Bytes.{xorFrom, xorAll};
 
-pub fn xor_from(start: u8, s: &[u8]) -> u8
+pub(crate) fn xor_from(start: u8, s: &[u8]) -> u8
     ensures { λ r. ⌜ r ≡ xorFrom start (now (s .entry)) ⌝ }
 {
     let mut sum = start;

@@ -49,8 +49,8 @@ repeats c =
     let r = q .before in
     let a = r .before .before .before .before .args in
     let k = r .row-of .result .repeats in
-    let e = c .before .front2 .ensures ∙ ap (take k) (q .data-part .ensures .0) in
-    let f = after-front .front .ensures ∙ ap (take k) (p .data-part2 .ensures .0) in
+    let e = c .before .front2 .ensures .0 ∙ ap (take k) (q .data-part .ensures .0) in
+    let f = after-front .front .ensures .0 ∙ ap (take k) (p .data-part2 .ensures .0) in
     fits-repeated (r .row-of .result) (a .request .now) (a .reply .now) (c .same .result) (r .row-of .ensures)
     (c .same .ensures ∙ ap₂ same f e)
 

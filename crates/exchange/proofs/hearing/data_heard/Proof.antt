@@ -17,7 +17,7 @@ slice-aggregate-result : tie.Need-slice-aggregate-result
 slice-aggregate-result c = search needs
 
 returns : tie.Need-returns
-returns c = search needs
+returns c = (rw (c .before .enum-told .given .1), rw (c .before .enum-told .given .1))
 
 front-requires : tie.Need-front-requires
 front-requires c κs = search needs
@@ -32,7 +32,9 @@ returns-2 : tie.Need-returns-2
 returns-2 c =
     let after-front = c .before .before in
     let after-ended = after-front .before .before in
-    rw (after-ended .ended .given .1) (rw (after-front .front .ensures, c .before .front2 .ensures) at (c .data-of .ensures .0))
+    let bytes = rw (after-front .front .ensures .0, c .before .front2 .ensures .0) at (c .data-of .ensures .0) in
+    let place = rw (after-front .front .ensures .0, c .before .front2 .ensures .0, c .before .front2 .ensures .1) at (c .data-of .ensures .1) in
+    (rw (after-ended .ended .given .1) bytes, rw (after-ended .ended .given .1) place)
 
 pub data-heard-spec : {M : Type 1} → statement M
 data-heard-spec =

@@ -13,10 +13,10 @@ use Rattle.meaning.proofs.Tables.{count-le}
 
 -- before the named field
 fields-before : (c : tie.After-count-fields) → c .count-fields .result .fields ≡ fieldCount (take (c .before .before .before .args .field) (c .before .before .before .args .statuses .now))
-fields-before c = c .count-fields .ensures .fields ∙ ap fieldCount (c .before .front .ensures)
+fields-before c = c .count-fields .ensures .fields ∙ ap fieldCount (c .before .front .ensures .0)
 
 used-before : (c : tie.After-count-fields) → c .count-fields .result .blocks ≡ used (take (c .before .before .before .args .field) (c .before .before .before .args .statuses .now))
-used-before c = c .count-fields .ensures .blocks ∙ ap used (c .before .front .ensures)
+used-before c = c .count-fields .ensures .blocks ∙ ap used (c .before .front .ensures .0)
 
 -- and in all
 all-fields : (c : tie.After-count-fields2) → c .before .before .count-fields .result .fields + c .count-fields2 .result .fields ≡ fieldCount (c .before .before .before .before .before .args .statuses .now)
@@ -37,7 +37,7 @@ front-requires : tie.Need-front-requires
 front-requires c κs = search needs
 
 count-fields-requires : tie.Need-count-fields-requires
-count-fields-requires c κs = simp (c .front .ensures, length-take) (omega arith)
+count-fields-requires c κs = simp (c .front .ensures .0, length-take) (omega arith)
 
 past-requires : tie.Need-past-requires
 past-requires c κs =

@@ -1,7 +1,7 @@
 -- `wire::bytes::front` meets its contract. Assumes nothing.
 use native.Mathlib.Omega.{arith}
 use lib.Seq.{length-take-le, take-all}
-use mathlib.Core.Path.{sym}
+use mathlib.Core.Path.{refl, sym}
 use borrow.Author.Needs.{needs}
 use Rattle.wire.proofs.bytes.front.Statement.{statement}
 use Rattle.wire.proofs.bytes.front.Tie as tie
@@ -14,10 +14,10 @@ slice-aggregate-result c =
     sym (length-take-le (start .args .n) (start .args .s .now) (omega arith))
 
 returns : tie.Need-returns
-returns c = search needs
+returns c = (refl, refl)
 
 returns-2 : tie.Need-returns-2
-returns-2 c = sym (take-all _ _ (c .if1 .left))
+returns-2 c = (sym (take-all _ _ (c .if1 .left)), refl)
 
 pub front-spec : {M : Type 1} → statement M
 front-spec = tie.close (tie.spec slice-aggregate-result returns returns-2)
