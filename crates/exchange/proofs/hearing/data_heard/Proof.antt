@@ -1,4 +1,6 @@
 -- `exchange::hearing::data_heard` meets its contract. Assumes nothing.
+use native.Mathlib.Nat.{zero-add}
+use mathlib.Core.Path.{refl}
 use borrow.Author.Needs.{needs}
 use Rattle.exchange.proofs.hearing.data_heard.Statement.{statement}
 use Rattle.exchange.proofs.hearing.data_heard.Tie as tie
@@ -17,7 +19,7 @@ slice-aggregate-result : tie.Need-slice-aggregate-result
 slice-aggregate-result c = search needs
 
 returns : tie.Need-returns
-returns c = (rw (c .before .enum-told .given .1), rw (c .before .enum-told .given .1))
+returns c = (rw (c .before .enum-told .given .1), rw (c .before .enum-told .given .1, zero-add) refl)
 
 front-requires : tie.Need-front-requires
 front-requires c κs = search needs
