@@ -64,3 +64,7 @@ fault-sent p s w q h = record { count = rw q (h .count); bytes = rw q (h .bytes)
 pub fault-silent : (p : meaning.Plate) (s : State) (w : List ℕ) {e : ℕ} → eqb e 0 ≡ true → Refused p s e w 0 w
 unfolding faultReply
 fault-silent p s w q = record { count = rw q; bytes = rw q (put-nothing w 0) }
+
+-- no two differing outcomes satisfy the contract of an error code, or of silence
+pub refused-tight : (p : meaning.Plate) (s : State) (e : ℕ) (w : List ℕ) {n k : ℕ} {w′ w″ : List ℕ} → Refused p s e w n w′ → Refused p s e w k w″ → (n ≡ k) × (w′ ≡ w″)
+refused-tight p s e w x y = (x .count ∙ sym (y .count), x .bytes ∙ sym (y .bytes))
