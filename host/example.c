@@ -126,7 +126,7 @@ static void print_bytes(const uint8_t *bytes, size_t n) {
 
 /* One line of the sheet: what is sent, and what is to come back. True if it does. */
 static bool sheet_line(struct host *host, const char *request, const char *reply) {
-    uint8_t sent[QS_REQUEST_ROOM], expected[QS_REPLY_ROOM];
+    uint8_t sent[QS_REQUEST_BUFFER], expected[QS_REPLY_ROOM];
     size_t sent_length = bytes_of(request, sent);
     size_t expected_length = bytes_of(reply, expected);
     size_t length = exchange(host, sent, sent_length);
@@ -187,7 +187,7 @@ static bool faults_of_the_sheet(struct host *host) {
 
 /* The bench's side: a request written, sent and judged. */
 static bool bench_side(struct host *host) {
-    uint8_t request[QS_REQUEST_ROOM];
+    uint8_t request[QS_REQUEST_BUFFER];
     const uint8_t field[] = {0};
     size_t length = qs_request(QS_BROADCAST, QS_FIELD_STATUS, field, sizeof field, request, sizeof request);
     if (QS_IS_REFUSED(length))

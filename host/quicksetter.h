@@ -39,7 +39,7 @@ extern "C" {
 #define QS_IMAGE_LENGTH 165                                     /* the state image */
 #define QS_KEPT_BYTES 135                                       /* bytes kept of a frame; a longer one is answered with 0Ch */
 #define QS_REPLY_ROOM 134                                       /* the longest reply */
-#define QS_REQUEST_ROOM 135                                     /* the longest request */
+#define QS_REQUEST_BUFFER 135                                     /* the longest request */
 #define QS_BROADCAST 255                                        /* address number of a request to every board */
 
 /* ---- results -------------------------------------------------------------------------------------------------------------------------------------------- */
@@ -49,7 +49,7 @@ extern "C" {
 #define QS_R1 (QS_REFUSED + 1) /* a plate or state number beyond its limit, or an image that is not QS_IMAGE_LENGTH bytes long */
 #define QS_R2 (QS_REFUSED + 2) /* memory not QS_MEMORY_LENGTH(total) bytes long */
 #define QS_R3 (QS_REFUSED + 3) /* reply room under QS_REPLY_ROOM bytes, needed or not */
-#define QS_R4 (QS_REFUSED + 4) /* request room under QS_REQUEST_ROOM bytes, needed or not */
+#define QS_R4 (QS_REFUSED + 4) /* request buffer under QS_REQUEST_BUFFER bytes, needed or not */
 #define QS_R5 (QS_REFUSED + 5) /* a request that the bench does not write */
 #define QS_IS_REFUSED(result) ((result) > QS_REFUSED)
 
@@ -185,11 +185,11 @@ size_t qs_power_on(uint8_t *image, size_t image_length, uint32_t total, uint32_t
 
 /* ---- the bench ------------------------------------------------------------------------------------------------------------------------------------------ */
 
-/* Writes a request to the front of the room: address byte, command, data, checksum. address is 0 to 31 or QS_BROADCAST.
- * Returns its length, 3 to QS_REQUEST_ROOM; the rest of the room is as it was.
+/* Writes a request to the front of the buffer: address byte, command, data, checksum. address is 0 to 31 or QS_BROADCAST.
+ * Returns its length, 3 to QS_REQUEST_BUFFER; the rest of the buffer is as it was.
  * Refuses QS_R4, then QS_R5: another address; a command that is not one of the above; data of a length that the command does not allow; a count of 0 or over
  * 128 in 4Ah; a code number over 3 in 4Fh. */
-size_t qs_request(uint32_t address, uint8_t command, const uint8_t *data, size_t data_length, uint8_t *room, size_t room_length);
+size_t qs_request(uint32_t address, uint8_t command, const uint8_t *data, size_t data_length, uint8_t *buffer, size_t buffer_length);
 
 /* Judges a reply to a request. An error reply is the verdict error, but to a request 50h it is done and its byte is the data, since the wire shows no
  * difference. A request 53h is never done: it has no reply.

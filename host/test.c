@@ -442,7 +442,7 @@ enum { NONE_FAULTY = 1 << 30 };
 
 /* Request and reply without their checksums; "" is silence. */
 static void asks(struct plate p, const char *request, const char *reply, const char *name) {
-    uint8_t bytes[QS_REQUEST_ROOM];
+    uint8_t bytes[QS_REQUEST_BUFFER];
     size_t n = sealed(request, bytes);
     checks++;
     if (replies(p, bytes, n, NONE_FAULTY, reply))
@@ -563,21 +563,21 @@ static void test_trials(void) {
 
 /* Every front part of the longest store: silence under 3 bytes, else a wrong checksum or a wrong length; memory stays as it was. */
 static void test_cut_frames(void) {
-    uint8_t frame[QS_REQUEST_ROOM] = {0x40, 0x4B, 0, 0, 128, 0x55};
-    for (uint8_t i = 6; i < QS_REQUEST_ROOM - 1; i++)
+    uint8_t frame[QS_REQUEST_BUFFER] = {0x40, 0x4B, 0, 0, 128, 0x55};
+    for (uint8_t i = 6; i < QS_REQUEST_BUFFER - 1; i++)
         frame[i] = (uint8_t)(i * 7);
-    frame[QS_REQUEST_ROOM - 1] = xor_of(frame, QS_REQUEST_ROOM - 1);
+    frame[QS_REQUEST_BUFFER - 1] = xor_of(frame, QS_REQUEST_BUFFER - 1);
     start(EIGHT);
     asks(EIGHT, "40 4D 00 C7 55", "40 4D 00 C7", "a field for the longest store");
     static uint8_t blank[QS_MEMORY_LENGTH(8)];
     memcpy(blank, lent.memory, sizeof blank);
-    for (size_t n = 1; n < QS_REQUEST_ROOM; n++) {
+    for (size_t n = 1; n < QS_REQUEST_BUFFER; n++) {
         const char *reply = n < 3 ? "" : xor_of(frame, n) != 0 ? "40 50 0A" : "40 50 0C";
         check(replies(EIGHT, frame, n, NONE_FAULTY, reply), "a cut frame", n);
         check(replies(EIGHT, frame, n, 0, n < 3 ? "" : "40 50 09"), "a cut frame with a parity fault", n);
         check(memcmp(lent.memory, blank, sizeof blank) == 0, "a cut frame stores nothing", n);
     }
-    check(replies(EIGHT, frame, QS_REQUEST_ROOM, NONE_FAULTY, "40 4B 00 00 80"), "the whole frame", 0);
+    check(replies(EIGHT, frame, QS_REQUEST_BUFFER, NONE_FAULTY, "40 4B 00 00 80"), "the whole frame", 0);
     check(memcmp(lent.memory, frame + 6, 128) == 0, "stores its bytes", 0);
 }
 
@@ -793,7 +793,7 @@ static void test_largest(void) {
 /* ---- the bench ------------------------------------------------------------------------------------------------------------------------------------------ */
 
 static void request_is(uint32_t address, const char *command_and_data, size_t room_length, const char *expected_text, size_t refusal) {
-    uint8_t given[QS_REQUEST_ROOM + 1], expected[QS_REQUEST_ROOM + 1];
+    uint8_t given[QS_REQUEST_BUFFER + 1], expected[QS_REQUEST_BUFFER + 1];
     size_t n = sealed(command_and_data, given) - 1;
     size_t expected_length = sealed(expected_text, expected);
     memset(&lent, GUARD_BYTE, sizeof lent);
@@ -812,18 +812,18 @@ static void test_requests(void) {
     for (size_t i = 0; i < COUNT(good); i++) {
         char expected[64];
         snprintf(expected, sizeof expected, "40 %s", good[i]);
-        request_is(0, good[i], QS_REQUEST_ROOM, expected, 0);
+        request_is(0, good[i], QS_REQUEST_BUFFER, expected, 0);
         snprintf(expected, sizeof expected, "5F %s", good[i]);
-        request_is(31, good[i], QS_REQUEST_ROOM + 1, expected, 0);
+        request_is(31, good[i], QS_REQUEST_BUFFER + 1, expected, 0);
         snprintf(expected, sizeof expected, "FF %s", good[i]);
-        request_is(QS_BROADCAST, good[i], QS_REQUEST_ROOM, expected, 0);
-        request_is(0, good[i], QS_REQUEST_ROOM - 1, "", QS_R4);
-        request_is(32, good[i], QS_REQUEST_ROOM, "", QS_R5);
-        request_is(256, good[i], QS_REQUEST_ROOM, "", QS_R5);
+        request_is(QS_BROADCAST, good[i], QS_REQUEST_BUFFER, expected, 0);
+        request_is(0, good[i], QS_REQUEST_BUFFER - 1, "", QS_R4);
+        request_is(32, good[i], QS_REQUEST_BUFFER, "", QS_R5);
+        request_is(256, good[i], QS_REQUEST_BUFFER, "", QS_R5);
         request_is(UINT32_MAX, good[i], 0, "", QS_R4);
     }
     for (size_t i = 0; i < COUNT(bad); i++) {
-        request_is(0, bad[i], QS_REQUEST_ROOM, "", QS_R5);
+        request_is(0, bad[i], QS_REQUEST_BUFFER, "", QS_R5);
         request_is(0, bad[i], 3, "", QS_R4);
     }
 }
@@ -891,7 +891,7 @@ static void judged_as(const uint8_t *request, size_t request_length, const uint8
 
 static void test_verdicts(void) {
     for (size_t i = 0; i < COUNT(JUDGED); i++) {
-        uint8_t request[QS_REQUEST_ROOM], reply[QS_REPLY_ROOM];
+        uint8_t request[QS_REQUEST_BUFFER], reply[QS_REPLY_ROOM];
         size_t asked = sealed(JUDGED[i].request, request);
         size_t replied = sealed(JUDGED[i].reply, reply);
         judged_as(request, asked, reply, replied, JUDGED[i].verdict, i);
