@@ -28,7 +28,8 @@ pub fn refuse(plate: Plate, state: State, code: u8, room: &mut [u8]) -> usize
     if code == 0 {
         return 0;
     }
-    reply(plate, state, ERROR_REPLY, Answer::Refuse(code), room)
+    let waiting = state.faults.waits();
+    reply(plate, waiting, ERROR_REPLY, Answer::Refuse(code), room)
 }
 
 // A request that leaves the state as it is.
@@ -43,8 +44,9 @@ pub fn ask(
     requires { ⌜ (Workable plate state command (now request) (now memory) (now room)) × (leavesState command ≡ true) ⌝ }
     ensures { λ r. ⌜ Serves (plateOf plate) state command (now (request .entry)) (now (memory .entry)) (now (room .entry)) state r (now (memory .exit)) (now (room .exit)) ⌝ }
 {
+    let waiting = state.faults.waits();
     let answer = tell(plate, state, command, request, memory, room);
-    reply(plate, state, command, answer, room)
+    reply(plate, waiting, command, answer, room)
 }
 
 // Any other request; the memory is not touched.
@@ -62,7 +64,8 @@ pub fn order(
     let worked = change(plate.bits, state, command, request, room);
     let next = worked.state;
     let answer = worked.answer;
-    let sent = reply(plate, next, command, answer, room);
+    let waiting = next.faults.waits();
+    let sent = reply(plate, waiting, command, answer, room);
     Closed { state: next, sent }
 }
 

@@ -1,32 +1,34 @@
 // The reply to a request, from the state after the work (01, "the reply always carries the board's own address").
+ghost use mathlib.Core.Path.{_≡_};
+ghost use Rattle.meaning.specs.Demands.{waits};
 ghost use Rattle.line.specs.Line.{plateOf};
+ghost use Rattle.state.specs.declared.state.State.{State};
+ghost use Rattle.state.specs.Queue.{queueOf};
 ghost use Rattle.board.specs.Work.{Sendable, Sends};
 use line::Plate;
-use state::State;
 use wire::Answer;
 use wire::codes::ERROR_REPLY;
 
-// The reply's data stands at place 2 of the room on; its length comes back, 0 being silence.
+// `waiting` is whether a code waits after the work. The reply's data stands at place 2 of the room on; its length comes back, 0 being silence.
 pub(crate) fn reply(
     plate: Plate,
-    state: State,
+    waiting: bool,
     command: u8,
     answer: Answer,
     room: &mut [u8],
 ) -> usize
     requires { ⌜ Sendable plate answer (now room) ⌝ }
-    ensures { λ r. ⌜ Sends (plateOf plate) state command answer (now (room .entry)) r (now (room .exit)) ⌝ }
+    ensures { λ r. ⌜ ((s : State) → waiting ≡ waits (queueOf (s .faults)) → Sends (plateOf plate) s command answer (now (room .entry)) r (now (room .exit))) ⌝ }
 {
     let own = line::own_byte(plate);
-    let faults = state.faults;
     match answer {
         Answer::Refuse(code) => {
             let body = [code];
-            wire::write(own, faults.marked(ERROR_REPLY), &body, room);
+            wire::write(own, state::marked(ERROR_REPLY, waiting), &body, room);
             4
         }
         Answer::Accept(n) => {
-            wire::seal(own, faults.marked(command), n, room);
+            wire::seal(own, state::marked(command, waiting), n, room);
             n + 3
         }
         Answer::Quiet => 0,

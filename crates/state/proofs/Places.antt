@@ -34,10 +34,18 @@ pub no-more : (x y z : ℕ) {t : Bool} → both (eqb x 0) (both (eqb y 0) (both 
 unfolding waits
 no-more x y z e = rw (no-more-one x (waiting y (waiting z [])), no-more-one y (waiting z []), no-more-one z []) (sym e)
 
-pub none-waits : (f : Faults) {t : Bool} → both (eqb (f .first) 0) (not (waits (waiting (f .second) (waiting (f .third) (waiting (f .fourth) []))))) ≡ t
+none-waits : (f : Faults) {t : Bool} → both (eqb (f .first) 0) (not (waits (waiting (f .second) (waiting (f .third) (waiting (f .fourth) []))))) ≡ t
     → t ≡ not (waits (queueOf f))
 unfolding queueOf
 none-waits f e = rw (no-more-one (f .first) (waiting (f .second) (waiting (f .third) (waiting (f .fourth) [])))) (sym e)
+
+pub some-wait : (f : Faults) {t : Bool} → both (eqb (f .first) 0) (not (waits (waiting (f .second) (waiting (f .third) (waiting (f .fourth) []))))) ≡ t
+    → not t ≡ waits (queueOf f)
+some-wait f e = ap not (none-waits f e) ∙ twice (waits (queueOf f))
+  where
+    twice : (b : Bool) → not (not b) ≡ b
+    twice true = refl
+    twice false = refl
 
 positive : (c : ℕ) → eqb c 0 ≡ false → 0 < c
 positive c e = omega (arith, eqb-false c 0 e)
@@ -220,15 +228,21 @@ unfolding queueOf waiting
 emptied f e = record { queue = rw e; lock = refl }
 
 -- 01, "Bit 7 of every reply's command byte"
-pub unmarked : (c : ℕ) (q : List ℕ) → not (waits q) ≡ true → c % 128 ≡ warned c q
+pub unmarked : (c : ℕ) (q : List ℕ) → waits q ≡ false → c % 128 ≡ warned c q
 unfolding waits warned
 unmarked c [] e = refl
-unmarked c (x ∷ q) e = absurd (false≢true e)
+unmarked c (x ∷ q) e = absurd (false≢true (sym e))
 
-pub marked : (c : ℕ) (q : List ℕ) → not (waits q) ≡ false → c % 128 + 128 ≡ warned c q
+pub marked : (c : ℕ) (q : List ℕ) → waits q ≡ true → c % 128 + 128 ≡ warned c q
 unfolding waits warned
-marked c [] e = absurd (false≢true (sym e))
+marked c [] e = absurd (false≢true e)
 marked c (x ∷ q) e = refl
+
+-- no two differing marks satisfy the contract
+pub marked-tight : (c : ℕ) (w : Bool) (a b : ℕ) → ((q : List ℕ) → w ≡ waits q → a ≡ warned c q) → ((q : List ℕ) → w ≡ waits q → b ≡ warned c q) → a ≡ b
+unfolding waits
+marked-tight c true a b p q = p (0 ∷ []) refl ∙ sym (q (0 ∷ []) refl)
+marked-tight c false a b p q = p [] refl ∙ sym (q [] refl)
 
 -- 01, "The host notes codes": ignored, locking, queued
 module _ (s : State) (f : Faults) (c : ℕ) where

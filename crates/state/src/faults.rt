@@ -1,8 +1,8 @@
 // The fault queue: four places, oldest first, 00h for an empty one, since 00h never waits (01, "Faults").
 ghost use mathlib.Core.Path.{_≡_};
 ghost use mathlib.Core.Bool.{not};
-ghost use mathlib.Core.List.{[]};
-ghost use Prim.Native.Nat.{_<_};
+ghost use mathlib.Core.List.{List, []};
+ghost use Prim.Native.Nat.{ℕ, _<_};
 ghost use Rattle.meaning.specs.Bytes.{among};
 ghost use Rattle.meaning.specs.State.{State, queued, noted, apart};
 ghost use Rattle.meaning.specs.Frames.{warned};
@@ -133,24 +133,14 @@ impl Faults {
         Faults::none()
     }
 
-    // 01, "Bit 7 of every reply's command byte is set exactly if the fault queue is not empty".
-    pub fn marked(self, command: u8) -> u8
-        ensures { λ r. ⌜ r ≡ warned command (queueOf self) ⌝ }
-    {
-        let low = command % 128;
-        if self.is_empty() {
-            return low;
-        }
-        low + 128
-    }
-
-    fn is_empty(self) -> bool
-        ensures { λ r. ⌜ r ≡ not (waits (queueOf self)) ⌝ }
+    // Whether a code waits.
+    pub fn waits(self) -> bool
+        ensures { λ r. ⌜ r ≡ waits (queueOf self) ⌝ }
     {
         if self.first != 0 {
-            return false;
+            return true;
         }
-        no_more(self.second, self.third, self.fourth)
+        !no_more(self.second, self.third, self.fourth)
     }
 
     // 01, "State limits": the waiting codes all different, none of them 00h, 22h or 24h. An empty queue, the usual one, is told at once.
@@ -174,6 +164,17 @@ impl Faults {
         }
         may_precede(self.fourth, 0, 0, 0)
     }
+}
+
+// 01, "Bit 7 of every reply's command byte is set exactly if the fault queue is not empty".
+pub fn marked(command: u8, waiting: bool) -> u8
+    ensures { λ r. ⌜ ((q : List ℕ) → waiting ≡ waits q → r ≡ warned command q) ⌝ }
+{
+    let low = command % 128;
+    if waiting {
+        return low + 128;
+    }
+    low
 }
 
 fn no_more(second: u8, third: u8, fourth: u8) -> bool

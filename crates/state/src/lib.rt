@@ -4,6 +4,7 @@ mod rows;
 mod state;
 
 pub use faults::Faults;
+pub use faults::marked;
 pub use rows::Worked;
 pub use rows::clear_counter;
 pub use rows::read_counter;

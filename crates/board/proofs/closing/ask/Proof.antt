@@ -8,6 +8,10 @@ use Rattle.board.proofs.closing.ask.Reads as reads
 use Rattle.board.proofs.closing.ask.Lts as lts
 use Rattle.board.proofs.reply.reply.Reads as reply-reads
 use Rattle.board.proofs.rows.tell.Reads as tell-reads
+use Rattle.state.proofs.faults.Faults.waits.Reads as waits-reads
+
+waits-requires : tie.Need-waits-requires
+waits-requires c κs = search needs
 
 tell-requires : tie.Need-tell-requires
 tell-requires c κs = search needs
@@ -15,7 +19,7 @@ tell-requires c κs = search needs
 reply-requires : tie.Need-reply-requires
 reply-requires c κs =
     let after-tell = c .before .before .before .before .before in
-    let start = after-tell .before .before .before .before .before .before in
+    let start = after-tell .before .before .before .before .before .before .before in
     sendable _ _ _ _ _ _ (start .pre .0) (after-tell .tell .ensures .works .answer) (search needs)
 
 same-length : tie.Need-same-length
@@ -28,8 +32,11 @@ returns : tie.Need-returns
 returns c =
     let after-reply = c .before .before in
     let after-tell = after-reply .before .before .before .before .before .before in
-    let start = after-tell .before .before .before .before .before .before in
-    served _ _ _ _ _ _ (start .pre .0 .room) (as-worked _ _ _ _ (after-tell .tell .ensures)) (after-reply .reply .ensures)
+    let after-waits = after-tell .before .before .before in
+    let start = after-waits .before .before .before .before in
+    served _ _ _ _ _ _ (start .pre .0 .room) (as-worked _ _ _ _ (after-tell .tell .ensures)) (after-reply .reply .ensures (start .args .state) (after-waits .waits .ensures))
 
 pub ask-spec : {M : Type 1} → statement M
-ask-spec = tie.close (tie.spec tell-requires reply-requires same-length same-length-2 returns)
+ask-spec =
+    tie.close
+    (tie.spec waits-requires tell-requires reply-requires same-length same-length-2 returns)

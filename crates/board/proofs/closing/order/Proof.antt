@@ -11,15 +11,19 @@ use Rattle.board.proofs.closing.order.Reads as reads
 use Rattle.board.proofs.closing.order.Lts as lts
 use Rattle.board.proofs.reply.reply.Reads as reply-reads
 use Rattle.board.proofs.rows.change.Reads as change-reads
+use Rattle.state.proofs.faults.Faults.waits.Reads as waits-reads
 
 change-requires : tie.Need-change-requires
 change-requires c κs =
     let start = c .before .before .before .before in
     changeable _ _ _ _ _ (start .pre .0) (start .pre .1)
 
+waits-requires : tie.Need-waits-requires
+waits-requires c κs = search needs
+
 reply-requires : tie.Need-reply-requires
 reply-requires c κs =
-    let after-change = c .before .before .before .before in
+    let after-change = c .before .before .before .before .before in
     let start = after-change .before .before .before .before .before in
     sendable _ _ _ _ _ _ (start .pre .0) (after-change .change .ensures (plateOf (start .args .plate)) (now (start .args .memory)) refl .row .answer) (search needs)
 
@@ -29,9 +33,10 @@ same-length c = search needs
 returns : tie.Need-returns
 returns c =
     let after-reply = c .before .before in
-    let after-change = after-reply .before .before .before .before .before in
+    let after-waits = after-reply .before .before in
+    let after-change = after-waits .before .before .before .before in
     let start = after-change .before .before .before .before .before in
-    served _ _ _ _ _ _ (start .pre .0 .room) (after-change .change .ensures (plateOf (start .args .plate)) (now (start .args .memory)) refl) (after-reply .reply .ensures)
+    served _ _ _ _ _ _ (start .pre .0 .room) (after-change .change .ensures (plateOf (start .args .plate)) (now (start .args .memory)) refl) (after-reply .reply .ensures (after-change .change .result .state) (after-waits .waits .ensures))
 
 pub order-spec : {M : Type 1} → statement M
-order-spec = tie.close (tie.spec change-requires reply-requires same-length returns)
+order-spec = tie.close (tie.spec change-requires waits-requires reply-requires same-length returns)

@@ -7,9 +7,13 @@ use Rattle.board.proofs.closing.refuse.Tie as tie
 use Rattle.board.proofs.closing.refuse.Reads as reads
 use Rattle.board.proofs.closing.refuse.Lts as lts
 use Rattle.board.proofs.reply.reply.Reads as reply-reads
+use Rattle.state.proofs.faults.Faults.waits.Reads as waits-reads
 
 returns : tie.Need-returns
 returns c = fault-silent _ _ _ (eq-eqb _ _ (c .if1 .taken))
+
+waits-requires : tie.Need-waits-requires
+waits-requires c κs = search needs
 
 reply-requires : tie.Need-reply-requires
 reply-requires c κs = search needs
@@ -20,8 +24,9 @@ same-length c = search needs
 returns-2 : tie.Need-returns-2
 returns-2 c =
     let after-reply = c .before .before in
-    let after-else1 = after-reply .before .before in
-    fault-sent _ _ _ (ne-eqb _ _ (after-else1 .if1 .left)) (after-reply .reply .ensures)
+    let after-waits = after-reply .before .before in
+    let after-else1 = after-waits .before in
+    fault-sent _ _ _ (ne-eqb _ _ (after-else1 .if1 .left)) (after-reply .reply .ensures _ (after-waits .waits .ensures))
 
 pub refuse-spec : {M : Type 1} → statement M
-refuse-spec = tie.close (tie.spec returns reply-requires same-length returns-2)
+refuse-spec = tie.close (tie.spec returns waits-requires reply-requires same-length returns-2)
