@@ -70,9 +70,9 @@ impl OpenFrame {
             return Judgement::Fault(UNKNOWN_COMMAND);
         }
         let request = wire::data_part(bytes);
-        if !wire::length_fits(wanted, request, request.len()) {
-            return Judgement::Fault(WRONG_LENGTH);
+        if wire::length_fits(wanted, request, request.len()) {
+            return Judgement::Request(command);
         }
-        Judgement::Request(command)
+        Judgement::Fault(WRONG_LENGTH)
     }
 }

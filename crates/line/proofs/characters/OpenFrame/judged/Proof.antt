@@ -77,9 +77,9 @@ returns-7 c =
     let clean = summed .before .before in
     let ours = clean .before in
     let long = ours .before .before .before in
-    wrong-length _ _ (long .if1 .left) (sym (ours .before .is-addressed .ensures) ∙ not-false _ (ours .if2 .left)) (clean .if3 .left) (eq-eqb _ _ (summed .if4 .left))
+    requested _ _ (long .if1 .left) (sym (ours .before .is-addressed .ensures) ∙ not-false _ (ours .if2 .left)) (clean .if3 .left) (eq-eqb _ _ (summed .if4 .left))
     (short .if5 .left) (row .row-of .result) (row .row-of .ensures) (not-false _ (known .if6 .left)) (after-data-part .data-part .ensures .0) (c .before .length-fits .ensures)
-    (not-true _ (c .if7 .taken))
+    (c .if7 .taken)
 
 returns-8 : tie.Need-returns-8
 returns-8 c =
@@ -92,9 +92,9 @@ returns-8 c =
     let clean = summed .before .before in
     let ours = clean .before in
     let long = ours .before .before .before in
-    requested _ _ (long .if1 .left) (sym (ours .before .is-addressed .ensures) ∙ not-false _ (ours .if2 .left)) (clean .if3 .left) (eq-eqb _ _ (summed .if4 .left))
+    wrong-length _ _ (long .if1 .left) (sym (ours .before .is-addressed .ensures) ∙ not-false _ (ours .if2 .left)) (clean .if3 .left) (eq-eqb _ _ (summed .if4 .left))
     (short .if5 .left) (row .row-of .result) (row .row-of .ensures) (not-false _ (known .if6 .left)) (after-data-part .data-part .ensures .0) (c .before .length-fits .ensures)
-    (not-false _ (c .if7 .left))
+    (c .if7 .left)
 
 pub judged-spec : {M : Type 1} → statement M
 judged-spec =
