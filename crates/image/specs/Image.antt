@@ -1,5 +1,5 @@
 -- The state image: where its 165 bytes stand, the state that they hold, and the bytes of a state (01, "calls on numbers and byte slices"). Assumes nothing.
-use Prim.Native.Nat.{ℕ}
+use Prim.Native.Nat.{ℕ, _+_}
 use mathlib.Core.Path.{_≡_}
 use mathlib.Core.Bool.{Bool, true, false}
 use mathlib.Core.List.{List, [], _∷_, _++_}
@@ -12,6 +12,10 @@ use Rattle.state.specs.declared.state.State.{State}
 use Rattle.state.specs.State.{stateWith}
 use Rattle.line.specs.declared.characters.OpenFrame.{OpenFrame}
 use Rattle.line.specs.Line.{lineOf}
+
+-- 21 bytes of state, nine of the open frame's numbers, and the places of its kept bytes
+abbrev pub imageLength : ℕ
+imageLength = 30 + longestRequest
 
 -- numbers stand low byte first
 abbrev pub numberAt : List ℕ → ℕ → ℕ
@@ -61,7 +65,7 @@ unfoldable pub flagsOk : List ℕ → Bool
 flagsOk img = both (leb (arg img 20) 1) (both (leb (arg img 21) 1) (both (leb (arg img 22) 1) (leb (arg img 23) 1)))
 
 unfoldable pub isImage : List ℕ → Bool
-isImage img = both (eqb (length img) 165) (both (flagsOk img) (leb (arg img 29) longestRequest))
+isImage img = both (eqb (length img) imageLength) (both (flagsOk img) (leb (arg img 29) longestRequest))
 
 -- the 21 bytes of a state, but for its frame
 unfoldable pub stateBytes : meaning.State → List ℕ

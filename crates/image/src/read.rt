@@ -3,7 +3,7 @@ ghost use mathlib.Core.Path.{_≡_};
 ghost use Prim.Native.Nat.{_≤_};
 ghost use lib.Dec.{eqb};
 ghost use lib.ListN.{length};
-ghost use Rattle.image.specs.Image.{stateIn, frameIn, isImage, flagsOk};
+ghost use Rattle.image.specs.Image.{imageLength, stateIn, frameIn, isImage, flagsOk};
 use crate::layout::CODES;
 use crate::layout::COUNT;
 use crate::layout::COUNTER;
@@ -30,7 +30,7 @@ fn is_one(byte: u8) -> bool
 
 // 01, R1: a flag is 0 or 1. The four stand side by side and are tested as one word.
 fn flags_ok(image: &[u8]) -> bool
-    requires { ⌜ 165 ≤ length (now image) ⌝ }
+    requires { ⌜ imageLength ≤ length (now image) ⌝ }
     ensures { λ r. ⌜ r ≡ flagsOk (now (image .entry)) ⌝ }
 {
     if wire::number_at(image, LOCKED) & 0xFEFEFEFE != 0 {
@@ -56,7 +56,7 @@ pub fn is_image(image: &[u8]) -> bool
 }
 
 pub fn state_in(image: &[u8]) -> State
-    requires { ⌜ 165 ≤ length (now image) ⌝ }
+    requires { ⌜ imageLength ≤ length (now image) ⌝ }
     ensures { λ r. ⌜ r ≡ stateIn (now (image .entry)) ⌝ }
 {
     let codes = [
@@ -82,7 +82,7 @@ pub fn state_in(image: &[u8]) -> State
 }
 
 pub fn frame_in(image: &[u8]) -> OpenFrame
-    requires { ⌜ 165 ≤ length (now image) ⌝ }
+    requires { ⌜ imageLength ≤ length (now image) ⌝ }
     ensures { λ r. ⌜ r ≡ frameIn (now (image .entry)) ⌝ }
 {
     OpenFrame {

@@ -10,7 +10,7 @@ ghost use Rattle.meaning.specs.Characters.{more};
 ghost use Rattle.line.specs.Line.{lineOf};
 ghost use Rattle.state.specs.State.{stateWith};
 ghost use Rattle.wire.specs.Numbers.{low4};
-ghost use Rattle.image.specs.Image.{flagByte, isImage, frameIn, keptIn, stateBytes, frameRow, Open, PutsState, PutsFrame, PutsBoard, Takes};
+ghost use Rattle.image.specs.Image.{imageLength, flagByte, isImage, frameIn, keptIn, stateBytes, frameRow, Open, PutsState, PutsFrame, PutsBoard, Takes};
 use crate::layout::COUNT;
 use crate::layout::FRAME;
 use crate::layout::KEPT;
@@ -104,7 +104,7 @@ pub fn put_frame(frame: OpenFrame, image: &mut [u8])
 }
 
 pub fn put_board(state: State, frame: OpenFrame, image: &mut [u8])
-    requires { ⌜ length (now image) ≡ 165 ⌝ }
+    requires { ⌜ length (now image) ≡ imageLength ⌝ }
     ensures { λ _. ⌜ PutsBoard state frame (now (image .entry)) (now (image .exit)) ⌝ }
 {
     put_state(state, image);
@@ -113,7 +113,7 @@ pub fn put_board(state: State, frame: OpenFrame, image: &mut [u8])
 
 // The first character of a frame.
 fn begin(tick: u32, value: u8, parity: bool, image: &mut [u8])
-    requires { ⌜ length (now image) ≡ 165 ⌝ }
+    requires { ⌜ length (now image) ≡ imageLength ⌝ }
     ensures { λ _. ⌜ Takes (more none tick value parity) (now (image .entry)) (now (image .exit)) ⌝ }
 {
     let first = OpenFrame::none().with_character(tick, value, parity, &mut image[KEPT..LENGTH]);
@@ -122,7 +122,7 @@ fn begin(tick: u32, value: u8, parity: bool, image: &mut [u8])
 
 // Parity fault, stamp and XOR stand side by side.
 fn put_stamp(parity: u8, tick: u32, sum: u8, image: &mut [u8])
-    requires { ⌜ length (now image) ≡ 165 ⌝ }
+    requires { ⌜ length (now image) ≡ imageLength ⌝ }
     ensures { λ _. ⌜ now (image .exit) ≡ put (now (image .entry)) 23 (parity ∷ low4 tick (sum ∷ [])) ⌝ }
 {
     let stamp = wire::bytes_of(tick);

@@ -18,7 +18,7 @@ use Rattle.board.specs.declared.limits.Stepped.{Stepped}
 use Rattle.board.specs.Work.{Workable, Serves, Closes}
 use Rattle.quicksetter.specs.declared.notes.Note.{Note}
 use Rattle.quicksetter.specs.declared.notes.Note.the-variants.{Measured, Fault, PowerOn}
-use Rattle.image.specs.Image.{numberAt, isImage, stateIn, frameIn, heldIn, keptIn, imageOf, PutsState, PutsBoard}
+use Rattle.image.specs.Image.{imageLength, numberAt, isImage, stateIn, frameIn, heldIn, keptIn, imageOf, PutsState, PutsBoard}
 
 abbrev pub plateFrom : ℕ → ℕ → ℕ → ℕ → ℕ → Plate
 plateFrom t b a k q = record { total = t; bits = b; address = a; ticks = k; pause = q }
@@ -49,7 +49,7 @@ pub record Called (p : meaning.Plate) (img m w : List ℕ) (g : Call) (r : ℕ) 
 
 -- 01, "Fresh state": every byte of the image is written; R1 for an impossible plate or an image of another length
 unfoldable pub freshOk : meaning.Plate → List ℕ → Bool
-freshOk p img = both (meaning.plateOk p) (eqb (length img) 165)
+freshOk p img = both (meaning.plateOk p) (eqb (length img) imageLength)
 
 pub record Freshens (p : meaning.Plate) (img : List ℕ) (r : ℕ) (img′ : List ℕ) : Type 0 where
   pub answer : r ≡ pick (freshOk p img) 0 257
@@ -81,7 +81,7 @@ dataTo end img = dataOf (take (end - 30) (drop 30 img))
 pub record Servable (p : Plate) (c end : ℕ) (img m w : List ℕ) : Type 0 where
   pub image : isImage img ≡ true
   pub starts : 33 ≤ end
-  pub ends : end ≤ 165
+  pub ends : end ≤ imageLength
   pub works : Workable p (stateIn img) c (dataTo end img) m w
 
 -- the request c with the data d is worked and answered, and the image holds the state after it; but for the state's bytes it is as it was

@@ -1,6 +1,7 @@
 // A call's outcome for the host: the number that comes back, and the image.
 ghost use mathlib.Core.Path.{_≡_};
 ghost use lib.ListN.{length};
+ghost use Rattle.image.specs.Image.{imageLength};
 ghost use Rattle.quicksetter.specs.Calls.{Finishes};
 use board::Outcome;
 use board::Stepped;
@@ -10,7 +11,7 @@ pub const REFUSED: usize = 0x100;
 
 // The board goes back to its image, but for a refused call's.
 pub(crate) fn finish(stepped: Stepped, image: &mut [u8]) -> usize
-    requires { ⌜ length (now image) ≡ 165 ⌝ }
+    requires { ⌜ length (now image) ≡ imageLength ⌝ }
     ensures { λ r. ⌜ Finishes stepped (now (image .entry)) r (now (image .exit)) ⌝ }
 {
     let outcome = stepped.outcome;

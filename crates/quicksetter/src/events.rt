@@ -9,7 +9,7 @@ ghost use Rattle.meaning.specs.Characters.{over};
 ghost use Rattle.meaning.specs.Run as run;
 ghost use Rattle.line.specs.Line.{plateOf};
 ghost use Rattle.state.specs.Queue.{queueOf};
-ghost use Rattle.image.specs.Image.{stateIn, heldIn};
+ghost use Rattle.image.specs.Image.{imageLength, stateIn, heldIn};
 ghost use Rattle.quicksetter.specs.Calls.{plateFrom, possible, dataTo, Called, Unrefused, Servable, ServedIn, ClosedIn, Polls};
 use crate::answer::REFUSED;
 use crate::given::plate_from;
@@ -42,7 +42,7 @@ fn is_possible(image: &[u8], total: u32, bits: u32, address: u32, ticks: u32, pa
 
 // R1 of the waiting codes; that none waits, as is usual, is told at once.
 fn is_sound(image: &[u8]) -> bool
-    requires { ⌜ 165 ≤ length (now image) ⌝ }
+    requires { ⌜ imageLength ≤ length (now image) ⌝ }
     ensures { λ r. ⌜ r ≡ apart (queueOf (stateIn (now (image .entry)) .faults)) ⌝ }
 {
     if wire::number_at(image, WAITING) == 0 {
@@ -62,7 +62,7 @@ fn is_over(
     ticks: u32,
     pause: u32,
 ) -> bool
-    requires { ⌜ 165 ≤ length (now image) ⌝ }
+    requires { ⌜ imageLength ≤ length (now image) ⌝ }
     ensures { λ r. ⌜ r ≡ over (plateOf (plateFrom total bits address ticks pause)) (heldIn (now (image .entry))) tick ⌝ }
 {
     let plate = plate_from(total, bits, address, ticks, pause);

@@ -2,6 +2,7 @@
 ghost use mathlib.Core.Path.{_≡_};
 ghost use Prim.Native.Nat.{_≤_};
 ghost use lib.ListN.{length};
+ghost use Rattle.image.specs.Image.{imageLength};
 ghost use Rattle.quicksetter.specs.Calls.{plateFrom, boardIn};
 use board::Board;
 use line::Plate;
@@ -19,7 +20,7 @@ pub(crate) fn plate_from(total: u32, bits: u32, address: u32, ticks: u32, pause:
 }
 
 pub(crate) fn board_in(image: &[u8]) -> Board
-    requires { ⌜ 165 ≤ length (now image) ⌝ }
+    requires { ⌜ imageLength ≤ length (now image) ⌝ }
     ensures { λ r. ⌜ r ≡ boardIn (now (image .entry)) ⌝ }
 {
     let state = image::state_in(image);
