@@ -63,7 +63,15 @@ returns-7 c =
     let after-else3 = after-else4 .before .before in
     let after-else2 = after-else3 .before .before in
     let after-else1 = after-else2 .before .before in
-    simp (le-leb _ _ (after-else1 .if1 .left), le-leb _ _ (after-else2 .if2 .left), le-leb _ _ (after-else3 .if3 .left), le-leb _ _ (after-else4 .if4 .left), le-leb _ _ (after-else5 .if5 .left), sym (after-ticks-ok .ticks-ok .ensures) ∙ not-false _ (c .before .if6 .left), sym (c .pause-ok .ensures))
+    simp (
+      le-leb _ _ (after-else1 .if1 .left),
+      le-leb _ _ (after-else2 .if2 .left),
+      le-leb _ _ (after-else3 .if3 .left),
+      le-leb _ _ (after-else4 .if4 .left),
+      le-leb _ _ (after-else5 .if5 .left),
+      sym (after-ticks-ok .ticks-ok .ensures) ∙ not-false _ (c .before .if6 .left),
+      sym (c .pause-ok .ensures),
+    )
 
 pub is-ok-spec : {M : Type 1} → statement M
 is-ok-spec =
