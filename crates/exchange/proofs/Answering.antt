@@ -20,7 +20,7 @@ use Rattle.meaning.proofs.Puts.{length-put, put-front}
 use Rattle.meaning.proofs.Rests.{meant-rests}
 use Rattle.meaning.proofs.Steps.{both-0, both-1}
 use Rattle.meaning.proofs.Limits.{replies-fit}
-use Rattle.line.proofs.Limits.{low-address}
+use Rattle.line.proofs.Limits.{low-address, few-ticks, short-pause}
 use Rattle.state.proofs.Answering.{put-nothing}
 use Rattle.board.specs.declared.limits.Board.{Board}
 use Rattle.board.specs.declared.limits.Outcome.the-variants.{Still, Over}
@@ -39,39 +39,11 @@ use Rattle.exchange.proofs.Stepping.{kept-bytes}
 use Rattle.exchange.proofs.Closing.{over-now, poll-answers, verdict-answers}
 use Rattle.meaning.proofs.Choices.{both-left, both-right}
 
--- ---- the pause as a number of ticks fits 32 bits
-
-abbrev low : ℕ → List ℕ → Bool
-low b [] = true
-low b (y ∷ l) = both (leb y b) (low b l)
-
-among-low : (b x : ℕ) (l : List ℕ) → T (low b l) → among x l ≡ true → x ≤ b
-unfolding among
-among-low b x [] h e = absurd (false≢true e)
-among-low b x (y ∷ l) h e = go (eqb x y) refl e (among-low b x l (both-1 (leb y b) (low b l) h))
-  where
-    go : (t : Bool) → eqb x y ≡ t → either t (among x l) ≡ true → (among x l ≡ true → x ≤ b) → x ≤ b
-    go true k e f = omega (arith, eqb-true x y k, leb→le y b (both-0 (leb y b) (low b l) h))
-    go false k e f = f e
+-- the pause as a number of ticks fits 32 bits
 
 module _ (p : Plate) (ok : plateOk p ≡ true) where
-  abbrev ticks-known : Bool
-  ticks-known = among (p .ticks) (1 ∷ 2 ∷ 4 ∷ 8 ∷ 16 ∷ 32 ∷ 64 ∷ [])
-
-  abbrev pause-known : Bool
-  pause-known = among (p .pause) (22 ∷ 55 ∷ [])
-
-  known : both ticks-known pause-known ≡ true
-  unfolding plateOk
-  known =
-      both-right (leb (p .address) 31) (both ticks-known pause-known)
-      (both-right (between 1 32 (p .bits)) (both (leb (p .address) 31) (both ticks-known pause-known))
-      (both-right (between 1 112 (p .total)) (both (between 1 32 (p .bits)) (both (leb (p .address) 31) (both ticks-known pause-known))) ok))
-
   pub pause-fits : p .pause * p .ticks < 2 ^ 32
-  pause-fits =
-      let few : p .ticks ≤ 64 = among-low 64 (p .ticks) (1 ∷ 2 ∷ 4 ∷ 8 ∷ 16 ∷ 32 ∷ 64 ∷ []) tt (both-left ticks-known pause-known known) in
-      omega (arith, mul-le-mul-left (p .pause) few, among-low 55 (p .pause) (22 ∷ 55 ∷ []) tt (both-right ticks-known pause-known known))
+  pause-fits = omega (arith, mul-le-mul-left (p .pause) (few-ticks p ok), short-pause p ok)
 
 -- ---- the poll
 

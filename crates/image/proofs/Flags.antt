@@ -47,24 +47,24 @@ module _ (a b c d : ℕ) (ha : a < 256) (hb : b < 256) (hc : c < 256) (hd : d < 
       and-block 8 (d * 256 + c) 0xFEFE b 0xFE hb (lit< tt) ∙ rw (s, upper-is b) in
       ap (λ (x : ℕ). bitAnd x 0xFEFEFEFE) nested ∙ and-block 8 ((d * 256 + c) * 256 + b) 0xFEFEFE a 0xFE ha (lit< tt) ∙ rw (t, upper-is a)
 
--- the flags of an image, at 20 to 23
-module _ (img : List ℕ) (small : (i : ℕ) → arg img i < 256) where
+-- the flags of a core, at 20 to 23
+module _ (core : List ℕ) (small : (i : ℕ) → arg core i < 256) where
   abbrev a : ℕ
-  a = arg img 20
+  a = arg core 20
 
   abbrev b : ℕ
-  b = arg img 21
+  b = arg core 21
 
   abbrev c : ℕ
-  c = arg img 22
+  c = arg core 22
 
   abbrev d : ℕ
-  d = arg img 23
+  d = arg core 23
 
-  tested : bitAnd (little (part img 20 4)) 0xFEFEFEFE ≡ ((upper d * 256 + upper c) * 256 + upper b) * 256 + upper a
-  tested = ap (λ (x : ℕ). bitAnd x 0xFEFEFEFE) (little-at img 20) ∙ word a b c d (small 20) (small 21) (small 22) (small 23)
+  tested : bitAnd (little (part core 20 4)) 0xFEFEFEFE ≡ ((upper d * 256 + upper c) * 256 + upper b) * 256 + upper a
+  tested = ap (λ (x : ℕ). bitAnd x 0xFEFEFEFE) (little-at core 20) ∙ word a b c d (small 20) (small 21) (small 22) (small 23)
 
-  pub flags-fine : bitAnd (little (part img 20 4)) 0xFEFEFEFE ≡ 0 → flagsOk img ≡ true
+  pub flags-fine : bitAnd (little (part core 20 4)) 0xFEFEFEFE ≡ 0 → flagsOk core ≡ true
   unfolding flagsOk
   flags-fine e =
       let z : Blank (upper a) (upper b) (upper c) (upper d) = blank (upper a) (upper b) (upper c) (upper d) (sym tested ∙ e) in
@@ -74,11 +74,11 @@ module _ (img : List ℕ) (small : (i : ℕ) → arg img i < 256) where
       let s : d ≤ 1 = low-bit d (small 23) (z .four) in
       rw (le-leb a 1 p, le-leb b 1 q, le-leb c 1 r, le-leb d 1 s)
 
-  pub flags-bad : (bitAnd (little (part img 20 4)) 0xFEFEFEFE ≡ 0 → ⊥) → flagsOk img ≡ false
+  pub flags-bad : (bitAnd (little (part core 20 4)) 0xFEFEFEFE ≡ 0 → ⊥) → flagsOk core ≡ false
   unfolding flagsOk
-  flags-bad n = go (flagsOk img) refl
+  flags-bad n = go (flagsOk core) refl
     where
-      go : (t : Bool) → flagsOk img ≡ t → t ≡ false
+      go : (t : Bool) → flagsOk core ≡ t → t ≡ false
       go false e = refl
       go true e =
           let y : Bool = both (leb c 1) (leb d 1) in

@@ -24,15 +24,15 @@ use Rattle.image.proofs.Parts.{front-length, kept-length, laid-out, tak
 use Rattle.image.proofs.Round.{good}
 
 -- the first of a frame
-pub begins : (img : List ℕ) (tick v : ℕ) (bad : Bool) {n r : OpenFrame} {kept img′ : List ℕ} → length img ≡ 165 → n ≡ noFrame
-    → Extends (more (pick (n .begun) (lineOf n (keptIn img)) none) tick v bad) (keptIn img) r kept
-    → PutsFrame r (take 30 img ++ (kept ++ drop 135 (drop 30 img))) img′ → Takes (more none tick v bad) img img′
-begins img tick v bad {n} {r} {kept} all e x q =
-    let y : Extends (more none tick v bad) (keptIn img) r kept = rw e at x in
-    takes img (more none tick v bad) all y q
+pub begins : (core : List ℕ) (tick v : ℕ) (bad : Bool) {n r : OpenFrame} {kept core′ : List ℕ} → length core ≡ 165 → n ≡ noFrame
+    → Extends (more (pick (n .begun) (lineOf n (keptIn core)) none) tick v bad) (keptIn core) r kept
+    → PutsFrame r (take 30 core ++ (kept ++ drop 135 (drop 30 core))) core′ → Takes (more none tick v bad) core core′
+begins core tick v bad {n} {r} {kept} all e x q =
+    let y : Extends (more none tick v bad) (keptIn core) r kept = rw e at x in
+    takes core (more none tick v bad) all y q
 
-pub nothing-fits : (img : List ℕ) {n : OpenFrame} → length img ≡ 165 → n ≡ noFrame → Fits n (keptIn img)
-nothing-fits img all e = record { few = rw e (omega arith); all = kept-length img all }
+pub nothing-fits : (core : List ℕ) {n : OpenFrame} → length core ≡ 165 → n ≡ noFrame → Fits n (keptIn core)
+nothing-fits core all e = record { few = rw e (omega arith); all = kept-length core all }
 
 set-past : (front ys : List ℕ) (j v : ℕ) → set (front ++ ys) (length front + j) v ≡ front ++ set ys j v
 set-past [] ys j v = rw zero-add
@@ -46,103 +46,103 @@ parity-joined (suc zero) true h = refl
 parity-joined (suc zero) false h = refl
 parity-joined (suc (suc c)) bad h = absurd (omega arith)
 
-module _ (img : List ℕ) (all : length img ≡ 165) (p t s : ℕ) where
+module _ (core : List ℕ) (all : length core ≡ 165) (p t s : ℕ) where
   abbrev front : List ℕ
-  front = take 21 img
+  front = take 21 core
 
-  stamped-is : put img 23 (p ∷ low4 t (s ∷ [])) ≡ take 21 img ++ (arg img 21 ∷ arg img 22 ∷ p ∷ low4 t (s ∷ arg img 29 ∷ keptIn img))
+  stamped-is : put core 23 (p ∷ low4 t (s ∷ [])) ≡ take 21 core ++ (arg core 21 ∷ arg core 22 ∷ p ∷ low4 t (s ∷ arg core 29 ∷ keptIn core))
   unfolding put
   stamped-is =
       let six : List ℕ = p ∷ low4 t (s ∷ []) in
-      let ys : List ℕ = arg img 21 ∷ arg img 22 ∷ arg img 23 ∷ arg img 24 ∷ arg img 25 ∷ arg img 26 ∷ arg img 27 ∷ arg img 28 ∷ arg img 29 ∷ keptIn img in
-      let a : length (take 21 img) ≡ 21 = front-length img all in
-      let f : take 23 (take 21 img ++ ys) ≡ take 21 img ++ (arg img 21 ∷ arg img 22 ∷ []) = rw a at (take-append-add (take 21 img) ys 2) in
-      let d : drop 29 (take 21 img ++ ys) ≡ arg img 29 ∷ keptIn img = rw a at (drop-append-add (take 21 img) ys 8) in
-      ap (λ (x : List ℕ). take 23 x ++ (six ++ drop 29 x)) (laid-out img all) ∙ rw (f, d) (append-assoc (take 21 img) (arg img 21 ∷ arg img 22 ∷ []) (six ++ (arg img 29 ∷ keptIn img)))
+      let ys : List ℕ = arg core 21 ∷ arg core 22 ∷ arg core 23 ∷ arg core 24 ∷ arg core 25 ∷ arg core 26 ∷ arg core 27 ∷ arg core 28 ∷ arg core 29 ∷ keptIn core in
+      let a : length (take 21 core) ≡ 21 = front-length core all in
+      let f : take 23 (take 21 core ++ ys) ≡ take 21 core ++ (arg core 21 ∷ arg core 22 ∷ []) = rw a at (take-append-add (take 21 core) ys 2) in
+      let d : drop 29 (take 21 core ++ ys) ≡ arg core 29 ∷ keptIn core = rw a at (drop-append-add (take 21 core) ys 8) in
+      ap (λ (x : List ℕ). take 23 x ++ (six ++ drop 29 x)) (laid-out core all) ∙ rw (f, d) (append-assoc (take 21 core) (arg core 21 ∷ arg core 22 ∷ []) (six ++ (arg core 29 ∷ keptIn core)))
 
-  at-21 : (ys : List ℕ) (j v : ℕ) → set (take 21 img ++ ys) (21 + j) v ≡ take 21 img ++ set ys j v
-  at-21 ys j v = rw (front-length img all) at (set-past (take 21 img) ys j v)
+  at-21 : (ys : List ℕ) (j v : ℕ) → set (take 21 core ++ ys) (21 + j) v ≡ take 21 core ++ set ys j v
+  at-21 ys j v = rw (front-length core all) at (set-past (take 21 core) ys j v)
 
-  pub one-kept : (n v k : ℕ) → set (set (put img 23 (p ∷ low4 t (s ∷ []))) (30 + n) v) 29 k
-      ≡ take 21 img ++ (arg img 21 ∷ arg img 22 ∷ p ∷ low4 t (s ∷ k ∷ set (keptIn img) n v))
+  pub one-kept : (n v k : ℕ) → set (set (put core 23 (p ∷ low4 t (s ∷ []))) (30 + n) v) 29 k
+      ≡ take 21 core ++ (arg core 21 ∷ arg core 22 ∷ p ∷ low4 t (s ∷ k ∷ set (keptIn core) n v))
   one-kept n v k =
-      let ys : List ℕ = arg img 21 ∷ arg img 22 ∷ p ∷ low4 t (s ∷ arg img 29 ∷ keptIn img) in
-      let zs : List ℕ = arg img 21 ∷ arg img 22 ∷ p ∷ low4 t (s ∷ arg img 29 ∷ set (keptIn img) n v) in
+      let ys : List ℕ = arg core 21 ∷ arg core 22 ∷ p ∷ low4 t (s ∷ arg core 29 ∷ keptIn core) in
+      let zs : List ℕ = arg core 21 ∷ arg core 22 ∷ p ∷ low4 t (s ∷ arg core 29 ∷ set (keptIn core) n v) in
       let e : 30 + n ≡ 21 + suc (suc (suc (suc (suc (suc (suc (suc (suc n)))))))) = omega arith in
-      let f : set (take 21 img ++ ys) (30 + n) v ≡ take 21 img ++ zs = rw e (at-21 ys (suc (suc (suc (suc (suc (suc (suc (suc (suc n))))))))) v) in
+      let f : set (take 21 core ++ ys) (30 + n) v ≡ take 21 core ++ zs = rw e (at-21 ys (suc (suc (suc (suc (suc (suc (suc (suc (suc n))))))))) v) in
       ap (λ (x : List ℕ). set (set x (30 + n) v) 29 k) stamped-is ∙ ap (λ (x : List ℕ). set x 29 k) f ∙ at-21 zs 8 k
 
-  pub none-kept : set (put img 23 (p ∷ low4 t (s ∷ []))) 22 1 ≡ take 21 img ++ (arg img 21 ∷ 1 ∷ p ∷ low4 t (s ∷ arg img 29 ∷ keptIn img))
+  pub none-kept : set (put core 23 (p ∷ low4 t (s ∷ []))) 22 1 ≡ take 21 core ++ (arg core 21 ∷ 1 ∷ p ∷ low4 t (s ∷ arg core 29 ∷ keptIn core))
   none-kept =
-      let ys : List ℕ = arg img 21 ∷ arg img 22 ∷ p ∷ low4 t (s ∷ arg img 29 ∷ keptIn img) in
+      let ys : List ℕ = arg core 21 ∷ arg core 22 ∷ p ∷ low4 t (s ∷ arg core 29 ∷ keptIn core) in
       ap (λ (x : List ℕ). set x 22 1) stamped-is ∙ at-21 ys 1 1
 
 -- of an open frame whose stamp is written: r is the parity fault that came with the character
-module _ (img : List ℕ) (o : Open img) (tick v : ℕ) (bad : Bool) (low : tick < 2 ^ 32) {r : ℕ} (e : r ≡ flagByte bad) {st : List ℕ}
-    (w : st ≡ put img 23 (bitOr (arg img 23) r ∷ low4 tick (bitXor (arg img 28) v ∷ []))) where
-  fits : Fits (frameIn img) (keptIn img)
+module _ (core : List ℕ) (o : Open core) (tick v : ℕ) (bad : Bool) (low : tick < 2 ^ 32) {r : ℕ} (e : r ≡ flagByte bad) {st : List ℕ}
+    (w : st ≡ put core 23 (bitOr (arg core 23) r ∷ low4 tick (bitXor (arg core 28) v ∷ []))) where
+  fits : Fits (frameIn core) (keptIn core)
   unfolding frameIn
-  fits = record { few = (good img (o .image)) .few; all = kept-length img ((good img (o .image)) .all) }
+  fits = record { few = (good core (o .bytes)) .few; all = kept-length core ((good core (o .bytes)) .all) }
 
   pub stamped-length : length st ≡ 165
   stamped-length =
-      let all : length img ≡ 165 = (good img (o .image)) .all in
-      ap length w ∙ length-put img 23 (bitOr (arg img 23) r ∷ low4 tick (bitXor (arg img 28) v ∷ [])) (omega arith) ∙ all
+      let all : length core ≡ 165 = (good core (o .bytes)) .all in
+      ap length w ∙ length-put core 23 (bitOr (arg core 23) r ∷ low4 tick (bitXor (arg core 28) v ∷ [])) (omega arith) ∙ all
 
-  parity-is : flagByte (eqb (arg img 23) 1 || bad) ≡ bitOr (arg img 23) r
-  parity-is = sym (parity-joined (arg img 23) bad ((good img (o .image)) .parity)) ∙ ap (bitOr (arg img 23)) (sym e)
+  parity-is : flagByte (eqb (arg core 23) 1 || bad) ≡ bitOr (arg core 23) r
+  parity-is = sym (parity-joined (arg core 23) bad ((good core (o .bytes)) .parity)) ∙ ap (bitOr (arg core 23)) (sym e)
 
-  longer-is : flagByte (eqb (arg img 22) 1) ≡ arg img 22
-  longer-is = flag-back (arg img 22) ((good img (o .image)) .longer)
+  longer-is : flagByte (eqb (arg core 22) 1) ≡ arg core 22
+  longer-is = flag-back (arg core 22) ((good core (o .bytes)) .longer)
 
   -- a line that f and the places say, by its bytes
-  rows : (l : Line) (f : OpenFrame) (kept : List ℕ) → Extends l (keptIn img) f kept → length kept ≡ 135
+  rows : (l : Line) (f : OpenFrame) (kept : List ℕ) → Extends l (keptIn core) f kept → length kept ≡ 135
       → lineBytes l ≡ frameBytes f
   rows l f kept x c = sym (ap lineBytes (x .line)) ∙ line-row f kept (record { few = x .few; all = c })
 
-  pub goes-on : arg img 29 < 135
-      → Takes (more (lineOf (frameIn img) (keptIn img)) tick v bad) img (set (set st (30 + arg img 29) v) 29 (arg img 29 + 1))
+  pub goes-on : arg core 29 < 135
+      → Takes (more (lineOf (frameIn core) (keptIn core)) tick v bad) core (set (set st (30 + arg core 29) v) 29 (arg core 29 + 1))
   unfolding frameIn frameRow flagByte
   goes-on h =
-      let all : length img ≡ 165 = (good img (o .image)) .all in
-      let l : Line = more (lineOf (frameIn img) (keptIn img)) tick v bad in
-      let p : ℕ = bitOr (arg img 23) r in
-      let s : ℕ = bitXor (arg img 28) v in
-      let n : ℕ = arg img 29 in
-      let kept : List ℕ = set (keptIn img) n v in
-      let x = has-room (frameIn img) (keptIn img) tick v bad fits h in
-      let c : length kept ≡ 135 = length-set (keptIn img) n v ∙ kept-length img all in
-      let q : lineBytes l ≡ 1 ∷ flagByte (eqb (arg img 22) 1) ∷ flagByte (eqb (arg img 23) 1 || bad) ∷ low4 tick (s ∷ (n + 1) ∷ []) = rows l _ kept x c in
-      let z : take 21 img ++ (lineBytes l ++ kept) ≡ take 21 img ++ (1 ∷ arg img 22 ∷ p ∷ low4 tick (s ∷ (n + 1) ∷ kept)) = rw (q, longer-is, parity-is) in
-      let y : set (set st (30 + n) v) 29 (n + 1) ≡ take 21 img ++ (1 ∷ arg img 22 ∷ p ∷ low4 tick (s ∷ (n + 1) ∷ kept)) =
-      ap (λ (k : List ℕ). set (set k (30 + n) v) 29 (n + 1)) w ∙ one-kept img all p tick s n v (n + 1) ∙ rw (o .begun) in
-      takes-of img l all low x c (y ∙ sym z)
+      let all : length core ≡ 165 = (good core (o .bytes)) .all in
+      let l : Line = more (lineOf (frameIn core) (keptIn core)) tick v bad in
+      let p : ℕ = bitOr (arg core 23) r in
+      let s : ℕ = bitXor (arg core 28) v in
+      let n : ℕ = arg core 29 in
+      let kept : List ℕ = set (keptIn core) n v in
+      let x = has-room (frameIn core) (keptIn core) tick v bad fits h in
+      let c : length kept ≡ 135 = length-set (keptIn core) n v ∙ kept-length core all in
+      let q : lineBytes l ≡ 1 ∷ flagByte (eqb (arg core 22) 1) ∷ flagByte (eqb (arg core 23) 1 || bad) ∷ low4 tick (s ∷ (n + 1) ∷ []) = rows l _ kept x c in
+      let z : take 21 core ++ (lineBytes l ++ kept) ≡ take 21 core ++ (1 ∷ arg core 22 ∷ p ∷ low4 tick (s ∷ (n + 1) ∷ kept)) = rw (q, longer-is, parity-is) in
+      let y : set (set st (30 + n) v) 29 (n + 1) ≡ take 21 core ++ (1 ∷ arg core 22 ∷ p ∷ low4 tick (s ∷ (n + 1) ∷ kept)) =
+      ap (λ (k : List ℕ). set (set k (30 + n) v) 29 (n + 1)) w ∙ one-kept core all p tick s n v (n + 1) ∙ rw (o .begun) in
+      takes-of core l all low x c (y ∙ sym z)
 
-  pub goes-past : 135 ≤ arg img 29 → Takes (more (lineOf (frameIn img) (keptIn img)) tick v bad) img (set st 22 1)
+  pub goes-past : 135 ≤ arg core 29 → Takes (more (lineOf (frameIn core) (keptIn core)) tick v bad) core (set st 22 1)
   unfolding frameIn frameRow flagByte
   goes-past h =
-      let all : length img ≡ 165 = (good img (o .image)) .all in
-      let l : Line = more (lineOf (frameIn img) (keptIn img)) tick v bad in
-      let p : ℕ = bitOr (arg img 23) r in
-      let s : ℕ = bitXor (arg img 28) v in
-      let n : ℕ = arg img 29 in
-      let x = has-none (frameIn img) (keptIn img) tick v bad fits h in
-      let c : length (keptIn img) ≡ 135 = kept-length img all in
-      let q : lineBytes l ≡ 1 ∷ 1 ∷ flagByte (eqb (arg img 23) 1 || bad) ∷ low4 tick (s ∷ n ∷ []) = rows l _ (keptIn img) x c in
-      let z : take 21 img ++ (lineBytes l ++ keptIn img) ≡ take 21 img ++ (1 ∷ 1 ∷ p ∷ low4 tick (s ∷ n ∷ keptIn img)) = rw (q, parity-is) in
-      let y : set st 22 1 ≡ take 21 img ++ (1 ∷ 1 ∷ p ∷ low4 tick (s ∷ n ∷ keptIn img)) =
-      ap (λ (k : List ℕ). set k 22 1) w ∙ none-kept img all p tick s ∙ rw (o .begun) in
-      takes-of img l all low x c (y ∙ sym z)
+      let all : length core ≡ 165 = (good core (o .bytes)) .all in
+      let l : Line = more (lineOf (frameIn core) (keptIn core)) tick v bad in
+      let p : ℕ = bitOr (arg core 23) r in
+      let s : ℕ = bitXor (arg core 28) v in
+      let n : ℕ = arg core 29 in
+      let x = has-none (frameIn core) (keptIn core) tick v bad fits h in
+      let c : length (keptIn core) ≡ 135 = kept-length core all in
+      let q : lineBytes l ≡ 1 ∷ 1 ∷ flagByte (eqb (arg core 23) 1 || bad) ∷ low4 tick (s ∷ n ∷ []) = rows l _ (keptIn core) x c in
+      let z : take 21 core ++ (lineBytes l ++ keptIn core) ≡ take 21 core ++ (1 ∷ 1 ∷ p ∷ low4 tick (s ∷ n ∷ keptIn core)) = rw (q, parity-is) in
+      let y : set st 22 1 ≡ take 21 core ++ (1 ∷ 1 ∷ p ∷ low4 tick (s ∷ n ∷ keptIn core)) =
+      ap (λ (k : List ℕ). set k 22 1) w ∙ none-kept core all p tick s ∙ rw (o .begun) in
+      takes-of core l all low x c (y ∙ sym z)
 
--- by the image's flag
-module _ (img : List ℕ) (tick v : ℕ) (bad : Bool) (img′ : List ℕ) where
+-- by the core's flag
+module _ (core : List ℕ) (tick v : ℕ) (bad : Bool) (core′ : List ℕ) where
   abbrev taken-by : Bool → Type 0
-  taken-by t = Takes (more (pick t (lineOf (frameIn img) (keptIn img)) none) tick v bad) img img′
+  taken-by t = Takes (more (pick t (lineOf (frameIn core) (keptIn core)) none) tick v bad) core core′
 
-  pub open-taken : arg img 21 ≡ 1 → Takes (more (lineOf (frameIn img) (keptIn img)) tick v bad) img img′ → taken-by (frameIn img .begun)
+  pub open-taken : arg core 21 ≡ 1 → Takes (more (lineOf (frameIn core) (keptIn core)) tick v bad) core core′ → taken-by (frameIn core .begun)
   unfolding frameIn
-  open-taken e h = subst taken-by (sym (eq-eqb (arg img 21) 1 e)) h
+  open-taken e h = subst taken-by (sym (eq-eqb (arg core 21) 1 e)) h
 
-  pub first-taken : (arg img 21 ≡ 1 → ⊥) → Takes (more none tick v bad) img img′ → taken-by (frameIn img .begun)
+  pub first-taken : (arg core 21 ≡ 1 → ⊥) → Takes (more none tick v bad) core core′ → taken-by (frameIn core .begun)
   unfolding frameIn
-  first-taken e h = subst taken-by (sym (ne-eqb (arg img 21) 1 e)) h
+  first-taken e h = subst taken-by (sym (ne-eqb (arg core 21) 1 e)) h

@@ -1,4 +1,4 @@
--- The parts of an image: what its front, its frame's numbers and its places hold after a part was written, and written anew as they were. Assumes nothing.
+-- The parts of a core: what its front, its frame's numbers and its places hold after a part was written, and written anew as they were. Assumes nothing.
 use Prim.Native.Nat.{ℕ, zero, suc, _+_, _<_, _≤_, _^_}
 use native.Mathlib.Omega.{arith}
 use mathlib.Core.Path.{_≡_, refl, sym, ap, _∙_}
@@ -18,17 +18,17 @@ use Rattle.image.specs.Image.{stateIn, frameIn, keptIn, stateBytes, line
 use Rattle.image.proofs.Standing.{places, byte-0, byte-1, byte-2, byte-3, flag-back, line-row, frame-again}
 
 -- the state is read from the front alone
-pub state-front : (img : List ℕ) → stateIn (take 21 img) ≡ stateIn img
+pub state-front : (core : List ℕ) → stateIn (take 21 core) ≡ stateIn core
 unfolding stateIn
-state-front img =
-    let front : (i : ℕ) → i < 21 → arg (take 21 img) i ≡ arg img i = λ i h. getD-take 21 img i 0 h in
+state-front core =
+    let front : (i : ℕ) → i < 21 → arg (take 21 core) i ≡ arg core i = λ i h. getD-take 21 core i 0 h in
     rw (
-      little-at (take 21 img) 4,
-      little-at (take 21 img) 8,
-      little-at (take 21 img) 12,
-      little-at img 4,
-      little-at img 8,
-      little-at img 12,
+      little-at (take 21 core) 4,
+      little-at (take 21 core) 8,
+      little-at (take 21 core) 12,
+      little-at core 4,
+      little-at core 8,
+      little-at core 12,
       front 0 (omega arith),
       front 1 (omega arith),
       front 2 (omega arith),
@@ -55,7 +55,7 @@ state-front img =
 pub same-front : (a b : List ℕ) → take 21 a ≡ take 21 b → stateIn a ≡ stateIn b
 same-front a b e = sym (state-front a) ∙ ap stateIn e ∙ state-front b
 
--- an image of a front, nine bytes of numbers and 135 places
+-- a core of a front, nine bytes of numbers and 135 places
 module _ (front nine kept : List ℕ) (a : length front ≡ 21) (b : length nine ≡ 9) (c : length kept ≡ 135) where
   pub whole-length : length (front ++ (nine ++ kept)) ≡ 165
   whole-length = simp length-append (omega arith)
@@ -70,68 +70,68 @@ module _ (front nine kept : List ℕ) (a : length front ≡ 21) (b : length nine
   pub whole-kept : keptIn (front ++ (nine ++ kept)) ≡ kept
   whole-kept = ap (take 135) whole-rest ∙ take-all 135 kept (omega arith)
 
--- an image of the right length
-module _ (img : List ℕ) (all : length img ≡ 165) where
-  pub front-length : length (take 21 img) ≡ 21
-  front-length = length-take-le 21 img (omega arith)
+-- a core of the right length
+module _ (core : List ℕ) (all : length core ≡ 165) where
+  pub front-length : length (take 21 core) ≡ 21
+  front-length = length-take-le 21 core (omega arith)
 
-  pub kept-length : length (keptIn img) ≡ 135
-  kept-length = length-take-le 135 (drop 30 img) (rw length-drop (omega arith))
+  pub kept-length : length (keptIn core) ≡ 135
+  kept-length = length-take-le 135 (drop 30 core) (rw length-drop (omega arith))
 
-  no-more : drop 135 (drop 30 img) ≡ []
-  no-more = drop-drop 135 30 img ∙ drop-of-length-le img {i = 165} (omega arith)
+  no-more : drop 135 (drop 30 core) ≡ []
+  no-more = drop-drop 135 30 core ∙ drop-of-length-le core {i = 165} (omega arith)
 
   -- the places are lent and come back, then the frame's numbers are written
   module _ (kept nine : List ℕ) (c : length kept ≡ 135) (b : length nine ≡ 9) where
-    back-length : length (take 30 img ++ (kept ++ drop 135 (drop 30 img))) ≡ 165
-    back-length = rw no-more (simp length-append (omega (arith, length-take-le 30 img (omega arith))))
+    back-length : length (take 30 core ++ (kept ++ drop 135 (drop 30 core))) ≡ 165
+    back-length = rw no-more (simp length-append (omega (arith, length-take-le 30 core (omega arith))))
 
-    pub renewed : put (take 30 img ++ (kept ++ drop 135 (drop 30 img))) 21 nine ≡ take 21 img ++ (nine ++ kept)
+    pub renewed : put (take 30 core ++ (kept ++ drop 135 (drop 30 core))) 21 nine ≡ take 21 core ++ (nine ++ kept)
     unfolding put
     renewed =
-        let h : length (take 30 img) ≡ 30 = length-take-le 30 img (omega arith) in
-        let f : take 21 (take 30 img ++ (kept ++ [])) ≡ take 21 img =
-        take-append-le 21 (take 30 img) (kept ++ []) (omega arith) ∙ take-take 21 30 img (omega arith) in
-        let d : drop 30 (take 30 img ++ (kept ++ [])) ≡ kept = drop-at (take 30 img) (kept ++ []) 30 h ∙ append-nil kept in
+        let h : length (take 30 core) ≡ 30 = length-take-le 30 core (omega arith) in
+        let f : take 21 (take 30 core ++ (kept ++ [])) ≡ take 21 core =
+        take-append-le 21 (take 30 core) (kept ++ []) (omega arith) ∙ take-take 21 30 core (omega arith) in
+        let d : drop 30 (take 30 core ++ (kept ++ [])) ≡ kept = drop-at (take 30 core) (kept ++ []) 30 h ∙ append-nil kept in
         rw (no-more, b, f, d)
 
 pub line-length : (l : Line) → length (lineBytes l) ≡ 9
 unfolding lineBytes
 line-length l = refl
 
-pub takes : (img : List ℕ) (l : Line) {r : OpenFrame} {kept img′ : List ℕ} → length img ≡ 165 → Extends l (keptIn img) r kept
-    → PutsFrame r (take 30 img ++ (kept ++ drop 135 (drop 30 img))) img′ → Takes l img img′
-takes img l {r} {kept} {img′} all x q =
+pub takes : (core : List ℕ) (l : Line) {r : OpenFrame} {kept core′ : List ℕ} → length core ≡ 165 → Extends l (keptIn core) r kept
+    → PutsFrame r (take 30 core ++ (kept ++ drop 135 (drop 30 core))) core′ → Takes l core core′
+takes core l {r} {kept} {core′} all x q =
     let few : length (l .kept) ≤ 135 = rw (← ap (λ (y : Line). length (y .kept)) (x .line)) (rw length-take (omega (arith, x .few))) in
-    let k : length (keptIn img) ≡ 135 = kept-length img all in
-    let c : length kept ≡ 135 = ap length (x .bytes) ∙ length-put (keptIn img) 0 (l .kept) (omega arith) ∙ k in
+    let k : length (keptIn core) ≡ 135 = kept-length core all in
+    let c : length kept ≡ 135 = ap length (x .bytes) ∙ length-put (keptIn core) 0 (l .kept) (omega arith) ∙ k in
     let n : length (lineBytes l) ≡ 9 = line-length l in
     let b : frameBytes r ≡ lineBytes l = sym (line-row r kept (record { few = x .few; all = c })) ∙ ap lineBytes (x .line) in
-    let w : img′ ≡ take 21 img ++ (lineBytes l ++ kept) =
-    q .image ∙ ap (put (take 30 img ++ (kept ++ drop 135 (drop 30 img))) 21) b ∙ renewed img all kept (lineBytes l) c n in
-    let y : keptIn img′ ≡ kept = ap keptIn w ∙ whole-kept (take 21 img) (lineBytes l) kept (front-length img all) n c in
+    let w : core′ ≡ take 21 core ++ (lineBytes l ++ kept) =
+    q .bytes ∙ ap (put (take 30 core ++ (kept ++ drop 135 (drop 30 core))) 21) b ∙ renewed core all kept (lineBytes l) c n in
+    let y : keptIn core′ ≡ kept = ap keptIn w ∙ whole-kept (take 21 core) (lineBytes l) kept (front-length core all) n c in
     record {
-      image = w ∙ ap (λ (z : List ℕ). take 21 img ++ (lineBytes l ++ z)) (x .bytes);
+      bytes = w ∙ ap (λ (z : List ℕ). take 21 core ++ (lineBytes l ++ z)) (x .bytes);
       holds = rw (q .holds, y) (x .line);
     }
 
--- an image whose frame's numbers and kept bytes are those of l
-pub takes-of : (img : List ℕ) (l : Line) {f : OpenFrame} {kept img′ : List ℕ} → length img ≡ 165 → f .last < 2 ^ 32
-    → Extends l (keptIn img) f kept → length kept ≡ 135 → img′ ≡ take 21 img ++ (lineBytes l ++ kept) → Takes l img img′
+-- a core whose frame's numbers and kept bytes are those of l
+pub takes-of : (core : List ℕ) (l : Line) {f : OpenFrame} {kept core′ : List ℕ} → length core ≡ 165 → f .last < 2 ^ 32
+    → Extends l (keptIn core) f kept → length kept ≡ 135 → core′ ≡ take 21 core ++ (lineBytes l ++ kept) → Takes l core core′
 unfolding put
-takes-of img l {f} {kept} {img′} all k x c e =
-    let front : List ℕ = take 21 img in
+takes-of core l {f} {kept} {core′} all k x c e =
+    let front : List ℕ = take 21 core in
     let nine : List ℕ = lineBytes l in
-    let a : length front ≡ 21 = front-length img all in
+    let a : length front ≡ 21 = front-length core all in
     let b : length nine ≡ 9 = line-length l in
     let fits : Fits f kept = record { few = x .few; all = c } in
     let r : nine ≡ frameBytes f =
     sym (ap lineBytes (x .line)) ∙ line-row f kept fits in
     let w : put (front ++ (nine ++ kept)) 21 nine ≡ front ++ (nine ++ kept) = rw (b, whole-front front nine kept a b c, whole-rest front nine kept a b c) in
-    let g : frameIn img′ ≡ f =
+    let g : frameIn core′ ≡ f =
     ap frameIn (e ∙ sym w ∙ ap (put (front ++ (nine ++ kept)) 21) r) ∙ frame-again f (front ++ (nine ++ kept)) (omega (arith, whole-length front nine kept a b c)) k in
-    let y : keptIn img′ ≡ kept = ap keptIn e ∙ whole-kept front nine kept a b c in
-    record { image = e ∙ ap (λ (z : List ℕ). front ++ (nine ++ z)) (x .bytes); holds = rw (g, y) (x .line) }
+    let y : keptIn core′ ≡ kept = ap keptIn e ∙ whole-kept front nine kept a b c in
+    record { bytes = e ∙ ap (λ (z : List ℕ). front ++ (nine ++ z)) (x .bytes); holds = rw (g, y) (x .line) }
 
 pub state-length : (s : State) (l : Line) → length (stateBytes (stateWith s l)) ≡ 21
 unfolding stateBytes
@@ -141,36 +141,36 @@ frame-length : (f : OpenFrame) → length (frameBytes f) ≡ 9
 unfolding frameRow
 frame-length f = refl
 
-put-first : (s : State) (img : List ℕ) (l : Line) {m : List ℕ} → m ≡ put img 0 (stateBytes (stateWith s l)) → m ≡ stateBytes (stateWith s l) ++ drop 21 img
+put-first : (s : State) (core : List ℕ) (l : Line) {m : List ℕ} → m ≡ put core 0 (stateBytes (stateWith s l)) → m ≡ stateBytes (stateWith s l) ++ drop 21 core
 unfolding put
-put-first s img l e = e ∙ rw (state-length s l)
+put-first s core l e = e ∙ rw (state-length s l)
 
 -- state and numbers are written one after the other
-pub puts-board : (s : State) (f : OpenFrame) (img : List ℕ) {m img′ : List ℕ} → length img ≡ 165 → PutsState s img m → PutsFrame f m img′
-    → PutsBoard s f img img′
+pub puts-board : (s : State) (f : OpenFrame) (core : List ℕ) {m core′ : List ℕ} → length core ≡ 165 → PutsState s core m → PutsFrame f m core′
+    → PutsBoard s f core core′
 unfolding put
-puts-board s f img {m} {img′} all a b =
-    let k : length (keptIn img) ≡ 135 = kept-length img all in
+puts-board s f core {m} {core′} all a b =
+    let k : length (keptIn core) ≡ 135 = kept-length core all in
     let n : length (frameBytes f) ≡ 9 = frame-length f in
-    let rest : keptIn img ≡ drop 30 img = take-all 135 (drop 30 img) (rw length-drop (omega arith)) in
-    let w : (l : Line) → img′ ≡ stateBytes (stateWith s l) ++ (frameBytes f ++ keptIn img) = λ l.
+    let rest : keptIn core ≡ drop 30 core = take-all 135 (drop 30 core) (rw length-drop (omega arith)) in
+    let w : (l : Line) → core′ ≡ stateBytes (stateWith s l) ++ (frameBytes f ++ keptIn core) = λ l.
     let z : length (stateBytes (stateWith s l)) ≡ 21 = state-length s l in
-    let e : m ≡ stateBytes (stateWith s l) ++ drop 21 img = put-first s img l (a .image l) in
-    let t : take 21 m ≡ stateBytes (stateWith s l) = ap (take 21) e ∙ take-at (stateBytes (stateWith s l)) (drop 21 img) 21 z in
-    let d : drop 30 m ≡ keptIn img =
-    sym (drop-drop 9 21 m) ∙ ap (λ (x : List ℕ). drop 9 (drop 21 x)) e ∙ ap (drop 9) (drop-at (stateBytes (stateWith s l)) (drop 21 img) 21 z) ∙ drop-drop 9 21 img ∙ sym rest in
-    b .image ∙ rw (n, t, d) in
+    let e : m ≡ stateBytes (stateWith s l) ++ drop 21 core = put-first s core l (a .bytes l) in
+    let t : take 21 m ≡ stateBytes (stateWith s l) = ap (take 21) e ∙ take-at (stateBytes (stateWith s l)) (drop 21 core) 21 z in
+    let d : drop 30 m ≡ keptIn core =
+    sym (drop-drop 9 21 m) ∙ ap (λ (x : List ℕ). drop 9 (drop 21 x)) e ∙ ap (drop 9) (drop-at (stateBytes (stateWith s l)) (drop 21 core) 21 z) ∙ drop-drop 9 21 core ∙ sym rest in
+    b .bytes ∙ rw (n, t, d) in
     let z : length (stateBytes (stateWith s none)) ≡ 21 = state-length s none in
-    let t : take 21 img′ ≡ stateBytes (stateWith s none) = ap (take 21) (w none) ∙ whole-front (stateBytes (stateWith s none)) (frameBytes f) (keptIn img) z n k in
-    let u : take 21 m ≡ stateBytes (stateWith s none) = ap (take 21) (put-first s img none (a .image none)) ∙ take-at (stateBytes (stateWith s none)) (drop 21 img) 21 z in
+    let t : take 21 core′ ≡ stateBytes (stateWith s none) = ap (take 21) (w none) ∙ whole-front (stateBytes (stateWith s none)) (frameBytes f) (keptIn core) z n k in
+    let u : take 21 m ≡ stateBytes (stateWith s none) = ap (take 21) (put-first s core none (a .bytes none)) ∙ take-at (stateBytes (stateWith s none)) (drop 21 core) 21 z in
     record {
-      image = w;
-      state = same-front img′ m (t ∙ sym u) ∙ a .holds;
+      bytes = w;
+      state = same-front core′ m (t ∙ sym u) ∙ a .holds;
       frame = b .holds;
-      kept = ap keptIn (w none) ∙ whole-kept (stateBytes (stateWith s none)) (frameBytes f) (keptIn img) z n k;
+      kept = ap keptIn (w none) ∙ whole-kept (stateBytes (stateWith s none)) (frameBytes f) (keptIn core) z n k;
     }
 
--- ---- an image's own bytes, written anew
+-- ---- a core's own bytes, written anew
 cells : List ℕ → ℕ → ℕ → List ℕ
 cells m i zero = []
 cells m i (suc n) = arg m i ∷ cells m (suc i) n
@@ -180,41 +180,41 @@ unfolding cells
 cells-are m i zero h = refl
 cells-are m i (suc n) h = rw (drop-cons m i 0 (omega arith)) (ap (λ (r : List ℕ). arg m i ∷ r) (cells-are m (suc i) n (omega arith)))
 
-pub parts-joined : (img : List ℕ) → length img ≡ 165 → take 21 img ++ (part img 21 9 ++ keptIn img) ≡ img
+pub parts-joined : (core : List ℕ) → length core ≡ 165 → take 21 core ++ (part core 21 9 ++ keptIn core) ≡ core
 unfolding part
-parts-joined img all =
-    let k : keptIn img ≡ drop 9 (drop 21 img) = take-all 135 (drop 30 img) (rw length-drop (omega arith)) ∙ sym (drop-drop 9 21 img) in
-    rw (k, take-append-drop 9 (drop 21 img)) (take-append-drop 21 img)
+parts-joined core all =
+    let k : keptIn core ≡ drop 9 (drop 21 core) = take-all 135 (drop 30 core) (rw length-drop (omega arith)) ∙ sym (drop-drop 9 21 core) in
+    rw (k, take-append-drop 9 (drop 21 core)) (take-append-drop 21 core)
 
-pub laid-out : (img : List ℕ) → length img ≡ 165
-    → img ≡ take 21 img ++ (arg img 21 ∷ arg img 22 ∷ arg img 23 ∷ arg img 24 ∷ arg img 25 ∷ arg img 26 ∷ arg img 27 ∷ arg img 28 ∷ arg img 29 ∷ keptIn img)
+pub laid-out : (core : List ℕ) → length core ≡ 165
+    → core ≡ take 21 core ++ (arg core 21 ∷ arg core 22 ∷ arg core 23 ∷ arg core 24 ∷ arg core 25 ∷ arg core 26 ∷ arg core 27 ∷ arg core 28 ∷ arg core 29 ∷ keptIn core)
 unfolding part cells
-laid-out img all = sym (parts-joined img all) ∙ ap (λ (x : List ℕ). take 21 img ++ (x ++ keptIn img)) (cells-are img 21 9 (omega arith))
+laid-out core all = sym (parts-joined core all) ∙ ap (λ (x : List ℕ). take 21 core ++ (x ++ keptIn core)) (cells-are core 21 9 (omega arith))
 
--- of an image's own bytes
-module _ (img : List ℕ) (all : length img ≡ 165) (small : (i : ℕ) → arg img i < 256) where
-  low-4 : (i : ℕ) (rest : List ℕ) → low4 (little (part img i 4)) rest
-      ≡ arg img i ∷ arg img (i + 1) ∷ arg img (i + 2) ∷ arg img (i + 3) ∷ rest
+-- of a core's own bytes
+module _ (core : List ℕ) (all : length core ≡ 165) (small : (i : ℕ) → arg core i < 256) where
+  low-4 : (i : ℕ) (rest : List ℕ) → low4 (little (part core i 4)) rest
+      ≡ arg core i ∷ arg core (i + 1) ∷ arg core (i + 2) ∷ arg core (i + 3) ∷ rest
   low-4 i rest =
-      let a = arg img i in
-      let b = arg img (i + 1) in
-      let c = arg img (i + 2) in
-      let d = arg img (i + 3) in
+      let a = arg core i in
+      let b = arg core (i + 1) in
+      let c = arg core (i + 2) in
+      let d = arg core (i + 3) in
       let p = small i in
       let q = small (i + 1) in
       let r = small (i + 2) in
       let s = small (i + 3) in
-      rw (little-at img i, byte-0 a b c d p q r s, byte-1 a b c d p q r s, byte-2 a b c d p q r s, byte-3 a b c d p q r s)
+      rw (little-at core i, byte-0 a b c d p q r s, byte-1 a b c d p q r s, byte-2 a b c d p q r s, byte-3 a b c d p q r s)
 
-  pub state-as-it-was : arg img 20 ≤ 1 → (l : Line) → stateBytes (stateWith (stateIn img) l) ≡ take 21 img
+  pub state-as-it-was : arg core 20 ≤ 1 → (l : Line) → stateBytes (stateWith (stateIn core) l) ≡ take 21 core
   unfolding stateBytes stateIn cells
   state-as-it-was f l =
-      let q = places (stateIn img .faults) in
-      rw (q .first, q .second, q .third, q .fourth, flag-back (arg img 20) f, low-4 12, low-4 8, low-4 4) (sym (cells-are img 0 21 (omega arith)))
+      let q = places (stateIn core .faults) in
+      rw (q .first, q .second, q .third, q .fourth, flag-back (arg core 20) f, low-4 12, low-4 8, low-4 4) (sym (cells-are core 0 21 (omega arith)))
 
-  pub frame-as-it-was : arg img 21 ≤ 1 → arg img 22 ≤ 1 → arg img 23 ≤ 1 → (kept : List ℕ) → length kept ≡ 135 → arg img 29 ≤ 135
-      → lineBytes (lineOf (frameIn img) kept) ≡ part img 21 9
+  pub frame-as-it-was : arg core 21 ≤ 1 → arg core 22 ≤ 1 → arg core 23 ≤ 1 → (kept : List ℕ) → length kept ≡ 135 → arg core 29 ≤ 135
+      → lineBytes (lineOf (frameIn core) kept) ≡ part core 21 9
   unfolding lineBytes frameIn cells part
   frame-as-it-was f g h kept k n =
-      rw (flag-back (arg img 21) f, flag-back (arg img 22) g, flag-back (arg img 23) h, length-take-le (arg img 29) kept (omega arith), low-4 24)
-      (sym (cells-are img 21 9 (omega arith)))
+      rw (flag-back (arg core 21) f, flag-back (arg core 22) g, flag-back (arg core 23) h, length-take-le (arg core 29) kept (omega arith), low-4 24)
+      (sym (cells-are core 21 9 (omega arith)))

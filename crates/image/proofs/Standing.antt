@@ -1,4 +1,4 @@
--- What stands where in an image: the waiting codes, four-byte numbers and flags, written and read again. Assumes nothing.
+-- What stands where in a core: the waiting codes, four-byte numbers and flags, written and read again. Assumes nothing.
 use Prim.Native.Nat.{ℕ, zero, suc, _+_, _*_, _/_, _%_, _<_, _≤_, _^_}
 use native.Mathlib.Omega.{arith}
 use native.Mathlib.Nat.{div-div-eq-div-mul, div-add-mod', mod-eq-of-lt, zero-add}
@@ -130,15 +130,15 @@ state-first s rest l t =
       number-again (s .measured) (t .measured),
     )
 
-state-again : (s : State) (img : List ℕ) (l : Line) → Typed s → stateIn (put img 0 (stateBytes (stateWith s l))) ≡ s
+state-again : (s : State) (core : List ℕ) (l : Line) → Typed s → stateIn (put core 0 (stateBytes (stateWith s l))) ≡ s
 unfolding put
-state-again s img l t = state-first s _ l t
+state-again s core l t = state-first s _ l t
 
-pub puts-state : (s : State) (img : List ℕ) {row img′ : List ℕ} → Typed s → ((l : Line) → row ≡ stateBytes (stateWith s l)) → img′ ≡ put img 0 row → PutsState s img img′
-puts-state s img t q e =
+pub puts-state : (s : State) (core : List ℕ) {row core′ : List ℕ} → Typed s → ((l : Line) → row ≡ stateBytes (stateWith s l)) → core′ ≡ put core 0 row → PutsState s core core′
+puts-state s core t q e =
     record {
-      image = λ l. e ∙ ap (put img 0) (q l);
-      holds = ap stateIn (e ∙ ap (put img 0) (q none)) ∙ state-again s img none t;
+      bytes = λ l. e ∙ ap (put core 0) (q l);
+      holds = ap stateIn (e ∙ ap (put core 0) (q none)) ∙ state-again s core none t;
     }
 
 -- a part that was lent and comes back whole
@@ -150,14 +150,14 @@ pub put-whole : (m bs : List ℕ) → length m ≤ length bs → put m 0 bs ≡ 
 unfolding put
 put-whole m bs h = rw (zero-add, drop-of-length-le m h) (append-nil bs)
 
-pub frame-again : (f : OpenFrame) (img : List ℕ) → 30 ≤ length img → f .last < 2 ^ 32
-    → frameIn (put img 21 (frameBytes f)) ≡ f
+pub frame-again : (f : OpenFrame) (core : List ℕ) → 30 ≤ length core → f .last < 2 ^ 32
+    → frameIn (put core 21 (frameBytes f)) ≡ f
 unfolding frameIn frameRow
-frame-again f img h k =
+frame-again f core h k =
     let row : List ℕ = flagByte (f .begun) ∷ flagByte (f .longer) ∷ flagByte (f .parity) ∷ low4 (f .last) (f .sum ∷ f .len ∷ []) in
-    let at : (j : ℕ) → j < 9 → arg (put img 21 row) (21 + j) ≡ arg row j = λ j l. put-at img 21 row (omega arith) j l in
+    let at : (j : ℕ) → j < 9 → arg (put core 21 row) (21 + j) ≡ arg row j = λ j l. put-at core 21 row (omega arith) j l in
     rw (
-      little-at (put img 21 row) 24,
+      little-at (put core 21 row) 24,
       at 0 (omega arith),
       at 1 (omega arith),
       at 2 (omega arith),
@@ -180,19 +180,19 @@ unfolding frameRow lineBytes
 line-row f kept fits = rw (length-take-le (f .len) kept (omega (arith, fits .few, fits .all)))
 
 -- a part that was lent, and filled whole
-pub part-filled : (img : List ℕ) (i n : ℕ) (row : List ℕ) {after : List ℕ} → i + n ≤ length img → length row ≡ n
-    → after ≡ put (take n (drop i img)) 0 row → take i img ++ (after ++ drop n (drop i img)) ≡ put img i row
-part-filled img i n row {after} h l e =
-    let m : length (take n (drop i img)) ≡ n = length-take-le n (drop i img) (rw length-drop (omega arith)) in
-    let w : after ≡ row = e ∙ put-whole (take n (drop i img)) row (omega arith) in
-    rw w (lent-part img i n row l)
+pub part-filled : (core : List ℕ) (i n : ℕ) (row : List ℕ) {after : List ℕ} → i + n ≤ length core → length row ≡ n
+    → after ≡ put (take n (drop i core)) 0 row → take i core ++ (after ++ drop n (drop i core)) ≡ put core i row
+part-filled core i n row {after} h l e =
+    let m : length (take n (drop i core)) ≡ n = length-take-le n (drop i core) (rw length-drop (omega arith)) in
+    let w : after ≡ row = e ∙ put-whole (take n (drop i core)) row (omega arith) in
+    rw w (lent-part core i n row l)
 
-pub puts-frame : (f : OpenFrame) (img : List ℕ) {a b d : ℕ} {row after : List ℕ} → 30 ≤ length img → f .last < 2 ^ 32
+pub puts-frame : (f : OpenFrame) (core : List ℕ) {a b d : ℕ} {row after : List ℕ} → 30 ≤ length core → f .last < 2 ^ 32
     → a ≡ flagByte (f .begun) → b ≡ flagByte (f .longer) → d ≡ flagByte (f .parity) → row ≡ frameRow f a b d
-    → after ≡ put (take 9 (drop 21 img)) 0 row → PutsFrame f img (take 21 img ++ (after ++ drop 9 (drop 21 img)))
+    → after ≡ put (take 9 (drop 21 core)) 0 row → PutsFrame f core (take 21 core ++ (after ++ drop 9 (drop 21 core)))
 unfolding frameRow
-puts-frame f img {a} {b} {d} {row} {after} h k ea eb ed er e =
+puts-frame f core {a} {b} {d} {row} {after} h k ea eb ed er e =
     let r : row ≡ frameBytes f = er ∙ rw (ea, eb, ed) in
-    let z : take 21 img ++ (after ++ drop 9 (drop 21 img)) ≡ put img 21 row = part-filled img 21 9 row h (ap length r) e in
-    let q : take 21 img ++ (after ++ drop 9 (drop 21 img)) ≡ put img 21 (frameBytes f) = z ∙ ap (put img 21) r in
-    record { image = q; holds = ap frameIn q ∙ frame-again f img h k }
+    let z : take 21 core ++ (after ++ drop 9 (drop 21 core)) ≡ put core 21 row = part-filled core 21 9 row h (ap length r) e in
+    let q : take 21 core ++ (after ++ drop 9 (drop 21 core)) ≡ put core 21 (frameBytes f) = z ∙ ap (put core 21) r in
+    record { bytes = q; holds = ap frameIn q ∙ frame-again f core h k }

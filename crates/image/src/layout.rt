@@ -1,9 +1,31 @@
-// Places of the image, numbers low byte first: 21 bytes of state, nine of the open frame's numbers, then its kept bytes.
+// Places of the image, and of its core; numbers stand low byte first.
+pub const LAYOUT: usize = 0;
+
+pub const TOTAL: usize = 1;
+
+pub const BITS: usize = 2;
+
+pub const ADDRESS: usize = 3;
+
+pub const TICKS: usize = 4;
+
+pub const PAUSE: usize = 5;
+
+pub const CORE: usize = 6;
+
+pub const LENGTH: usize = 171;
+
+// The number of this layout: the first byte of every image.
+pub const LAYOUT_NUMBER: u8 = 1;
+
+// The places of the core: 21 bytes of state, of which the first twelve must last, nine of the open frame's numbers, then its kept bytes.
 pub const CODES: usize = 0;
 
 pub const COUNTER: usize = 4;
 
 pub const OFFSET: usize = 8;
+
+pub const LASTING_LENGTH: usize = 12;
 
 pub const MEASURED: usize = 12;
 
@@ -25,4 +47,4 @@ pub const COUNT: usize = 29;
 
 pub const KEPT: usize = 30;
 
-pub const LENGTH: usize = 165;
+pub const CORE_LENGTH: usize = 165;

@@ -1,15 +1,15 @@
-// What an image holds: its state and its open frame's numbers. The kept bytes stay where they are and are lent on.
+// What a core holds: its state and its open frame's numbers. The kept bytes stay where they are and are lent on.
 ghost use mathlib.Core.Path.{_≡_};
 ghost use Prim.Native.Nat.{_≤_};
 ghost use lib.Dec.{eqb};
 ghost use lib.ListN.{length};
-ghost use Rattle.image.specs.Image.{imageLength, stateIn, frameIn, isImage, flagsOk};
+ghost use Rattle.image.specs.Image.{coreLength, lastingLength, stateIn, restedIn, frameIn, isCore, flagsOk};
 use crate::layout::CODES;
+use crate::layout::CORE_LENGTH;
 use crate::layout::COUNT;
 use crate::layout::COUNTER;
 use crate::layout::FRAME;
 use crate::layout::LAST;
-use crate::layout::LENGTH;
 use crate::layout::LOCKED;
 use crate::layout::LONGER;
 use crate::layout::MEASURED;
@@ -29,68 +29,88 @@ fn is_one(byte: u8) -> bool
 }
 
 // 01, R1: a flag is 0 or 1. The four stand side by side and are tested as one word.
-fn flags_ok(image: &[u8]) -> bool
-    requires { ⌜ imageLength ≤ length (now image) ⌝ }
-    ensures { λ r. ⌜ r ≡ flagsOk (now (image .entry)) ⌝ }
+fn flags_ok(core: &[u8]) -> bool
+    requires { ⌜ coreLength ≤ length (now core) ⌝ }
+    ensures { λ r. ⌜ r ≡ flagsOk (now (core .entry)) ⌝ }
 {
-    if wire::number_at(image, LOCKED) & 0xFEFEFEFE != 0 {
+    if wire::number_at(core, LOCKED) & 0xFEFEFEFE != 0 {
         return false;
     }
     true
 }
 
-// 01, R1, of what an image may hold and the board's own state may not.
-pub fn is_image(image: &[u8]) -> bool
-    ensures { λ r. ⌜ r ≡ isImage (now (image .entry)) ⌝ }
+// 01, R1, of what a core may hold and the board's own state may not.
+pub fn is_core(core: &[u8]) -> bool
+    ensures { λ r. ⌜ r ≡ isCore (now (core .entry)) ⌝ }
 {
-    if image.len() != LENGTH {
+    if core.len() != CORE_LENGTH {
         return false;
     }
-    if !flags_ok(image) {
+    if !flags_ok(core) {
         return false;
     }
-    if (LONGEST_REQUEST as u8) < image[COUNT] {
+    if (LONGEST_REQUEST as u8) < core[COUNT] {
         return false;
     }
     true
 }
 
-pub fn state_in(image: &[u8]) -> State
-    requires { ⌜ imageLength ≤ length (now image) ⌝ }
-    ensures { λ r. ⌜ r ≡ stateIn (now (image .entry)) ⌝ }
+pub fn state_in(core: &[u8]) -> State
+    requires { ⌜ coreLength ≤ length (now core) ⌝ }
+    ensures { λ r. ⌜ r ≡ stateIn (now (core .entry)) ⌝ }
 {
     let codes = [
-        image[CODES],
-        image[CODES + 1],
-        image[CODES + 2],
-        image[CODES + 3],
+        core[CODES],
+        core[CODES + 1],
+        core[CODES + 2],
+        core[CODES + 3],
     ];
     let faults = Faults {
-        first: image[WAITING],
-        second: image[WAITING + 1],
-        third: image[WAITING + 2],
-        fourth: image[WAITING + 3],
-        locked: is_one(image[LOCKED]),
+        first: core[WAITING],
+        second: core[WAITING + 1],
+        third: core[WAITING + 2],
+        fourth: core[WAITING + 3],
+        locked: is_one(core[LOCKED]),
     };
     State {
         codes: codes,
-        counter: wire::number_at(image, COUNTER),
-        offset: wire::number_at(image, OFFSET),
-        measured: wire::number_at(image, MEASURED),
+        counter: wire::number_at(core, COUNTER),
+        offset: wire::number_at(core, OFFSET),
+        measured: wire::number_at(core, MEASURED),
         faults: faults,
     }
 }
 
-pub fn frame_in(image: &[u8]) -> OpenFrame
-    requires { ⌜ imageLength ≤ length (now image) ⌝ }
-    ensures { λ r. ⌜ r ≡ frameIn (now (image .entry)) ⌝ }
+pub fn frame_in(core: &[u8]) -> OpenFrame
+    requires { ⌜ coreLength ≤ length (now core) ⌝ }
+    ensures { λ r. ⌜ r ≡ frameIn (now (core .entry)) ⌝ }
 {
     OpenFrame {
-        begun: is_one(image[FRAME]),
-        last: wire::number_at(image, LAST),
-        len: image[COUNT],
-        sum: image[SUM],
-        longer: is_one(image[LONGER]),
-        parity: is_one(image[PARITY]),
+        begun: is_one(core[FRAME]),
+        last: wire::number_at(core, LAST),
+        len: core[COUNT],
+        sum: core[SUM],
+        longer: is_one(core[LONGER]),
+        parity: is_one(core[PARITY]),
+    }
+}
+
+// The state of a board that was off, from the bytes that last.
+pub fn lasting_in(lasting: &[u8]) -> State
+    requires { ⌜ lastingLength ≤ length (now lasting) ⌝ }
+    ensures { λ r. ⌜ r ≡ restedIn (now (lasting .entry)) ⌝ }
+{
+    let codes = [
+        lasting[CODES],
+        lasting[CODES + 1],
+        lasting[CODES + 2],
+        lasting[CODES + 3],
+    ];
+    State {
+        codes: codes,
+        counter: wire::number_at(lasting, COUNTER),
+        offset: wire::number_at(lasting, OFFSET),
+        measured: 0,
+        faults: Faults::none(),
     }
 }

@@ -1,4 +1,4 @@
-// A state, or the open frame's numbers, written over those of an image; every other byte stays.
+// A state, or the open frame's numbers, written over those of a core; every other byte stays.
 ghost use mathlib.Core.Path.{_≡_};
 ghost use Prim.Native.Nat.{_≤_};
 ghost use lib.ListN.{length};
@@ -10,11 +10,11 @@ ghost use Rattle.meaning.specs.Characters.{more};
 ghost use Rattle.line.specs.Line.{lineOf};
 ghost use Rattle.state.specs.State.{stateWith};
 ghost use Rattle.wire.specs.Numbers.{low4};
-ghost use Rattle.image.specs.Image.{imageLength, flagByte, isImage, frameIn, keptIn, stateBytes, frameRow, Open, PutsState, PutsFrame, PutsBoard, Takes};
+ghost use Rattle.image.specs.Image.{coreLength, flagByte, isCore, frameIn, keptIn, stateBytes, frameRow, Open, PutsState, PutsFrame, PutsBoard, Takes};
+use crate::layout::CORE_LENGTH;
 use crate::layout::COUNT;
 use crate::layout::FRAME;
 use crate::layout::KEPT;
-use crate::layout::LENGTH;
 use crate::layout::LONGER;
 use crate::layout::PARITY;
 use crate::layout::SUM;
@@ -83,79 +83,79 @@ fn frame_row(frame: OpenFrame, begun: u8, longer: u8, parity: u8) -> [u8; 9]
     ]
 }
 
-pub fn put_state(state: State, image: &mut [u8])
-    requires { ⌜ 21 ≤ length (now image) ⌝ }
-    ensures { λ _. ⌜ PutsState state (now (image .entry)) (now (image .exit)) ⌝ }
+pub fn put_state(state: State, core: &mut [u8])
+    requires { ⌜ 21 ≤ length (now core) ⌝ }
+    ensures { λ _. ⌜ PutsState state (now (core .entry)) (now (core .exit)) ⌝ }
 {
     let faults = state.faults;
     let row = state_row(state, flag_byte(faults.locked));
-    wire::fill(&row, image);
+    wire::fill(&row, core);
 }
 
-pub fn put_frame(frame: OpenFrame, image: &mut [u8])
-    requires { ⌜ 30 ≤ length (now image) ⌝ }
-    ensures { λ _. ⌜ PutsFrame frame (now (image .entry)) (now (image .exit)) ⌝ }
+pub fn put_frame(frame: OpenFrame, core: &mut [u8])
+    requires { ⌜ 30 ≤ length (now core) ⌝ }
+    ensures { λ _. ⌜ PutsFrame frame (now (core .entry)) (now (core .exit)) ⌝ }
 {
     let begun = flag_byte(frame.begun);
     let longer = flag_byte(frame.longer);
     let parity = flag_byte(frame.parity);
     let row = frame_row(frame, begun, longer, parity);
-    wire::fill(&row, &mut image[FRAME..KEPT]);
+    wire::fill(&row, &mut core[FRAME..KEPT]);
 }
 
-pub fn put_board(state: State, frame: OpenFrame, image: &mut [u8])
-    requires { ⌜ length (now image) ≡ imageLength ⌝ }
-    ensures { λ _. ⌜ PutsBoard state frame (now (image .entry)) (now (image .exit)) ⌝ }
+pub fn put_board(state: State, frame: OpenFrame, core: &mut [u8])
+    requires { ⌜ length (now core) ≡ coreLength ⌝ }
+    ensures { λ _. ⌜ PutsBoard state frame (now (core .entry)) (now (core .exit)) ⌝ }
 {
-    put_state(state, image);
-    put_frame(frame, image);
+    put_state(state, core);
+    put_frame(frame, core);
 }
 
 // The first character of a frame.
-fn begin(tick: u32, value: u8, parity: bool, image: &mut [u8])
-    requires { ⌜ length (now image) ≡ imageLength ⌝ }
-    ensures { λ _. ⌜ Takes (more none tick value parity) (now (image .entry)) (now (image .exit)) ⌝ }
+fn begin(tick: u32, value: u8, parity: bool, core: &mut [u8])
+    requires { ⌜ length (now core) ≡ coreLength ⌝ }
+    ensures { λ _. ⌜ Takes (more none tick value parity) (now (core .entry)) (now (core .exit)) ⌝ }
 {
-    let first = OpenFrame::none().with_character(tick, value, parity, &mut image[KEPT..LENGTH]);
-    put_frame(first, image);
+    let first = OpenFrame::none().with_character(tick, value, parity, &mut core[KEPT..CORE_LENGTH]);
+    put_frame(first, core);
 }
 
 // Parity fault, stamp and XOR stand side by side.
-fn put_stamp(parity: u8, tick: u32, sum: u8, image: &mut [u8])
-    requires { ⌜ length (now image) ≡ imageLength ⌝ }
-    ensures { λ _. ⌜ now (image .exit) ≡ put (now (image .entry)) 23 (parity ∷ low4 tick (sum ∷ [])) ⌝ }
+fn put_stamp(parity: u8, tick: u32, sum: u8, core: &mut [u8])
+    requires { ⌜ length (now core) ≡ coreLength ⌝ }
+    ensures { λ _. ⌜ now (core .exit) ≡ put (now (core .entry)) 23 (parity ∷ low4 tick (sum ∷ [])) ⌝ }
 {
     let stamp = wire::bytes_of(tick);
     let row = [parity, stamp[0], stamp[1], stamp[2], stamp[3], sum];
-    wire::fill(&row, &mut image[PARITY..COUNT]);
+    wire::fill(&row, &mut core[PARITY..COUNT]);
 }
 
 // One more character of an open frame: nothing is written that does not change.
-fn go_on(tick: u32, value: u8, parity: bool, image: &mut [u8])
-    requires { ⌜ Open (now image) ⌝ }
-    ensures { λ _. ⌜ Takes (more (lineOf (frameIn (now (image .entry))) (keptIn (now (image .entry)))) tick value parity) (now (image .entry)) (now (image .exit)) ⌝ }
+fn go_on(tick: u32, value: u8, parity: bool, core: &mut [u8])
+    requires { ⌜ Open (now core) ⌝ }
+    ensures { λ _. ⌜ Takes (more (lineOf (frameIn (now (core .entry))) (keptIn (now (core .entry)))) tick value parity) (now (core .entry)) (now (core .exit)) ⌝ }
 {
-    let count = image[COUNT];
-    let sum = image[SUM] ^ value;
-    let faulty = image[PARITY] | flag_byte(parity);
-    put_stamp(faulty, tick, sum, image);
+    let count = core[COUNT];
+    let sum = core[SUM] ^ value;
+    let faulty = core[PARITY] | flag_byte(parity);
+    put_stamp(faulty, tick, sum, core);
     if count < LONGEST_REQUEST as u8 {
         let at = KEPT + count as usize;
-        image[at] = value;
-        image[COUNT] = count + 1;
+        core[at] = value;
+        core[COUNT] = count + 1;
         return;
     }
-    image[LONGER] = 1;
+    core[LONGER] = 1;
 }
 
 // The next character of the open frame, or the first of a new one, in place.
-pub fn take_character(tick: u32, value: u8, parity: bool, image: &mut [u8])
-    requires { ⌜ isImage (now image) ≡ true ⌝ }
-    ensures { λ _. ⌜ Takes (more (pick (frameIn (now (image .entry)) .begun) (lineOf (frameIn (now (image .entry))) (keptIn (now (image .entry)))) none) tick value parity) (now (image .entry)) (now (image .exit)) ⌝ }
+pub fn take_character(tick: u32, value: u8, parity: bool, core: &mut [u8])
+    requires { ⌜ isCore (now core) ≡ true ⌝ }
+    ensures { λ _. ⌜ Takes (more (pick (frameIn (now (core .entry)) .begun) (lineOf (frameIn (now (core .entry))) (keptIn (now (core .entry)))) none) tick value parity) (now (core .entry)) (now (core .exit)) ⌝ }
 {
-    if image[FRAME] == 1 {
-        go_on(tick, value, parity, image);
+    if core[FRAME] == 1 {
+        go_on(tick, value, parity, core);
         return;
     }
-    begin(tick, value, parity, image);
+    begin(tick, value, parity, core);
 }

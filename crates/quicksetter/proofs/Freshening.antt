@@ -1,4 +1,4 @@
--- A fresh image. Assumes nothing.
+-- A fresh core. Assumes nothing.
 use Prim.Native.Nat.{ℕ, _+_}
 use native.Mathlib.Omega.{arith}
 use mathlib.Core.Path.{_≡_, refl, sym, ap, _∙_}
@@ -16,19 +16,19 @@ use Rattle.state.specs.Queue.{queueOf, waiting}
 use Rattle.state.proofs.Answering.{put-nothing}
 use Rattle.line.specs.declared.characters.OpenFrame.{OpenFrame}
 use Rattle.line.specs.Line.{noFrame}
-use Rattle.image.specs.Image.{flagByte, stateIn, frameIn, keptIn, heldIn, stateBytes, lineBytes, frameRow, frameBytes, imageOf, PutsBoard}
+use Rattle.image.specs.Image.{flagByte, stateIn, frameIn, keptIn, heldIn, stateBytes, lineBytes, frameRow, frameBytes, coreOf, PutsBoard}
 use Rattle.image.proofs.Standing.{put-whole}
 use Rattle.image.proofs.Parts.{kept-length}
 use Rattle.quicksetter.specs.Calls.{freshOk, Freshens}
 
-module _ (p : Plate) (img : List ℕ) where
-  pub no-plate : plateOk p ≡ false → Freshens p img 257 img
+module _ (p : Plate) (core : List ℕ) where
+  pub no-plate : plateOk p ≡ false → Freshens p core 257 core
   unfolding freshOk
-  no-plate e = record { answer = rw e; image = rw e }
+  no-plate e = record { answer = rw e; bytes = rw e }
 
-  pub no-length : plateOk p ≡ true → (length img ≡ 165 → ⊥) → Freshens p img 257 img
+  pub no-length : plateOk p ≡ true → (length core ≡ 165 → ⊥) → Freshens p core 257 core
   unfolding freshOk
-  no-length e n = let z : eqb (length img) 165 ≡ false = ne-eqb _ _ n in record { answer = rw (e, z); image = rw (e, z) }
+  no-length e n = let z : eqb (length core) 165 ≡ false = ne-eqb _ _ n in record { answer = rw (e, z); bytes = rw (e, z) }
 
   nothing-open : frameBytes noFrame ≡ lineBytes none
   unfolding frameRow lineBytes none flagByte
@@ -45,25 +45,25 @@ module _ (p : Plate) (img : List ℕ) where
   nothing-long : length (zeros 135) ≡ 135
   nothing-long = length-replicate {A = ℕ} 135 0
 
-  pub freshened : {s : State} {f : OpenFrame} {after img′ : List ℕ} → plateOk p ≡ true → length img ≡ 165
-      → after ≡ put (take 135 (drop 30 img)) 0 (zeros 135) → ((q : Plate) → stateWith s none ≡ fresh q) → f ≡ noFrame
-      → PutsBoard s f (take 30 img ++ (after ++ drop 135 (drop 30 img))) img′ → Freshens p img 0 img′
-  unfolding freshOk imageOf
-  freshened {s} {f} {after} {img′} e all a b c d =
-      let z : eqb (length img) 165 ≡ true = eq-eqb _ _ all in
-      let k : length (take 135 (drop 30 img)) ≡ 135 = kept-length img all in
-      let w : after ≡ zeros 135 = a ∙ put-whole (take 135 (drop 30 img)) (zeros 135) (omega (arith, nothing-long)) in
-      let y : keptIn (take 30 img ++ (zeros 135 ++ drop 135 (drop 30 img))) ≡ zeros 135 =
-      ap (take 135) (drop-at (take 30 img) (zeros 135 ++ drop 135 (drop 30 img)) 30 (length-take-le 30 img (omega arith)))
-      ∙ take-at (zeros 135) (drop 135 (drop 30 img)) 135 nothing-long in
-      let x : keptIn (take 30 img ++ (after ++ drop 135 (drop 30 img))) ≡ zeros 135 = rw w y in
+  pub freshened : {s : State} {f : OpenFrame} {after core′ : List ℕ} → plateOk p ≡ true → length core ≡ 165
+      → after ≡ put (take 135 (drop 30 core)) 0 (zeros 135) → ((q : Plate) → stateWith s none ≡ fresh q) → f ≡ noFrame
+      → PutsBoard s f (take 30 core ++ (after ++ drop 135 (drop 30 core))) core′ → Freshens p core 0 core′
+  unfolding freshOk coreOf
+  freshened {s} {f} {after} {core′} e all a b c d =
+      let z : eqb (length core) 165 ≡ true = eq-eqb _ _ all in
+      let k : length (take 135 (drop 30 core)) ≡ 135 = kept-length core all in
+      let w : after ≡ zeros 135 = a ∙ put-whole (take 135 (drop 30 core)) (zeros 135) (omega (arith, nothing-long)) in
+      let y : keptIn (take 30 core ++ (zeros 135 ++ drop 135 (drop 30 core))) ≡ zeros 135 =
+      ap (take 135) (drop-at (take 30 core) (zeros 135 ++ drop 135 (drop 30 core)) 30 (length-take-le 30 core (omega arith)))
+      ∙ take-at (zeros 135) (drop 135 (drop 30 core)) 135 nothing-long in
+      let x : keptIn (take 30 core ++ (after ++ drop 135 (drop 30 core))) ≡ zeros 135 = rw w y in
       let n : put (zeros 135) 0 (none .kept) ≡ zeros 135 = nothing-kept in
-      let i : img′ ≡ stateBytes (stateWith s none) ++ (frameBytes f ++ zeros 135) = d .image none ∙ ap (λ (v : List ℕ). stateBytes (stateWith s none) ++ (frameBytes f ++ v)) x in
+      let i : core′ ≡ stateBytes (stateWith s none) ++ (frameBytes f ++ zeros 135) = d .bytes none ∙ ap (λ (v : List ℕ). stateBytes (stateWith s none) ++ (frameBytes f ++ v)) x in
       let j : stateBytes (stateWith s none) ++ (frameBytes f ++ zeros 135) ≡ stateBytes (fresh p) ++ (lineBytes none ++ zeros 135) = rw (b p, c, nothing-open) in
       let l : stateBytes (fresh p) ++ (lineBytes ((fresh p) .line) ++ put (zeros 135) 0 ((fresh p) .line .kept)) ≡ stateBytes (fresh p) ++ (lineBytes none ++ zeros 135) = rw (fresh-line, n) in
-      record { answer = rw (e, z); image = rw (e, z) (i ∙ j ∙ sym l) }
+      record { answer = rw (e, z); bytes = rw (e, z) (i ∙ j ∙ sym l) }
 
 -- what it holds is the fresh state
-pub fresh-holds : (p : Plate) → heldIn (imageOf (fresh p) (zeros 135)) ≡ fresh p
-unfolding imageOf stateBytes lineBytes fresh none flagByte put stateIn frameIn part little queueOf waiting
+pub fresh-holds : (p : Plate) → heldIn (coreOf (fresh p) (zeros 135)) ≡ fresh p
+unfolding coreOf stateBytes lineBytes fresh none flagByte put stateIn frameIn part little queueOf waiting
 fresh-holds p = refl

@@ -1,4 +1,4 @@
--- What a call leaves: what is no image; the board's call, written back. Assumes nothing.
+-- What a call leaves: what is no core; the board's call, written back. Assumes nothing.
 use Prim.Native.Nat.{ℕ, _+_, _≤_}
 use native.Mathlib.Omega.{arith}
 use mathlib.Core.Path.{_≡_, refl, sym, ap, _∙_, subst}
@@ -25,12 +25,12 @@ use Rattle.board.specs.declared.limits.Outcome.the-variants.{R1, R2, R3, Still,
 use Rattle.board.specs.declared.limits.Stepped.{Stepped}
 use Rattle.board.specs.Board.{fitsIn, refusedAs, calledOn, outcomeOf, Steps}
 use Rattle.board.proofs.Stepping.{held-few}
-use Rattle.image.specs.Image.{isImage, frameIn, keptIn, heldIn, stateBytes, lineBytes, frameBytes, imageOf, PutsBoard}
+use Rattle.image.specs.Image.{isCore, frameIn, keptIn, heldIn, stateBytes, lineBytes, frameBytes, coreOf, PutsBoard}
 use Rattle.image.proofs.Standing.{line-row}
 use Rattle.image.proofs.Parts.{kept-length}
 use Rattle.image.proofs.Round.{good, kept-stays, lent-back}
 use Rattle.quicksetter.specs.declared.notes.Note.{Note}
-use Rattle.quicksetter.specs.Calls.{boardIn, callFor, calledBy, callNumber, imageAfter, Called, outcomeNumber, LeftBy, Finishes}
+use Rattle.quicksetter.specs.Calls.{boardIn, callFor, coreCalled, callNumber, coreAfter, CoreCalled, outcomeNumber, LeftBy, Finishes}
 
 -- a call that closes no frame brings no reply
 silent : (p : Plate) (s : meaning.State) (m : List ℕ) (g : Call) → closes p s g ≡ false → (step p s m g) .reply ≡ []
@@ -62,7 +62,7 @@ refused-state : (p : Plate) (s : meaning.State) (m w : List ℕ) (g : Call) → 
 unfolding called
 refused-state p s m w g = pick-state (refusedBy p s m (length w) g) s _ _ refl refl refl
 
--- a refusal's number for C, and the image that it leaves
+-- a refusal's number for C, and the core that it leaves
 number-of-refusal : (n : ℕ) (o : code.Outcome) → eqb n 0 ≡ false → n ≤ 3 → outcomeNumber (refusedAs n o) ≡ 256 + n
 unfolding refusedAs
 number-of-refusal n o i few = rw i (go (eqb n 1) (eqb n 2) refl refl)
@@ -72,127 +72,127 @@ number-of-refusal n o i few = rw i (go (eqb n 1) (eqb n 2) refl refl)
     go false true j k = omega (arith, eqb-true n 2 k)
     go false false j k = omega (arith, eqb-false n 0 i, eqb-false n 1 j, eqb-false n 2 k)
 
-left-by-refusal : (n : ℕ) (o : code.Outcome) (b : Board) (img img′ : List ℕ) → eqb n 0 ≡ false → LeftBy (refusedAs n o) b img img′ → img′ ≡ img
+left-by-refusal : (n : ℕ) (o : code.Outcome) (b : Board) (core core′ : List ℕ) → eqb n 0 ≡ false → LeftBy (refusedAs n o) b core core′ → core′ ≡ core
 unfolding refusedAs
-left-by-refusal n o b img img′ i h = go (eqb n 1) (eqb n 2) (rw i at h)
+left-by-refusal n o b core core′ i h = go (eqb n 1) (eqb n 2) (rw i at h)
   where
-    go : (x y : Bool) → LeftBy (pick x R1 (pick y R2 R3)) b img img′ → img′ ≡ img
+    go : (x y : Bool) → LeftBy (pick x R1 (pick y R2 R3)) b core core′ → core′ ≡ core
     go true y h = h
     go false true h = h
     go false false h = h
 
-module _ (p : Plate) (img m w : List ℕ) (g : Call) where
-  -- R1 for what is no image
-  pub no-image : isImage img ≡ false → Called p img m w g 257 img m w
-  unfolding calledBy callNumber imageAfter
-  no-image e = record { answer = rw e; state = rw e; image = rw e; memory = rw e; room = rw e }
+module _ (p : Plate) (core m w : List ℕ) (g : Call) where
+  -- R1 for what is no core
+  pub no-core : isCore core ≡ false → CoreCalled p core m w g 257 core m w
+  unfolding coreCalled callNumber coreAfter
+  no-core e = record { answer = rw e; state = rw e; bytes = rw e; memory = rw e; room = rw e }
 
-  module _ (e : isImage img ≡ true) where
-    all : length img ≡ 165
-    all = (good img e) .all
+  module _ (e : isCore core ≡ true) where
+    all : length core ≡ 165
+    all = (good core e) .all
 
-    few-kept : frameIn img .len ≤ 135
+    few-kept : frameIn core .len ≤ 135
     unfolding frameIn
-    few-kept = (good img e) .few
+    few-kept = (good core e) .few
 
-    held : calledBy p img m w g ≡ called p (heldIn img) m w g
-    unfolding calledBy
+    held : coreCalled p core m w g ≡ called p (heldIn core) m w g
+    unfolding coreCalled
     held = rw e
 
-    on-board : calledOn p (boardIn img) (keptIn img) m w g ≡ called p (heldIn img) m w g
+    on-board : calledOn p (boardIn core) (keptIn core) m w g ≡ called p (heldIn core) m w g
     unfolding calledOn fitsIn frameIn
-    on-board = rw (le-leb (arg img 29) 135 ((good img e) .few), eq-eqb (length (keptIn img)) 135 (kept-length img all))
+    on-board = rw (le-leb (arg core 29) 135 ((good core e) .few), eq-eqb (length (keptIn core)) 135 (kept-length core all))
 
     abbrev h : Held
-    h = called p (heldIn img) m w g
+    h = called p (heldIn core) m w g
 
-    module _ (t : Stepped) (kept m′ w′ : List ℕ) (st : Steps p (boardIn img) (keptIn img) m w g t kept m′ w′) (back : List ℕ)
-        (lent : back ≡ take 30 img ++ (kept ++ drop 135 (drop 30 img))) (r : ℕ) (img′ : List ℕ) where
-      told : t .outcome ≡ outcomeOf h (closes p (heldIn img) g)
+    module _ (t : Stepped) (kept m′ w′ : List ℕ) (st : Steps p (boardIn core) (keptIn core) m w g t kept m′ w′) (back : List ℕ)
+        (lent : back ≡ take 30 core ++ (kept ++ drop 135 (drop 30 core))) (r : ℕ) (core′ : List ℕ) where
+      told : t .outcome ≡ outcomeOf h (closes p (heldIn core) g)
       told = rw on-board at (st .outcome)
 
       after : stateWith (t .board .state) (lineOf (t .board .frame) kept) ≡ h .state
       after = rw on-board at (st .state)
 
-      bytes : kept ≡ put (keptIn img) 0 (h .state .line .kept)
+      bytes : kept ≡ put (keptIn core) 0 (h .state .line .kept)
       bytes = rw on-board at (st .bytes)
 
       -- refused: nothing is written
-      refused-call : eqb (h .refusal) 0 ≡ false → r ≡ 256 + h .refusal → img′ ≡ back → Called p img m w g r img′ m′ w′
-      unfolding callNumber imageAfter
+      refused-call : eqb (h .refusal) 0 ≡ false → r ≡ 256 + h .refusal → core′ ≡ back → CoreCalled p core m w g r core′ m′ w′
+      unfolding callNumber coreAfter
       refused-call q a b =
-          let s : h .state ≡ heldIn img = refused-state p (heldIn img) m w g q in
-          let k : kept ≡ keptIn img =
-          bytes ∙ ap (λ (x : meaning.State). put (keptIn img) 0 (x .line .kept)) s ∙ kept-stays (keptIn img) (frameIn img .len) (omega (arith, kept-length img all, few-kept)) in
-          let z : img′ ≡ img = b ∙ lent ∙ ap (λ (x : List ℕ). take 30 img ++ (x ++ drop 135 (drop 30 img))) k ∙ lent-back img in
+          let s : h .state ≡ heldIn core = refused-state p (heldIn core) m w g q in
+          let k : kept ≡ keptIn core =
+          bytes ∙ ap (λ (x : meaning.State). put (keptIn core) 0 (x .line .kept)) s ∙ kept-stays (keptIn core) (frameIn core .len) (omega (arith, kept-length core all, few-kept)) in
+          let z : core′ ≡ core = b ∙ lent ∙ ap (λ (x : List ℕ). take 30 core ++ (x ++ drop 135 (drop 30 core))) k ∙ lent-back core in
           record {
             answer = rw (held, q) a;
             state = rw held (ap heldIn z ∙ sym s);
-            image = rw (held, q) z;
+            bytes = rw (held, q) z;
             memory = rw held (rw on-board at (st .memory));
             room = rw held (rw on-board at (st .room));
           }
 
       -- served: the board is written back
-      served-call : eqb (h .refusal) 0 ≡ true → r ≡ h .count → PutsBoard (t .board .state) (t .board .frame) back img′ → Called p img m w g r img′ m′ w′
-      unfolding callNumber imageAfter imageOf
+      served-call : eqb (h .refusal) 0 ≡ true → r ≡ h .count → PutsBoard (t .board .state) (t .board .frame) back core′ → CoreCalled p core m w g r core′ m′ w′
+      unfolding callNumber coreAfter coreOf
       served-call q a b =
           let f : OpenFrame = t .board .frame in
           let few : f .len ≤ 135 = st .few (ap (λ (x : Held). x .refusal) on-board ∙ eqb-true (h .refusal) 0 q) in
           let l : take (f .len) kept ≡ h .state .line .kept = ap (λ (x : meaning.State). x .line .kept) after in
           let low : length (h .state .line .kept) ≤ 135 = rw (← l) (rw length-take (omega arith)) in
-          let c : length kept ≡ 135 = ap length bytes ∙ length-put (keptIn img) 0 (h .state .line .kept) (omega (arith, kept-length img all)) ∙ kept-length img all in
+          let c : length kept ≡ 135 = ap length bytes ∙ length-put (keptIn core) 0 (h .state .line .kept) (omega (arith, kept-length core all)) ∙ kept-length core all in
           let k : keptIn back ≡ kept =
-          ap keptIn lent ∙ ap (take 135) (drop-at (take 30 img) (kept ++ drop 135 (drop 30 img)) 30 (length-take-le 30 img (omega (arith, all))))
-          ∙ take-at kept (drop 135 (drop 30 img)) 135 c in
+          ap keptIn lent ∙ ap (take 135) (drop-at (take 30 core) (kept ++ drop 135 (drop 30 core)) 30 (length-take-le 30 core (omega (arith, all))))
+          ∙ take-at kept (drop 135 (drop 30 core)) 135 c in
           let n : frameBytes f ≡ lineBytes (lineOf f kept) = sym (line-row f kept (record { few = few; all = c })) in
           let s : meaning.State = stateWith (t .board .state) (lineOf f kept) in
           let j : stateBytes s ++ (frameBytes f ++ keptIn back) ≡ stateBytes s ++ (lineBytes (lineOf f kept) ++ kept) = rw (n, k) in
-          let i : img′ ≡ stateBytes (h .state) ++ (lineBytes (h .state .line) ++ put (keptIn img) 0 (h .state .line .kept)) =
-          b .image (lineOf f kept) ∙ j ∙ ap (λ (x : meaning.State). stateBytes x ++ (lineBytes (x .line) ++ kept)) after
+          let i : core′ ≡ stateBytes (h .state) ++ (lineBytes (h .state .line) ++ put (keptIn core) 0 (h .state .line .kept)) =
+          b .bytes (lineOf f kept) ∙ j ∙ ap (λ (x : meaning.State). stateBytes x ++ (lineBytes (x .line) ++ kept)) after
           ∙ ap (λ (x : List ℕ). stateBytes (h .state) ++ (lineBytes (h .state .line) ++ x)) bytes in
           record {
             answer = rw (held, q) a;
             state = rw held (rw (b .state, b .frame, b .kept, k) after);
-            image = rw (held, q) i;
+            bytes = rw (held, q) i;
             memory = rw held (rw on-board at (st .memory));
             room = rw held (rw on-board at (st .room));
           }
 
-      finish-by : (q c : Bool) → eqb (h .refusal) 0 ≡ q → closes p (heldIn img) g ≡ c → Finishes t back r img′ → Called p img m w g r img′ m′ w′
+      finish-by : (q c : Bool) → eqb (h .refusal) 0 ≡ q → closes p (heldIn core) g ≡ c → Finishes t back r core′ → CoreCalled p core m w g r core′ m′ w′
       unfolding outcomeOf refusedAs
       finish-by false c i j f =
-          let few : h .refusal ≤ 3 = rw on-board at (held-few p (boardIn img) (keptIn img) m w g) in
-          let x : code.Outcome = pick (closes p (heldIn img) g) (Over (h .count)) Still in
+          let few : h .refusal ≤ 3 = rw on-board at (held-few p (boardIn core) (keptIn core) m w g) in
+          let x : code.Outcome = pick (closes p (heldIn core) g) (Over (h .count)) Still in
           refused-call i (f .answer ∙ ap outcomeNumber told ∙ number-of-refusal (h .refusal) x i few)
-          (left-by-refusal (h .refusal) x (t .board) back img′ i (subst (λ (y : code.Outcome). LeftBy y (t .board) back img′) told (f .left)))
+          (left-by-refusal (h .refusal) x (t .board) back core′ i (subst (λ (y : code.Outcome). LeftBy y (t .board) back core′) told (f .left)))
       finish-by true true i j f =
-          let o : outcomeOf h (closes p (heldIn img) g) ≡ Over (h .count) = rw (i, j) in
-          served-call i (f .answer ∙ ap outcomeNumber (told ∙ o)) (subst (λ (x : code.Outcome). LeftBy x (t .board) back img′) (told ∙ o) (f .left))
+          let o : outcomeOf h (closes p (heldIn core) g) ≡ Over (h .count) = rw (i, j) in
+          served-call i (f .answer ∙ ap outcomeNumber (told ∙ o)) (subst (λ (x : code.Outcome). LeftBy x (t .board) back core′) (told ∙ o) (f .left))
       finish-by true false i j f =
-          let o : outcomeOf h (closes p (heldIn img) g) ≡ Still = rw (i, j) in
-          served-call i (f .answer ∙ ap outcomeNumber (told ∙ o) ∙ sym (no-reply p (heldIn img) m w g j))
-          (subst (λ (x : code.Outcome). LeftBy x (t .board) back img′) (told ∙ o) (f .left))
+          let o : outcomeOf h (closes p (heldIn core) g) ≡ Still = rw (i, j) in
+          served-call i (f .answer ∙ ap outcomeNumber (told ∙ o) ∙ sym (no-reply p (heldIn core) m w g j))
+          (subst (λ (x : code.Outcome). LeftBy x (t .board) back core′) (told ∙ o) (f .left))
 
-    -- the board's call on what the image holds, written back
-    pub finished : {b : Board} {t : Stepped} {kept m′ w′ : List ℕ} (back : List ℕ) {r : ℕ} {img′ : List ℕ} → b ≡ boardIn img
-        → Steps p b (keptIn img) m w g t kept m′ w′ → back ≡ take 30 img ++ (kept ++ drop 135 (drop 30 img))
-        → Finishes t back r img′ → Called p img m w g r img′ m′ w′
-    finished {b} {t} {kept} {m′} {w′} back {r} {img′} a st lent fin =
-        let st′ : Steps p (boardIn img) (keptIn img) m w g t kept m′ w′ = rw a at st in
-        finish-by t kept m′ w′ st′ back lent r img′ (eqb (h .refusal) 0) (closes p (heldIn img) g) refl refl fin
+    -- the board's call on what the core holds, written back
+    pub finished : {b : Board} {t : Stepped} {kept m′ w′ : List ℕ} (back : List ℕ) {r : ℕ} {core′ : List ℕ} → b ≡ boardIn core
+        → Steps p b (keptIn core) m w g t kept m′ w′ → back ≡ take 30 core ++ (kept ++ drop 135 (drop 30 core))
+        → Finishes t back r core′ → CoreCalled p core m w g r core′ m′ w′
+    finished {b} {t} {kept} {m′} {w′} back {r} {core′} a st lent fin =
+        let st′ : Steps p (boardIn core) (keptIn core) m w g t kept m′ w′ = rw a at st in
+        finish-by t kept m′ w′ st′ back lent r core′ (eqb (h .refusal) 0) (closes p (heldIn core) g) refl refl fin
 
     -- .. where the places are not lent
-    pub finished-here : {b : Board} {t : Stepped} {r : ℕ} {img′ : List ℕ} → b ≡ boardIn img → ((k x y : List ℕ) → length k ≡ 135 → Steps p b k x y g t k x y)
-        → Finishes t img r img′ → Called p img m w g r img′ m w
-    finished-here a st fin = finished img a (st (keptIn img) m w (kept-length img all)) (sym (lent-back img)) fin
+    pub finished-here : {b : Board} {t : Stepped} {r : ℕ} {core′ : List ℕ} → b ≡ boardIn core → ((k x y : List ℕ) → length k ≡ 135 → Steps p b k x y g t k x y)
+        → Finishes t core r core′ → CoreCalled p core m w g r core′ m w
+    finished-here a st fin = finished core a (st (keptIn core) m w (kept-length core all)) (sym (lent-back core)) fin
 
 -- what is told, by its case
 pub for-note : {p : Plate} {b : Board} {t : Stepped} {n x : Note} → n ≡ x
     → ((k y z : List ℕ) → length k ≡ 135 → Steps p b k y z (callFor x) t k y z) → (k y z : List ℕ) → length k ≡ 135 → Steps p b k y z (callFor n) t k y z
 for-note {p} {b} {t} e q = subst (λ (v : Note). (k y z : List ℕ) → length k ≡ 135 → Steps p b k y z (callFor v) t k y z) (sym e) q
 
--- the frame's test, of the state that the image holds
-pub over-in : (p : Plate) (img : List ℕ) (tick : ℕ) {f : OpenFrame} {r : Bool} → f ≡ frameIn img
-    → ((s : meaning.State) (kept : List ℕ) → s .line ≡ lineOf f kept → r ≡ over p s tick) → r ≡ over p (heldIn img) tick
-over-in p img tick e o = o (heldIn img) (keptIn img) (ap (λ (x : OpenFrame). lineOf x (keptIn img)) (sym e))
+-- the frame's test, of the state that the core holds
+pub over-in : (p : Plate) (core : List ℕ) (tick : ℕ) {f : OpenFrame} {r : Bool} → f ≡ frameIn core
+    → ((s : meaning.State) (kept : List ℕ) → s .line ≡ lineOf f kept → r ≡ over p s tick) → r ≡ over p (heldIn core) tick
+over-in p core tick e o = o (heldIn core) (keptIn core) (ap (λ (x : OpenFrame). lineOf x (keptIn core)) (sym e))

@@ -9,8 +9,8 @@ ghost use Rattle.meaning.specs.Characters.{over};
 ghost use Rattle.meaning.specs.Run as run;
 ghost use Rattle.line.specs.Line.{plateOf};
 ghost use Rattle.state.specs.Queue.{queueOf};
-ghost use Rattle.image.specs.Image.{imageLength, stateIn, heldIn};
-ghost use Rattle.quicksetter.specs.Calls.{plateFrom, possible, dataTo, Called, Unrefused, Servable, ServedIn, ClosedIn, Polls};
+ghost use Rattle.image.specs.Image.{coreLength, stateIn, heldIn};
+ghost use Rattle.quicksetter.specs.Calls.{plateFrom, possible, dataTo, CoreCalled, Unrefused, Servable, ServedIn, ClosedIn, Polls};
 use crate::answer::REFUSED;
 use crate::given::plate_from;
 use image::COUNTER;
@@ -23,38 +23,38 @@ use line::Plate;
 use state::LAST_COUNT;
 use wire::codes::LONGEST_REPLY;
 
-// R1 of the plate and of the image, but for the waiting codes.
-fn is_possible(image: &[u8], total: u32, bits: u32, address: u32, ticks: u32, pause: u32) -> bool
-    ensures { λ r. ⌜ r ≡ possible (plateOf (plateFrom total bits address ticks pause)) (now (image .entry)) ⌝ }
+// R1 of the plate and of the core, but for the waiting codes.
+fn is_possible(core: &[u8], total: u32, bits: u32, address: u32, ticks: u32, pause: u32) -> bool
+    ensures { λ r. ⌜ r ≡ possible (plateOf (plateFrom total bits address ticks pause)) (now (core .entry)) ⌝ }
 {
-    if !image::is_image(image) {
+    if !image::is_core(core) {
         return false;
     }
-    if LAST_COUNT < wire::number_at(image, COUNTER) {
+    if LAST_COUNT < wire::number_at(core, COUNTER) {
         return false;
     }
     let plate = plate_from(total, bits, address, ticks, pause);
     if !plate.is_ok() {
         return false;
     }
-    state::offset_fits(wire::number_at(image, OFFSET), bits)
+    state::offset_fits(wire::number_at(core, OFFSET), bits)
 }
 
 // R1 of the waiting codes; that none waits, as is usual, is told at once.
-fn is_sound(image: &[u8]) -> bool
-    requires { ⌜ imageLength ≤ length (now image) ⌝ }
-    ensures { λ r. ⌜ r ≡ apart (queueOf (stateIn (now (image .entry)) .faults)) ⌝ }
+fn is_sound(core: &[u8]) -> bool
+    requires { ⌜ coreLength ≤ length (now core) ⌝ }
+    ensures { λ r. ⌜ r ≡ apart (queueOf (stateIn (now (core .entry)) .faults)) ⌝ }
 {
-    if wire::number_at(image, WAITING) == 0 {
+    if wire::number_at(core, WAITING) == 0 {
         return true;
     }
-    let state = image::state_in(image);
+    let state = image::state_in(core);
     state.faults.is_sound()
 }
 
-// Whether the image's open frame is over at that tick.
+// Whether the core's open frame is over at that tick.
 fn is_over(
-    image: &[u8],
+    core: &[u8],
     tick: u32,
     total: u32,
     bits: u32,
@@ -62,42 +62,42 @@ fn is_over(
     ticks: u32,
     pause: u32,
 ) -> bool
-    requires { ⌜ imageLength ≤ length (now image) ⌝ }
-    ensures { λ r. ⌜ r ≡ over (plateOf (plateFrom total bits address ticks pause)) (heldIn (now (image .entry))) tick ⌝ }
+    requires { ⌜ coreLength ≤ length (now core) ⌝ }
+    ensures { λ r. ⌜ r ≡ over (plateOf (plateFrom total bits address ticks pause)) (heldIn (now (core .entry))) tick ⌝ }
 {
     let plate = plate_from(total, bits, address, ticks, pause);
-    let frame = image::frame_in(image);
+    let frame = image::frame_in(core);
     frame.is_over(plate, tick)
 }
 
-// A request, worked on the state that the image holds; its bytes end before that place. Only where the state may change are its bytes written.
+// A request, worked on the state that the core holds; its bytes end before that place. Only where the state may change are its bytes written.
 fn served(
-    image: &mut [u8],
+    core: &mut [u8],
     plate: Plate,
     command: u8,
     end: usize,
     memory: &mut [u8],
     room: &mut [u8],
 ) -> usize
-    requires { ⌜ Servable plate command end (now image) (now memory) (now room) ⌝ }
-    ensures { λ r. ⌜ ServedIn (plateOf plate) command (dataTo end (now (image .entry))) (now (image .entry)) (now (memory .entry)) (now (room .entry)) r (now (image .exit)) (now (memory .exit)) (now (room .exit)) ⌝ }
+    requires { ⌜ Servable plate command end (now core) (now memory) (now room) ⌝ }
+    ensures { λ r. ⌜ ServedIn (plateOf plate) command (dataTo end (now (core .entry))) (now (core .entry)) (now (memory .entry)) (now (room .entry)) r (now (core .exit)) (now (memory .exit)) (now (room .exit)) ⌝ }
 {
     if board::leaves_state(command) {
-        let state = image::state_in(image);
-        let request = wire::data_part(&image[KEPT..end]);
+        let state = image::state_in(core);
+        let request = wire::data_part(&core[KEPT..end]);
         return board::ask(plate, state, command, request, memory, room);
     }
-    let state = image::state_in(image);
-    let request = wire::data_part(&image[KEPT..end]);
+    let state = image::state_in(core);
+    let request = wire::data_part(&core[KEPT..end]);
     let closed = board::order(plate, state, command, request, memory, room);
     let next = closed.state;
-    image::put_state(next, image);
+    image::put_state(next, core);
     closed.sent
 }
 
 // The open frame, judged, worked and answered. The number is the reply's length.
 fn answered(
-    image: &mut [u8],
+    core: &mut [u8],
     total: u32,
     bits: u32,
     address: u32,
@@ -106,23 +106,23 @@ fn answered(
     memory: &mut [u8],
     room: &mut [u8],
 ) -> usize
-    requires { ⌜ Unrefused (plateOf (plateFrom total bits address ticks pause)) (now image) (length (now memory)) (length (now room)) ⌝ }
-    ensures { λ r. ⌜ ClosedIn (plateOf (plateFrom total bits address ticks pause)) (now (image .entry)) (now (memory .entry)) (now (room .entry)) r (now (image .exit)) (now (memory .exit)) (now (room .exit)) ⌝ }
+    requires { ⌜ Unrefused (plateOf (plateFrom total bits address ticks pause)) (now core) (length (now memory)) (length (now room)) ⌝ }
+    ensures { λ r. ⌜ ClosedIn (plateOf (plateFrom total bits address ticks pause)) (now (core .entry)) (now (memory .entry)) (now (room .entry)) r (now (core .exit)) (now (memory .exit)) (now (room .exit)) ⌝ }
 {
     let plate = plate_from(total, bits, address, ticks, pause);
-    let frame = image::frame_in(image);
+    let frame = image::frame_in(core);
     let end = KEPT + frame.len as usize;
-    let judgement = frame.judged(line::own_byte(plate), &image[KEPT..end]);
+    let judgement = frame.judged(line::own_byte(plate), &core[KEPT..end]);
     let Judgement::Request(command) = judgement else {
-        let state = image::state_in(image);
+        let state = image::state_in(core);
         return board::refuse(plate, state, judgement.code(), room);
     };
-    served(image, plate, command, end, memory, room)
+    served(core, plate, command, end, memory, room)
 }
 
 // The open frame is over: it is answered and put away.
 fn shut(
-    image: &mut [u8],
+    core: &mut [u8],
     total: u32,
     bits: u32,
     address: u32,
@@ -131,27 +131,27 @@ fn shut(
     memory: &mut [u8],
     room: &mut [u8],
 ) -> usize
-    requires { ⌜ Unrefused (plateOf (plateFrom total bits address ticks pause)) (now image) (length (now memory)) (length (now room)) ⌝ }
-    ensures { λ r. ⌜ ((tick : ℕ) → over (plateOf (plateFrom total bits address ticks pause)) (heldIn (now (image .entry))) tick ≡ true
-        → Polls (plateOf (plateFrom total bits address ticks pause)) (now (image .entry)) (now (memory .entry)) (now (room .entry)) tick r (now (image .exit)) (now (memory .exit)) (now (room .exit))) ⌝ }
+    requires { ⌜ Unrefused (plateOf (plateFrom total bits address ticks pause)) (now core) (length (now memory)) (length (now room)) ⌝ }
+    ensures { λ r. ⌜ ((tick : ℕ) → over (plateOf (plateFrom total bits address ticks pause)) (heldIn (now (core .entry))) tick ≡ true
+        → Polls (plateOf (plateFrom total bits address ticks pause)) (now (core .entry)) (now (memory .entry)) (now (room .entry)) tick r (now (core .exit)) (now (memory .exit)) (now (room .exit))) ⌝ }
 {
-    let sent = answered(image, total, bits, address, ticks, pause, memory, room);
-    image::put_frame(OpenFrame::none(), image);
+    let sent = answered(core, total, bits, address, ticks, pause, memory, room);
+    image::put_frame(OpenFrame::none(), core);
     sent
 }
 
 // What a character finds done by its tick, as a poll would do it.
-fn polled(image: &mut [u8], tick: u32, plate: Plate, memory: &mut [u8], room: &mut [u8]) -> usize
-    requires { ⌜ Unrefused (plateOf plate) (now image) (length (now memory)) (length (now room)) ⌝ }
-    ensures { λ r. ⌜ Polls (plateOf plate) (now (image .entry)) (now (memory .entry)) (now (room .entry)) tick r (now (image .exit)) (now (memory .exit)) (now (room .exit)) ⌝ }
+fn polled(core: &mut [u8], tick: u32, plate: Plate, memory: &mut [u8], room: &mut [u8]) -> usize
+    requires { ⌜ Unrefused (plateOf plate) (now core) (length (now memory)) (length (now room)) ⌝ }
+    ensures { λ r. ⌜ Polls (plateOf plate) (now (core .entry)) (now (memory .entry)) (now (room .entry)) tick r (now (core .exit)) (now (memory .exit)) (now (room .exit)) ⌝ }
 {
     let total = plate.total;
     let bits = plate.bits;
     let address = plate.address;
     let ticks = plate.ticks;
     let pause = plate.pause;
-    if is_over(image, tick, total, bits, address, ticks, pause) {
-        return shut(image, total, bits, address, ticks, pause, memory, room);
+    if is_over(core, tick, total, bits, address, ticks, pause) {
+        return shut(core, total, bits, address, ticks, pause, memory, room);
     }
     0
 }
@@ -164,7 +164,7 @@ fn is_fault(parity: u8) -> bool
 
 #[no_mangle]
 pub extern "C" fn qs_character(
-    image: &mut [u8],
+    core: &mut [u8],
     tick: u32,
     value: u8,
     parity: u8,
@@ -176,12 +176,12 @@ pub extern "C" fn qs_character(
     memory: &mut [u8],
     room: &mut [u8],
 ) -> usize
-    ensures { λ r. ⌜ Called (plateOf (plateFrom total bits address ticks pause)) (now (image .entry)) (now (memory .entry)) (now (room .entry)) (run.character tick value (differ parity 0)) r (now (image .exit)) (now (memory .exit)) (now (room .exit)) ⌝ }
+    ensures { λ r. ⌜ CoreCalled (plateOf (plateFrom total bits address ticks pause)) (now (core .entry)) (now (memory .entry)) (now (room .entry)) (run.character tick value (differ parity 0)) r (now (core .exit)) (now (memory .exit)) (now (room .exit)) ⌝ }
 {
-    if !is_possible(image, total, bits, address, ticks, pause) {
+    if !is_possible(core, total, bits, address, ticks, pause) {
         return REFUSED + 1;
     }
-    if !is_sound(image) {
+    if !is_sound(core) {
         return REFUSED + 1;
     }
     let plate = plate_from(total, bits, address, ticks, pause);
@@ -191,14 +191,14 @@ pub extern "C" fn qs_character(
     if room.len() < LONGEST_REPLY {
         return REFUSED + 3;
     }
-    let sent = polled(image, tick, plate, memory, room);
-    image::take_character(tick, value, is_fault(parity), image);
+    let sent = polled(core, tick, plate, memory, room);
+    image::take_character(tick, value, is_fault(parity), core);
     sent
 }
 
 #[no_mangle]
 pub extern "C" fn qs_poll(
-    image: &mut [u8],
+    core: &mut [u8],
     tick: u32,
     total: u32,
     bits: u32,
@@ -208,12 +208,12 @@ pub extern "C" fn qs_poll(
     memory: &mut [u8],
     room: &mut [u8],
 ) -> usize
-    ensures { λ r. ⌜ Called (plateOf (plateFrom total bits address ticks pause)) (now (image .entry)) (now (memory .entry)) (now (room .entry)) (run.poll tick) r (now (image .exit)) (now (memory .exit)) (now (room .exit)) ⌝ }
+    ensures { λ r. ⌜ CoreCalled (plateOf (plateFrom total bits address ticks pause)) (now (core .entry)) (now (memory .entry)) (now (room .entry)) (run.poll tick) r (now (core .exit)) (now (memory .exit)) (now (room .exit)) ⌝ }
 {
-    if !is_possible(image, total, bits, address, ticks, pause) {
+    if !is_possible(core, total, bits, address, ticks, pause) {
         return REFUSED + 1;
     }
-    if !is_sound(image) {
+    if !is_sound(core) {
         return REFUSED + 1;
     }
     let plate = plate_from(total, bits, address, ticks, pause);
@@ -223,8 +223,8 @@ pub extern "C" fn qs_poll(
     if room.len() < LONGEST_REPLY {
         return REFUSED + 3;
     }
-    if is_over(image, tick, total, bits, address, ticks, pause) {
-        return shut(image, total, bits, address, ticks, pause, memory, room);
+    if is_over(core, tick, total, bits, address, ticks, pause) {
+        return shut(core, total, bits, address, ticks, pause, memory, room);
     }
     0
 }

@@ -1,4 +1,4 @@
-// A fresh image; a measured position, a fault code and power-on (01, "Fresh state", "Faults").
+// A fresh core; a measured position, a fault code and power-on (01, "Fresh state", "Faults").
 ghost use mathlib.Core.Path.{_≡_};
 ghost use mathlib.Core.List.{List};
 ghost use Prim.Native.Nat.{ℕ};
@@ -7,7 +7,7 @@ ghost use Rattle.meaning.specs.Bytes.{longestRequest};
 ghost use Rattle.meaning.specs.Run as run;
 ghost use Rattle.line.specs.Line.{plateOf};
 ghost use Rattle.board.specs.Board.{Steps};
-ghost use Rattle.quicksetter.specs.Calls.{plateFrom, callFor, Called, Freshens};
+ghost use Rattle.quicksetter.specs.Calls.{plateFrom, callFor, CoreCalled, Freshens};
 use crate::answer::REFUSED;
 use crate::answer::finish;
 use crate::given::board_in;
@@ -21,7 +21,7 @@ use line::Plate;
 use state::State;
 use wire::codes::LONGEST_REQUEST;
 
-// Every byte of the image is written, so what stood there before does not matter.
+// Every byte of the core is written, so what stood there before does not matter.
 #[no_mangle]
 pub extern "C" fn qs_fresh(
     total: u32,
@@ -29,20 +29,20 @@ pub extern "C" fn qs_fresh(
     address: u32,
     ticks: u32,
     pause: u32,
-    image: &mut [u8],
+    core: &mut [u8],
 ) -> usize
-    ensures { λ r. ⌜ Freshens (plateOf (plateFrom total bits address ticks pause)) (now (image .entry)) r (now (image .exit)) ⌝ }
+    ensures { λ r. ⌜ Freshens (plateOf (plateFrom total bits address ticks pause)) (now (core .entry)) r (now (core .exit)) ⌝ }
 {
     let plate = plate_from(total, bits, address, ticks, pause);
     if !plate.is_ok() {
         return REFUSED + 1;
     }
-    if image.len() != LENGTH {
+    if core.len() != LENGTH {
         return REFUSED + 1;
     }
     let places = [0u8; LONGEST_REQUEST];
-    wire::fill(&places, &mut image[KEPT..LENGTH]);
-    image::put_board(State::fresh(), OpenFrame::none(), image);
+    wire::fill(&places, &mut core[KEPT..LENGTH]);
+    image::put_board(State::fresh(), OpenFrame::none(), core);
     0
 }
 
@@ -63,19 +63,19 @@ fn told(plate: Plate, board: Board, note: Note) -> Stepped
     }
 }
 
-// The image's board is told, and goes back to its image.
-fn tell(plate: Plate, note: Note, image: &mut [u8]) -> usize
-    ensures { λ r. ⌜ ((m w : List ℕ) → Called (plateOf plate) (now (image .entry)) m w (callFor note) r (now (image .exit)) m w) ⌝ }
+// The core's board is told, and goes back to its core.
+fn tell(plate: Plate, note: Note, core: &mut [u8]) -> usize
+    ensures { λ r. ⌜ ((m w : List ℕ) → CoreCalled (plateOf plate) (now (core .entry)) m w (callFor note) r (now (core .exit)) m w) ⌝ }
 {
-    if !image::is_image(image) {
+    if !image::is_core(core) {
         return REFUSED + 1;
     }
-    finish(told(plate, board_in(image), note), image)
+    finish(told(plate, board_in(core), note), core)
 }
 
 #[no_mangle]
 pub extern "C" fn qs_measured(
-    image: &mut [u8],
+    core: &mut [u8],
     position: u32,
     total: u32,
     bits: u32,
@@ -83,15 +83,15 @@ pub extern "C" fn qs_measured(
     ticks: u32,
     pause: u32,
 ) -> usize
-    ensures { λ r. ⌜ ((m w : List ℕ) → Called (plateOf (plateFrom total bits address ticks pause)) (now (image .entry)) m w (run.measured position) r (now (image .exit)) m w) ⌝ }
+    ensures { λ r. ⌜ ((m w : List ℕ) → CoreCalled (plateOf (plateFrom total bits address ticks pause)) (now (core .entry)) m w (run.measured position) r (now (core .exit)) m w) ⌝ }
 {
     let plate = plate_from(total, bits, address, ticks, pause);
-    tell(plate, Note::Measured(position), image)
+    tell(plate, Note::Measured(position), core)
 }
 
 #[no_mangle]
 pub extern "C" fn qs_fault(
-    image: &mut [u8],
+    core: &mut [u8],
     code: u8,
     total: u32,
     bits: u32,
@@ -99,23 +99,23 @@ pub extern "C" fn qs_fault(
     ticks: u32,
     pause: u32,
 ) -> usize
-    ensures { λ r. ⌜ ((m w : List ℕ) → Called (plateOf (plateFrom total bits address ticks pause)) (now (image .entry)) m w (run.fault code) r (now (image .exit)) m w) ⌝ }
+    ensures { λ r. ⌜ ((m w : List ℕ) → CoreCalled (plateOf (plateFrom total bits address ticks pause)) (now (core .entry)) m w (run.fault code) r (now (core .exit)) m w) ⌝ }
 {
     let plate = plate_from(total, bits, address, ticks, pause);
-    tell(plate, Note::Fault(code), image)
+    tell(plate, Note::Fault(code), core)
 }
 
 #[no_mangle]
 pub extern "C" fn qs_power_on(
-    image: &mut [u8],
+    core: &mut [u8],
     total: u32,
     bits: u32,
     address: u32,
     ticks: u32,
     pause: u32,
 ) -> usize
-    ensures { λ r. ⌜ ((m w : List ℕ) → Called (plateOf (plateFrom total bits address ticks pause)) (now (image .entry)) m w run.power-on r (now (image .exit)) m w) ⌝ }
+    ensures { λ r. ⌜ ((m w : List ℕ) → CoreCalled (plateOf (plateFrom total bits address ticks pause)) (now (core .entry)) m w run.power-on r (now (core .exit)) m w) ⌝ }
 {
     let plate = plate_from(total, bits, address, ticks, pause);
-    tell(plate, Note::PowerOn, image)
+    tell(plate, Note::PowerOn, core)
 }

@@ -24,7 +24,7 @@ pub struct Oldest {
 }
 
 impl Faults {
-    pub(crate) fn none() -> Faults
+    pub fn none() -> Faults
         ensures { λ r. ⌜ r ≡ noFaults ⌝ }
     {
         Faults {

@@ -25,7 +25,7 @@ part-with-character-end c = search needs
 with-character-requires : tie.Need-with-character-requires
 with-character-requires c κs =
     let start = c .before .before .before in
-    nothing-fits (now (start .args .image)) (start .pre) (c .before .none .ensures)
+    nothing-fits (now (start .args .core)) (start .pre) (c .before .none .ensures)
 
 put-frame-requires : tie.Need-put-frame-requires
 put-frame-requires c κs = search needs
@@ -39,7 +39,7 @@ returns c =
     let after-with-character = after-put-frame .before .before .before .before in
     let after-none = after-with-character .before .before in
     let start = after-none .before .before in
-    begins (now (start .args .image)) _ _ _ (start .pre) (after-none .none .ensures) (after-with-character .with-character .ensures) (after-put-frame .put-frame .ensures)
+    begins (now (start .args .core)) _ _ _ (start .pre) (after-none .none .ensures) (after-with-character .with-character .ensures) (after-put-frame .put-frame .ensures)
 
 pub begin-spec : {M : Type 1} → statement M
 begin-spec =

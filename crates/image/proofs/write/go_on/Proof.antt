@@ -13,8 +13,8 @@ use Rattle.image.proofs.write.go_on.Lts as lts
 use Rattle.image.proofs.write.flag_byte.Reads as flag-byte-reads
 use Rattle.image.proofs.write.put_stamp.Reads as put-stamp-reads
 
-long : (c : tie.Start) → length (now (c .args .image)) ≡ 165
-long c = (good (now (c .args .image)) (c .pre .image)) .all
+long : (c : tie.Start) → length (now (c .args .core)) ≡ 165
+long c = (good (now (c .args .core)) (c .pre .bytes)) .all
 
 slice-read-count : tie.Need-slice-read-count
 slice-read-count c = omega (arith, long (c .before .before))
@@ -46,22 +46,22 @@ cast-at c = search needs
 add-at : tie.Need-add-at
 add-at c = search needs
 
-slice-write-image : tie.Need-slice-write-image
-slice-write-image c =
+slice-write-core : tie.Need-slice-write-core
+slice-write-core c =
     let after-put-stamp = c .before .before .before in
     let after-flag-byte = after-put-stamp .before .before in
     let start = after-flag-byte .before .before .before .before .before in
-    omega (arith, c .if1 .taken, stamped-length (now (start .args .image)) (start .pre) _ _ _ (search needs) (after-flag-byte .flag-byte .ensures) (after-put-stamp .put-stamp .ensures))
+    omega (arith, c .if1 .taken, stamped-length (now (start .args .core)) (start .pre) _ _ _ (search needs) (after-flag-byte .flag-byte .ensures) (after-put-stamp .put-stamp .ensures))
 
-add-image : tie.Need-add-image
-add-image c = search needs
+add-core : tie.Need-add-core
+add-core c = search needs
 
-slice-write-image-2 : tie.Need-slice-write-image-2
-slice-write-image-2 c =
+slice-write-core-2 : tie.Need-slice-write-core-2
+slice-write-core-2 c =
     let after-put-stamp = c .before .before .before in
     let after-flag-byte = after-put-stamp .before .before in
     let start = after-flag-byte .before .before .before .before .before in
-    simp length-set (omega (arith, stamped-length (now (start .args .image)) (start .pre) _ _ _ (search needs) (after-flag-byte .flag-byte .ensures) (after-put-stamp .put-stamp .ensures)))
+    simp length-set (omega (arith, stamped-length (now (start .args .core)) (start .pre) _ _ _ (search needs) (after-flag-byte .flag-byte .ensures) (after-put-stamp .put-stamp .ensures)))
 
 same-length : tie.Need-same-length
 same-length c = search needs
@@ -71,14 +71,14 @@ returns c =
     let after-put-stamp = c .before .before .before in
     let after-flag-byte = after-put-stamp .before .before in
     let start = after-flag-byte .before .before .before .before .before in
-    goes-on (now (start .args .image)) (start .pre) _ _ _ (search needs) (after-flag-byte .flag-byte .ensures) (after-put-stamp .put-stamp .ensures) (c .if1 .taken)
+    goes-on (now (start .args .core)) (start .pre) _ _ _ (search needs) (after-flag-byte .flag-byte .ensures) (after-put-stamp .put-stamp .ensures) (c .if1 .taken)
 
-slice-write-image-3 : tie.Need-slice-write-image-3
-slice-write-image-3 c =
+slice-write-core-3 : tie.Need-slice-write-core-3
+slice-write-core-3 c =
     let after-put-stamp = c .before .before .before in
     let after-flag-byte = after-put-stamp .before .before in
     let start = after-flag-byte .before .before .before .before .before in
-    omega (arith, stamped-length (now (start .args .image)) (start .pre) _ _ _ (search needs) (after-flag-byte .flag-byte .ensures) (after-put-stamp .put-stamp .ensures))
+    omega (arith, stamped-length (now (start .args .core)) (start .pre) _ _ _ (search needs) (after-flag-byte .flag-byte .ensures) (after-put-stamp .put-stamp .ensures))
 
 same-length-2 : tie.Need-same-length-2
 same-length-2 c = search needs
@@ -88,7 +88,7 @@ returns-2 c =
     let after-put-stamp = c .before .before .before in
     let after-flag-byte = after-put-stamp .before .before in
     let start = after-flag-byte .before .before .before .before .before in
-    goes-past (now (start .args .image)) (start .pre) _ _ _ (search needs) (after-flag-byte .flag-byte .ensures) (after-put-stamp .put-stamp .ensures) (c .if1 .left)
+    goes-past (now (start .args .core)) (start .pre) _ _ _ (search needs) (after-flag-byte .flag-byte .ensures) (after-put-stamp .put-stamp .ensures) (c .if1 .left)
 
 pub go-on-spec : {M : Type 1} → statement M
 go-on-spec =
@@ -102,11 +102,11 @@ go-on-spec =
     cast-if1
     cast-at
     add-at
-    slice-write-image
-    add-image
-    slice-write-image-2
+    slice-write-core
+    add-core
+    slice-write-core-2
     same-length
     returns
-    slice-write-image-3
+    slice-write-core-3
     same-length-2
     returns-2)

@@ -52,7 +52,7 @@ returns c =
     let after-flag-byte2 = after-flag-byte3 .before in
     let after-flag-byte = after-flag-byte2 .before in
     let start = after-flag-byte .before .before in
-    puts-frame _ (now (start .args .image)) (start .pre) (stamp (start)) (after-flag-byte .flag-byte .ensures) (after-flag-byte2 .flag-byte2 .ensures) (after-flag-byte3 .flag-byte3 .ensures) (after-frame-row .frame-row .ensures) (after-fill .fill .ensures)
+    puts-frame _ (now (start .args .core)) (start .pre) (stamp (start)) (after-flag-byte .flag-byte .ensures) (after-flag-byte2 .flag-byte2 .ensures) (after-flag-byte3 .flag-byte3 .ensures) (after-frame-row .frame-row .ensures) (after-fill .fill .ensures)
 
 pub put-frame-spec : {M : Type 1} → statement M
 put-frame-spec =

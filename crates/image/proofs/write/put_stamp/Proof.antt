@@ -48,7 +48,7 @@ returns c =
     let after-fill = c .before .before in
     let after-bytes-of = after-fill .before .before .before in
     let start = after-bytes-of .before .before in
-    part-filled (now (start .args .image)) 23 6 _ (search needs) refl (rw (after-bytes-of .bytes-of .ensures) at (after-fill .fill .ensures))
+    part-filled (now (start .args .core)) 23 6 _ (search needs) refl (rw (after-bytes-of .bytes-of .ensures) at (after-fill .fill .ensures))
 
 pub put-stamp-spec : {M : Type 1} → statement M
 put-stamp-spec =

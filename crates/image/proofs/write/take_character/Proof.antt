@@ -13,8 +13,8 @@ use Rattle.image.proofs.write.take_character.Lts as lts
 use Rattle.image.proofs.write.begin.Reads as begin-reads
 use Rattle.image.proofs.write.go_on.Reads as go-on-reads
 
-long : (c : tie.Start) → length (now (c .args .image)) ≡ 165
-long c = (good (now (c .args .image)) (c .pre)) .all
+long : (c : tie.Start) → length (now (c .args .core)) ≡ 165
+long c = (good (now (c .args .core)) (c .pre)) .all
 
 slice-read-if1 : tie.Need-slice-read-if1
 slice-read-if1 c = omega (arith, long (c .before .before))

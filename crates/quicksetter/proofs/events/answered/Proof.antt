@@ -29,7 +29,7 @@ plate-from-requires c κs = search needs
 frame-in-requires : tie.Need-frame-in-requires
 frame-in-requires c κs =
     let start = c .before .before .before .before .before in
-    omega (arith, good _ (start .pre .image) .all)
+    omega (arith, good _ (start .pre .bytes) .all)
 
 cast-end : tie.Need-cast-end
 cast-end c = search needs
@@ -41,7 +41,7 @@ own-byte-requires : tie.Need-own-byte-requires
 own-byte-requires c κs =
     let after-plate-from = c .before .before .before in
     let start = after-plate-from .before .before .before .before in
-    rw (after-plate-from .plate-from .ensures) (low-own (plateFrom (start .args .total) (start .args .bits) (start .args .address) (start .args .ticks) (start .args .pause)) (now (start .args .image)) (now (start .args .memory)) (now (start .args .room)) (start .pre))
+    rw (after-plate-from .plate-from .ensures) (low-own (plateFrom (start .args .total) (start .args .bits) (start .args .address) (start .args .ticks) (start .args .pause)) (now (start .args .core)) (now (start .args .memory)) (now (start .args .room)) (start .pre))
 
 sub-judged : tie.Need-sub-judged
 sub-judged c = search needs
@@ -55,9 +55,9 @@ part-judged-end c =
     let start = after-frame-in .before .before .before .before .before .before in
     omega (
       arith,
-      at-most (plateFrom (start .args .total) (start .args .bits) (start .args .address) (start .args .ticks) (start .args .pause)) (now (start .args .image)) (now (start .args .memory)) (now (start .args .room)) (start .pre)
+      at-most (plateFrom (start .args .total) (start .args .bits) (start .args .address) (start .args .ticks) (start .args .pause)) (now (start .args .core)) (now (start .args .memory)) (now (start .args .room)) (start .pre)
           (after-frame-in .frame-in .ensures),
-      good _ (start .pre .image) .all,
+      good _ (start .pre .bytes) .all,
     )
 
 judged-requires : tie.Need-judged-requires
@@ -69,7 +69,7 @@ enum-known-judgement c = search needs
 state-in-requires : tie.Need-state-in-requires
 state-in-requires c κs =
     let start = c .before .before .before .before .before .before .before .before .before .before .before .before .before in
-    omega (arith, good _ (start .pre .image) .all)
+    omega (arith, good _ (start .pre .bytes) .all)
 
 code-requires : tie.Need-code-requires
 code-requires c κs = search needs
@@ -78,7 +78,7 @@ refuse-requires : tie.Need-refuse-requires
 refuse-requires c κs =
     let after-plate-from = c .before .before .before .before .before .before .before .before .before .before .before .before in
     let start = after-plate-from .before .before .before .before in
-    rw (after-plate-from .plate-from .ensures) (may-answer (plateFrom (start .args .total) (start .args .bits) (start .args .address) (start .args .ticks) (start .args .pause)) (now (start .args .image)) (now (start .args .memory)) (now (start .args .room)) (start .pre))
+    rw (after-plate-from .plate-from .ensures) (may-answer (plateFrom (start .args .total) (start .args .bits) (start .args .address) (start .args .ticks) (start .args .pause)) (now (start .args .core)) (now (start .args .memory)) (now (start .args .room)) (start .pre))
 
 same-length : tie.Need-same-length
 same-length c = search needs
@@ -98,9 +98,9 @@ returns c =
     let after-plate-from = after-frame-in .before .before in
     let after-slice-known = after-plate-from .before .before .before in
     let start = after-slice-known .before in
-    refused-in (plateFrom (start .args .total) (start .args .bits) (start .args .address) (start .args .ticks) (start .args .pause)) (now (start .args .image)) (now (start .args .memory)) (now (start .args .room)) (start .pre)
+    refused-in (plateFrom (start .args .total) (start .args .bits) (start .args .address) (start .args .ticks) (start .args .pause)) (now (start .args .core)) (now (start .args .memory)) (now (start .args .room)) (start .pre)
     (after-frame-in .frame-in .ensures) (after-judged .judged .result) _ (λ i. (after-slice-known .slice-known .given i) .fits)
-    (rw (after-plate-from .plate-from .ensures) at (after-own-byte .own-byte .ensures (stateWith (stateIn (now (start .args .image))) none))) (sym (after-judged .judged .ensures))
+    (rw (after-plate-from .plate-from .ensures) at (after-own-byte .own-byte .ensures (stateWith (stateIn (now (start .args .core))) none))) (sym (after-judged .judged .ensures))
     (no-request (after-judged .judged .result) (at-match-keys2 .match .keys2)) (rw (after-plate-from .plate-from .ensures, after-state-in .state-in .ensures, after-code .code .ensures) at (after-refuse .refuse .ensures))
 
 served-requires : tie.Need-served-requires
@@ -110,7 +110,7 @@ served-requires c κs =
     let after-frame-in = after-judged .before .before .before .before .before in
     let after-plate-from = after-frame-in .before .before in
     let start = after-plate-from .before .before .before .before in
-    rw (after-plate-from .plate-from .ensures) (servable (plateFrom (start .args .total) (start .args .bits) (start .args .address) (start .args .ticks) (start .args .pause)) (now (start .args .image)) (now (start .args .memory))
+    rw (after-plate-from .plate-from .ensures) (servable (plateFrom (start .args .total) (start .args .bits) (start .args .address) (start .args .ticks) (start .args .pause)) (now (start .args .core)) (now (start .args .memory))
     (now (start .args .room)) (start .pre) (after-frame-in .frame-in .ensures) _ (sym (after-judged .judged .ensures) ∙ after-judgement .judgement .given .1))
 
 same-length-3 : tie.Need-same-length-3
@@ -131,9 +131,9 @@ returns-2 c =
     let after-frame-in = after-own-byte .before .before in
     let after-plate-from = after-frame-in .before .before in
     let start = after-plate-from .before .before .before .before in
-    request-in (plateFrom (start .args .total) (start .args .bits) (start .args .address) (start .args .ticks) (start .args .pause)) (now (start .args .image)) (now (start .args .memory)) (now (start .args .room)) (start .pre)
+    request-in (plateFrom (start .args .total) (start .args .bits) (start .args .address) (start .args .ticks) (start .args .pause)) (now (start .args .core)) (now (start .args .memory)) (now (start .args .room)) (start .pre)
     (after-frame-in .frame-in .ensures) _ (sym (after-judged .judged .ensures) ∙ after-judgement .judgement .given .1)
-    (rw (after-plate-from .plate-from .ensures) at (after-own-byte .own-byte .ensures (stateWith (stateIn (now (start .args .image))) none))) (rw (after-plate-from .plate-from .ensures) at (after-served .served .ensures))
+    (rw (after-plate-from .plate-from .ensures) at (after-own-byte .own-byte .ensures (stateWith (stateIn (now (start .args .core))) none))) (rw (after-plate-from .plate-from .ensures) at (after-served .served .ensures))
 
 pub answered-spec : {M : Type 1} → statement M
 answered-spec =

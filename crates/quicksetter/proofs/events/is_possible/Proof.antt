@@ -4,7 +4,7 @@ use mathlib.Core.Bool.{true}
 use native.Mathlib.Omega.{arith}
 use denote.Ref.{now}
 use borrow.Author.Tests.{lt-leb, le-leb, not-true, not-false}
-use Rattle.image.specs.Image.{isImage}
+use Rattle.image.specs.Image.{isCore}
 use Rattle.image.proofs.Round.{good}
 use Rattle.quicksetter.specs.Calls.{possible}
 use borrow.Author.Needs.{needs}
@@ -12,7 +12,7 @@ use Rattle.quicksetter.proofs.events.is_possible.Statement.{statement}
 use Rattle.quicksetter.proofs.events.is_possible.Tie as tie
 use Rattle.quicksetter.proofs.events.is_possible.Reads as reads
 use Rattle.quicksetter.proofs.events.is_possible.Lts as lts
-use Rattle.image.proofs.is_image.Reads as is-image-reads
+use Rattle.image.proofs.is_core.Reads as is-core-reads
 use Rattle.line.proofs.plate.Plate.is_ok.Reads as is-ok-reads
 use Rattle.quicksetter.proofs.given.plate_from.Reads as plate-from-reads
 use Rattle.state.proofs.offset_fits.Reads as offset-fits-reads
@@ -24,15 +24,15 @@ entry c =
     let start = c .before .before .before in
     start
 
-fine : (c : tie.Else1) → isImage (now (entry c .args .image)) ≡ true
-fine c = sym (c .before .is-image .ensures) ∙ not-false _ (c .if1 .left)
+fine : (c : tie.Else1) → isCore (now (entry c .args .core)) ≡ true
+fine c = sym (c .before .is-core .ensures) ∙ not-false _ (c .if1 .left)
 
-is-image-requires : tie.Need-is-image-requires
-is-image-requires c κs = search needs
+is-core-requires : tie.Need-is-core-requires
+is-core-requires c κs = search needs
 
 returns : tie.Need-returns
 unfolding possible
-returns c = simp (sym (c .before .is-image .ensures) ∙ not-true _ (c .if1 .taken))
+returns c = simp (sym (c .before .is-core .ensures) ∙ not-true _ (c .if1 .taken))
 
 number-at-requires : tie.Need-number-at-requires
 number-at-requires c κs = omega (arith, good _ (fine c) .all)
@@ -87,7 +87,7 @@ pub is-possible-spec : {M : Type 1} → statement M
 is-possible-spec =
     tie.close
     (tie.spec
-    is-image-requires
+    is-core-requires
     returns
     number-at-requires
     returns-2

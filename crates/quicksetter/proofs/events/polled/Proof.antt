@@ -15,7 +15,7 @@ use Rattle.quicksetter.proofs.events.shut.Reads as shut-reads
 is-over-requires : tie.Need-is-over-requires
 is-over-requires c κs =
     let start = c .before .before .before .before in
-    omega (arith, good _ (start .pre .image) .all)
+    omega (arith, good _ (start .pre .bytes) .all)
 
 shut-requires : tie.Need-shut-requires
 shut-requires c κs = search needs
@@ -43,7 +43,7 @@ returns-2 : tie.Need-returns-2
 returns-2 c =
     let after-slice-known = c .before .before .before .before .before in
     let start = after-slice-known .before in
-    nothing-over _ (now (start .args .image)) _ _ (start .pre) _ (λ i. (after-slice-known .slice-known .given i) .fits) (sym (c .before .is-over .ensures) ∙ c .if1 .left)
+    nothing-over _ (now (start .args .core)) _ _ (start .pre) _ (λ i. (after-slice-known .slice-known .given i) .fits) (sym (c .before .is-over .ensures) ∙ c .if1 .left)
 
 pub polled-spec : {M : Type 1} → statement M
 polled-spec =

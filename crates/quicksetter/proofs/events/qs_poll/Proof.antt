@@ -13,7 +13,7 @@ use Rattle.state.specs.Queue.{queueOf}
 use Rattle.image.specs.Image.{stateIn}
 use Rattle.image.proofs.Round.{good}
 use Rattle.quicksetter.specs.Calls.{plateFrom, possible, Unrefused}
-use Rattle.quicksetter.proofs.Refusing.{an-image, lends-poll, impossible, unsound, other-size, too-narrow, unrefused}
+use Rattle.quicksetter.proofs.Refusing.{a-core, lends-poll, impossible, unsound, other-size, too-narrow, unrefused}
 use Rattle.quicksetter.proofs.Closing.{nothing-over}
 use borrow.Author.Needs.{needs}
 use Rattle.quicksetter.proofs.events.qs_poll.Statement.{statement}
@@ -52,10 +52,10 @@ entry4 c =
 abbrev plate-at : tie.Start → Plate
 plate-at s = plateOf (plateFrom (s .args .total) (s .args .bits) (s .args .address) (s .args .ticks) (s .args .pause))
 
-can : (c : tie.Else1) → possible (plate-at (entry1 c)) (now (entry1 c .args .image)) ≡ true
+can : (c : tie.Else1) → possible (plate-at (entry1 c)) (now (entry1 c .args .core)) ≡ true
 can c = sym (c .before .is-possible .ensures) ∙ not-false _ (c .if1 .left)
 
-sound : (c : tie.Else2) → apart (queueOf (stateIn (now (entry2 c .args .image)) .faults)) ≡ true
+sound : (c : tie.Else2) → apart (queueOf (stateIn (now (entry2 c .args .core)) .faults)) ≡ true
 sound c = sym (c .before .is-sound .ensures) ∙ not-false _ (c .if2 .left)
 
 sized : (c : tie.Else3) → length (now (entry3 c .args .memory)) ≡ memoryLength (entry3 c .args .total)
@@ -63,7 +63,7 @@ sized c =
     let after-plate-from = c .before .before in
     c .if3 .left ∙ rw (after-plate-from .plate-from .ensures) at (c .before .memory-length .ensures)
 
-passed : (c : tie.Else4) → Unrefused (plate-at (entry4 c)) (now (entry4 c .args .image)) (length (now (entry4 c .args .memory))) (length (now (entry4 c .args .room)))
+passed : (c : tie.Else4) → Unrefused (plate-at (entry4 c)) (now (entry4 c .args .core)) (length (now (entry4 c .args .memory))) (length (now (entry4 c .args .room)))
 passed c =
     let after-else2 = c .before .before .before .before in
     let after-else1 = after-else2 .before .before .before in
@@ -83,7 +83,7 @@ returns : tie.Need-returns
 returns c = impossible _ _ _ _ _ (sym (c .before .is-possible .ensures) ∙ not-true _ (c .if1 .taken))
 
 is-sound-requires : tie.Need-is-sound-requires
-is-sound-requires c κs = omega (arith, good _ (an-image _ _ (can (c .before))) .all)
+is-sound-requires c κs = omega (arith, good _ (a-core _ _ (can (c .before))) .all)
 
 add-result-2 : tie.Need-add-result-2
 add-result-2 c = search needs
@@ -130,7 +130,7 @@ returns-4 c =
 is-over-requires : tie.Need-is-over-requires
 is-over-requires c κs =
     let after-else1 = c .before .before .before .before .before .before .before .before in
-    omega (arith, good _ (an-image _ _ (can after-else1)) .all)
+    omega (arith, good _ (a-core _ _ (can after-else1)) .all)
 
 shut-requires : tie.Need-shut-requires
 shut-requires c κs =
@@ -161,7 +161,7 @@ returns-6 c =
     let after-else4 = c .before .before .before in
     let after-slice-known = after-else4 .before .before .before .before .before .before .before .before .before .before .before .before in
     let start = after-slice-known .before in
-    (nothing-over _ (now (start .args .image)) _ _ (passed after-else4) _ (λ i. (after-slice-known .slice-known .given i) .fits) (sym (c .before .is-over .ensures) ∙ c .if5 .left)) .called
+    (nothing-over _ (now (start .args .core)) _ _ (passed after-else4) _ (λ i. (after-slice-known .slice-known .given i) .fits) (sym (c .before .is-over .ensures) ∙ c .if5 .left)) .called
 
 pub qs-poll-spec : {M : Type 1} → statement M
 qs-poll-spec =

@@ -22,7 +22,7 @@ leaves-state-requires c κs = search needs
 state-in-requires : tie.Need-state-in-requires
 state-in-requires c κs =
     let start = c .before .before .before .before .before .before in
-    omega (arith, good _ (start .pre .image) .all)
+    omega (arith, good _ (start .pre .bytes) .all)
 
 sub-data-part : tie.Need-sub-data-part
 sub-data-part c = search needs
@@ -33,7 +33,7 @@ part-data-part-start c = search needs
 part-data-part-end : tie.Need-part-data-part-end
 part-data-part-end c =
     let start = c .before .before .before .before .before .before .before .before in
-    omega (arith, start .pre .ends, good _ (start .pre .image) .all)
+    omega (arith, start .pre .ends, good _ (start .pre .bytes) .all)
 
 data-part-requires : tie.Need-data-part-requires
 data-part-requires c κs = search needs
@@ -63,12 +63,12 @@ returns c =
     let after-state-in = after-data-part .before .before .before in
     let after-slice-known = after-state-in .before .before .before .before .before .before in
     let start = after-slice-known .before in
-    asked-in _ _ _ (now (start .args .image)) _ _ (start .pre .image) (λ i. (after-slice-known .slice-known .given i) .fits) (rw (after-state-in .state-in .ensures, after-data-part .data-part .ensures .0) at (after-ask .ask .ensures))
+    asked-in _ _ _ (now (start .args .core)) _ _ (start .pre .bytes) (λ i. (after-slice-known .slice-known .given i) .fits) (rw (after-state-in .state-in .ensures, after-data-part .data-part .ensures .0) at (after-ask .ask .ensures))
 
 state-in-requires-2 : tie.Need-state-in-requires-2
 state-in-requires-2 c κs =
     let start = c .before .before .before .before .before .before in
-    omega (arith, good _ (start .pre .image) .all)
+    omega (arith, good _ (start .pre .bytes) .all)
 
 sub-data-part-2 : tie.Need-sub-data-part-2
 sub-data-part-2 c = search needs
@@ -79,7 +79,7 @@ part-data-part-start-2 c = search needs
 part-data-part-end-2 : tie.Need-part-data-part-end-2
 part-data-part-end-2 c =
     let start = c .before .before .before .before .before .before .before .before in
-    omega (arith, start .pre .ends, good _ (start .pre .image) .all)
+    omega (arith, start .pre .ends, good _ (start .pre .bytes) .all)
 
 data-part-requires-2 : tie.Need-data-part-requires-2
 data-part-requires-2 c κs = search needs
@@ -96,7 +96,7 @@ order-requires c κs =
 put-state-requires : tie.Need-put-state-requires
 put-state-requires c κs =
     let start = c .before .before .before .before .before .before .before .before .before .before .before .before .before .before .before .before .before in
-    omega (arith, good _ (start .pre .image) .all)
+    omega (arith, good _ (start .pre .bytes) .all)
 
 same-length-4 : tie.Need-same-length-4
 same-length-4 c = search needs
@@ -114,7 +114,7 @@ returns-2 c =
     let after-data-part2 = after-order .before .before .before in
     let after-state-in2 = after-data-part2 .before .before .before in
     let start = after-state-in2 .before .before .before .before .before .before .before in
-    ordered-in _ _ _ (now (start .args .image)) _ _ (rw (after-state-in2 .state-in2 .ensures, after-data-part2 .data-part2 .ensures .0) at (after-order .order .ensures)) (after-put-state .put-state .ensures)
+    ordered-in _ _ _ (now (start .args .core)) _ _ (rw (after-state-in2 .state-in2 .ensures, after-data-part2 .data-part2 .ensures .0) at (after-order .order .ensures)) (after-put-state .put-state .ensures)
 
 pub served-spec : {M : Type 1} → statement M
 served-spec =

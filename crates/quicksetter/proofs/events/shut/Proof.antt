@@ -22,7 +22,7 @@ put-frame-requires : tie.Need-put-frame-requires
 put-frame-requires c κs =
     let after-answered = c .before .before .before .before .before .before .before .before in
     let start = after-answered .before .before .before .before .before .before .before in
-    omega (arith, as-long (now (start .args .image)) ((good _ (start .pre .image)) .all) (after-answered .answered .ensures .state))
+    omega (arith, as-long (now (start .args .core)) ((good _ (start .pre .bytes)) .all) (after-answered .answered .ensures .state))
 
 same-length : tie.Need-same-length
 same-length c = search needs
@@ -39,7 +39,7 @@ returns c =
     let after-none = after-put-frame .before .before in
     let after-answered = after-none .before .before .before .before .before .before .before in
     let start = after-answered .before .before .before .before .before .before .before in
-    λ tick o. put-away _ (now (start .args .image)) _ _ (start .pre) tick o (after-none .none .ensures) (after-answered .answered .ensures) (after-put-frame .put-frame .ensures)
+    λ tick o. put-away _ (now (start .args .core)) _ _ (start .pre) tick o (after-none .none .ensures) (after-answered .answered .ensures) (after-put-frame .put-frame .ensures)
 
 pub shut-spec : {M : Type 1} → statement M
 shut-spec =

@@ -76,7 +76,7 @@ returns-3 c =
     let after-is-ok = after-else1 .before in
     let after-plate-from = after-is-ok .before in
     let start = after-plate-from .before .before in
-    freshened _ (now (start .args .image)) (sym (rw (after-plate-from .plate-from .ensures) at (after-is-ok .is-ok .ensures)) ∙ not-false _ (after-else1 .if1 .left)) (after-else2 .if2 .left) (after-fill .fill .ensures)
+    freshened _ (now (start .args .core)) (sym (rw (after-plate-from .plate-from .ensures) at (after-is-ok .is-ok .ensures)) ∙ not-false _ (after-else1 .if1 .left)) (after-else2 .if2 .left) (after-fill .fill .ensures)
     (after-fresh .fresh .ensures) (after-none .none .ensures) (after-put-board .put-board .ensures)
 
 pub qs-fresh-spec : {M : Type 1} → statement M

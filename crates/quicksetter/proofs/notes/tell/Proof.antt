@@ -4,24 +4,24 @@ use mathlib.Core.Bool.{true}
 use native.Mathlib.Omega.{arith}
 use denote.Ref.{now}
 use borrow.Author.Tests.{not-true, not-false}
-use Rattle.image.specs.Image.{isImage}
+use Rattle.image.specs.Image.{isCore}
 use Rattle.image.proofs.Round.{good}
-use Rattle.quicksetter.proofs.Leaving.{no-image, finished-here}
+use Rattle.quicksetter.proofs.Leaving.{no-core, finished-here}
 use borrow.Author.Needs.{needs}
 use Rattle.quicksetter.proofs.notes.tell.Statement.{statement}
 use Rattle.quicksetter.proofs.notes.tell.Tie as tie
 use Rattle.quicksetter.proofs.notes.tell.Reads as reads
 use Rattle.quicksetter.proofs.notes.tell.Lts as lts
-use Rattle.image.proofs.is_image.Reads as is-image-reads
+use Rattle.image.proofs.is_core.Reads as is-core-reads
 use Rattle.quicksetter.proofs.answer.finish.Reads as finish-reads
 use Rattle.quicksetter.proofs.given.board_in.Reads as board-in-reads
 use Rattle.quicksetter.proofs.notes.told.Reads as told-reads
 
-fine : (c : tie.Else1) → isImage (now (c .before .before .before .before .args .image)) ≡ true
-fine c = sym (c .before .is-image .ensures) ∙ not-false _ (c .if1 .left)
+fine : (c : tie.Else1) → isCore (now (c .before .before .before .before .args .core)) ≡ true
+fine c = sym (c .before .is-core .ensures) ∙ not-false _ (c .if1 .left)
 
-is-image-requires : tie.Need-is-image-requires
-is-image-requires c κs = search needs
+is-core-requires : tie.Need-is-core-requires
+is-core-requires c κs = search needs
 
 add-result : tie.Need-add-result
 add-result c = search needs
@@ -30,7 +30,7 @@ same-length : tie.Need-same-length
 same-length c = search needs
 
 returns : tie.Need-returns
-returns c = λ m w. no-image _ _ m w _ (sym (c .before .is-image .ensures) ∙ not-true _ (c .if1 .taken))
+returns c = λ m w. no-core _ _ m w _ (sym (c .before .is-core .ensures) ∙ not-true _ (c .if1 .taken))
 
 board-in-requires : tie.Need-board-in-requires
 board-in-requires c κs = omega (arith, good _ (fine (c .before)) .all)
@@ -53,13 +53,13 @@ returns-2 c =
     let after-board-in = after-told .before in
     let after-else1 = after-board-in .before .before in
     let start = after-else1 .before .before .before .before in
-    λ m w. finished-here _ (now (start .args .image)) m w _ (fine (after-else1)) (after-board-in .board-in .ensures) (after-told .told .ensures) (after-finish .finish .ensures)
+    λ m w. finished-here _ (now (start .args .core)) m w _ (fine (after-else1)) (after-board-in .board-in .ensures) (after-told .told .ensures) (after-finish .finish .ensures)
 
 pub tell-spec : {M : Type 1} → statement M
 tell-spec =
     tie.close
     (tie.spec
-    is-image-requires
+    is-core-requires
     add-result
     same-length
     returns
