@@ -37,7 +37,8 @@ use Rattle.board.proofs.Endings.{own-known, answerable, long, workable, refused
 use Rattle.image.specs.Image.{isCore, stateIn, frameIn, keptIn, heldIn, stateBytes, lineBytes, coreOf, PutsState, PutsFrame, PutsBoard, Takes}
 use Rattle.image.proofs.Parts.{kept-length, front-length, state-as-it-was, same-front, state-length, puts-board}
 use Rattle.image.proofs.Round.{good, kept-stays, lent-back, core-as-it-was}
-use Rattle.quicksetter.specs.Calls.{boardIn, dataTo, coreCalled, callNumber, coreAfter, CoreCalled, Unrefused, Servable, ServedIn, ClosedIn, Polls}
+use Rattle.quicksetter.specs.Calls.{callNumber}
+use Rattle.quicksetter.specs.Cores.{boardIn, dataTo, coreCalled, coreAfter, CoreCalled, Unrefused, Servable, ServedIn, ClosedIn, Polls}
 use Rattle.quicksetter.proofs.Finishing.{written-over}
 use Rattle.quicksetter.proofs.Leaving.{finished}
 use Rattle.quicksetter.proofs.Staying.{core-of-state}

@@ -8,7 +8,7 @@ use Rattle.board.specs.declared.limits.Outcome.the-variants.{R1, R2, R3, Still,
 use Rattle.board.specs.declared.limits.Stepped.{Stepped}
 use Rattle.board.specs.Board.{refusalNumber, isRefusal}
 use Rattle.image.specs.Image.{PutsBoard}
-use Rattle.quicksetter.specs.Calls.{outcomeNumber, LeftBy, Finishes}
+use Rattle.quicksetter.specs.Cores.{outcomeNumber, LeftBy, Finishes}
 
 module _ (t : Stepped) (core : List ℕ) where
   -- R1 to R3

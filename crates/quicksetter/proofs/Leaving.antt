@@ -30,7 +30,8 @@ use Rattle.image.proofs.Standing.{line-row}
 use Rattle.image.proofs.Parts.{kept-length}
 use Rattle.image.proofs.Round.{good, kept-stays, lent-back}
 use Rattle.quicksetter.specs.declared.notes.Note.{Note}
-use Rattle.quicksetter.specs.Calls.{boardIn, callFor, coreCalled, callNumber, coreAfter, CoreCalled, outcomeNumber, LeftBy, Finishes}
+use Rattle.quicksetter.specs.Calls.{callNumber}
+use Rattle.quicksetter.specs.Cores.{boardIn, callFor, coreCalled, coreAfter, CoreCalled, outcomeNumber, LeftBy, Finishes}
 
 -- a call that closes no frame brings no reply
 silent : (p : Plate) (s : meaning.State) (m : List ℕ) (g : Call) → closes p s g ≡ false → (step p s m g) .reply ≡ []

@@ -3,7 +3,9 @@ mod Leaving
 mod Refusing
 mod Closing
 mod Finishing
-mod Freshening
+mod Heads
+mod Starting
+mod Resting
 mod Judging
 pub mod Tight
 pub mod Theorems

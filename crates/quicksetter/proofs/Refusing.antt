@@ -4,10 +4,10 @@ use native.Mathlib.Omega.{arith}
 use mathlib.Core.Path.{_≡_, refl, sym, ap, _∙_}
 use mathlib.Core.Bool.{Bool, true, false, not, false≢true}
 use mathlib.Core.List.{List, []}
-use borrow.Author.Tests.{eq-eqb, ne-eqb, lt-ltb}
+use borrow.Author.Tests.{eq-eqb, ne-eqb, lt-ltb, le-ltb, eqb-true, ltb-false}
 use lib.Dec.{eqb, leb, ltb}
 use lib.ListN.{length, take, length-take}
-use Rattle.meaning.specs.Bytes.{arg, both, either}
+use Rattle.meaning.specs.Bytes.{arg, pick, both, either}
 use Rattle.meaning.specs.State.{Plate, plateOk, stateOk, apart}
 use Rattle.meaning.specs.Fields.{memoryLength}
 use Rattle.meaning.specs.Run.{Call, character, poll, lends, Held, called, refusedBy}
@@ -19,7 +19,8 @@ use Rattle.state.proofs.States.{within}
 use Rattle.image.specs.Image.{numberAt, isCore, stateIn, frameIn, keptIn, heldIn}
 use Rattle.image.proofs.Parts.{kept-length}
 use Rattle.image.proofs.Round.{good}
-use Rattle.quicksetter.specs.Calls.{possible, coreCalled, callNumber, coreAfter, CoreCalled, Unrefused}
+use Rattle.quicksetter.specs.Calls.{callNumber}
+use Rattle.quicksetter.specs.Cores.{possible, refusalIn, coreCalled, coreAfter, CoreCalled, Unrefused}
 use Rattle.quicksetter.proofs.Leaving.{no-core}
 
 empty-queue : (core : List ℕ) → numberAt core 16 ≡ 0 → queueOf (stateIn core .faults) ≡ []
@@ -58,8 +59,66 @@ mixed false true o = refl
 mixed true true false = refl
 mixed true true true = refl
 
-module _ (p : Plate) (core m w : List ℕ) (g : Call) where
-  -- refused by its number: nothing is done
+-- what is told of the state's numbers
+state-told : (p : Plate) (core : List ℕ) → isCore core ≡ true
+    → both (leb (numberAt core 4) 0xFFFFFF) (both (ltb (numberAt core 8) (2 ^ p .bits)) (apart (queueOf (stateIn core .faults)))) ≡ stateOk p (heldIn core)
+unfolding stateIn frameIn
+state-told p core e =
+    let few : length (take (arg core 29) (keptIn core)) ≤ 135 = rw length-take (omega (arith, kept-length core ((good core e) .all))) in
+    within (stateIn core) p (lineOf (frameIn core) (keptIn core)) refl few refl
+
+-- the tests one by one; m and w are the lengths of memory and room
+module _ (p : Plate) (core : List ℕ) (m w : ℕ) where
+  lost-state : isCore core ≡ true → either (not (plateOk p)) (not (stateOk p (heldIn core))) ≡ true → 1 ≡ refusalIn p core m w
+  unfolding refusalIn
+  lost-state e h = rw (e, h)
+
+  pub impossible : possible p core ≡ false → 1 ≡ refusalIn p core m w
+  unfolding possible refusalIn
+  impossible h = go (isCore core) refl h
+    where
+      go : (t : Bool) → isCore core ≡ t → both t (both (leb (numberAt core 4) 0xFFFFFF) (both (plateOk p) (ltb (numberAt core 8) (2 ^ p .bits)))) ≡ false
+          → 1 ≡ refusalIn p core m w
+      go false e k = rw e
+      go true e k = lost-state e (rw (← state-told p core e) (lost (leb (numberAt core 4) 0xFFFFFF) (plateOk p) (ltb (numberAt core 8) (2 ^ p .bits)) (apart (queueOf (stateIn core .faults))) k))
+
+  module _ (h : possible p core ≡ true) where
+    pub a-core : isCore core ≡ true
+    unfolding possible
+    a-core = both-left (isCore core) _ h
+
+    numbers : both (leb (numberAt core 4) 0xFFFFFF) (both (plateOk p) (ltb (numberAt core 8) (2 ^ p .bits))) ≡ true
+    unfolding possible
+    numbers = both-right (isCore core) _ h
+
+    pub unsound : apart (queueOf (stateIn core .faults)) ≡ false → 1 ≡ refusalIn p core m w
+    unsound a = lost-state a-core (rw (← state-told p core a-core, a) (mixed (leb (numberAt core 4) 0xFFFFFF) (plateOk p) (ltb (numberAt core 8) (2 ^ p .bits))))
+
+    module _ (a : apart (queueOf (stateIn core .faults)) ≡ true) where
+      good-plate : plateOk p ≡ true
+      good-plate = both-left (plateOk p) _ (both-right (leb (numberAt core 4) 0xFFFFFF) _ numbers)
+
+      good-state : stateOk p (heldIn core) ≡ true
+      good-state =
+          let c : leb (numberAt core 4) 0xFFFFFF ≡ true = both-left (leb (numberAt core 4) 0xFFFFFF) _ numbers in
+          let o : ltb (numberAt core 8) (2 ^ p .bits) ≡ true = both-right (plateOk p) _ (both-right (leb (numberAt core 4) 0xFFFFFF) _ numbers) in
+          sym (state-told p core a-core) ∙ rw (c, o, a)
+
+      pub other-size : (m ≡ memoryLength (p .total) → ⊥) → 2 ≡ refusalIn p core m w
+      unfolding refusalIn
+      other-size n = let z : eqb m (memoryLength (p .total)) ≡ false = ne-eqb _ _ n in rw (a-core, good-plate, good-state, z)
+
+      module _ (size : m ≡ memoryLength (p .total)) where
+        pub too-narrow : w < 134 → 3 ≡ refusalIn p core m w
+        unfolding refusalIn
+        too-narrow n = let z : eqb m (memoryLength (p .total)) ≡ true = eq-eqb _ _ size in rw (a-core, good-plate, good-state, z, lt-ltb w 134 n)
+
+        pub none-applies : 134 ≤ w → 0 ≡ refusalIn p core m w
+        unfolding refusalIn
+        none-applies n = let z : eqb m (memoryLength (p .total)) ≡ true = eq-eqb _ _ size in rw (a-core, good-plate, good-state, z, le-ltb w 134 n)
+
+-- a call that is refused by its number does nothing
+module _ (p : Plate) (core m w : List ℕ) (g : Call) (l : lends g ≡ true) where
   refused-call : (n : ℕ) → eqb n 0 ≡ false → isCore core ≡ true → refusedBy p (heldIn core) m (length w) g ≡ n → CoreCalled p core m w g (256 + n) core m w
   unfolding coreCalled called callNumber coreAfter
   refused-call n z e r =
@@ -72,63 +131,39 @@ module _ (p : Plate) (core m w : List ℕ) (g : Call) where
         room = sym (ap (λ (h : Held). h .room) k);
       }
 
-  state-told : isCore core ≡ true
-      → both (leb (numberAt core 4) 0xFFFFFF) (both (ltb (numberAt core 8) (2 ^ p .bits)) (apart (queueOf (stateIn core .faults)))) ≡ stateOk p (heldIn core)
-  unfolding stateIn frameIn
-  state-told e =
-      let few : length (take (arg core 29) (keptIn core)) ≤ 135 = rw length-take (omega (arith, kept-length core ((good core e) .all))) in
-      within (stateIn core) p (lineOf (frameIn core) (keptIn core)) refl few refl
+  told-of-call : isCore core ≡ true → refusedBy p (heldIn core) m (length w) g ≡ refusalIn p core (length m) (length w)
+  unfolding refusedBy refusalIn
+  told-of-call e = rw (l, e)
 
-  state-lost : isCore core ≡ true → either (not (plateOk p)) (not (stateOk p (heldIn core))) ≡ true → CoreCalled p core m w g 257 core m w
-  unfolding refusedBy
-  state-lost e h = refused-call 1 refl e (rw h)
-
-  pub impossible : possible p core ≡ false → CoreCalled p core m w g 257 core m w
-  unfolding possible
-  impossible h = go (isCore core) refl h
+  pub refused-as : {n : ℕ} → n ≡ refusalIn p core (length m) (length w) → (n ≡ 0 → ⊥) → CoreCalled p core m w g (256 + n) core m w
+  unfolding refusalIn
+  refused-as {n} e some = go (isCore core) refl
     where
-      go : (t : Bool) → isCore core ≡ t → both t (both (leb (numberAt core 4) 0xFFFFFF) (both (plateOk p) (ltb (numberAt core 8) (2 ^ p .bits)))) ≡ false
-          → CoreCalled p core m w g 257 core m w
-      go false e k = no-core p core m w g e
-      go true e k = state-lost e (rw (← state-told e) (lost (leb (numberAt core 4) 0xFFFFFF) (plateOk p) (ltb (numberAt core 8) (2 ^ p .bits)) (apart (queueOf (stateIn core .faults))) k))
+      go : (t : Bool) → isCore core ≡ t → CoreCalled p core m w g (256 + n) core m w
+      go true c = refused-call n (ne-eqb n 0 some) c (told-of-call c ∙ sym e)
+      go false c = let k : n ≡ 1 = e ∙ rw c in rw k (no-core p core m w g c)
 
--- what is possible so far
-pub a-core : (p : Plate) (core : List ℕ) → possible p core ≡ true → isCore core ≡ true
-unfolding possible
-a-core p core h = both-left (isCore core) _ h
+pub refusal-small : (p : Plate) (core : List ℕ) (m w : ℕ) {n : ℕ} → n ≡ refusalIn p core m w → n ≤ 3
+unfolding refusalIn
+refusal-small p core m w e =
+    go (not (isCore core)) (either (not (plateOk p)) (not (stateOk p (heldIn core)))) (not (eqb m (memoryLength (p .total)))) (ltb w 134) e
+  where
+    go : (a b c d : Bool) {n : ℕ} → n ≡ pick a 1 (pick b 1 (pick c 2 (pick d 3 0))) → n ≤ 3
+    go true b c d e = omega (arith, e)
+    go false true c d e = omega (arith, e)
+    go false false true d e = omega (arith, e)
+    go false false false true e = omega (arith, e)
+    go false false false false e = omega (arith, e)
 
-module _ (p : Plate) (core m w : List ℕ) (g : Call) (h : possible p core ≡ true) where
-  numbers : both (leb (numberAt core 4) 0xFFFFFF) (both (plateOk p) (ltb (numberAt core 8) (2 ^ p .bits))) ≡ true
-  unfolding possible
-  numbers = both-right (isCore core) _ h
-
-  pub unsound : apart (queueOf (stateIn core .faults)) ≡ false → CoreCalled p core m w g 257 core m w
-  unsound a =
-      let e : isCore core ≡ true = a-core p core h in
-      state-lost p core m w g e (rw (← state-told p core m w g e, a) (mixed (leb (numberAt core 4) 0xFFFFFF) (plateOk p) (ltb (numberAt core 8) (2 ^ p .bits))))
-
-  module _ (a : apart (queueOf (stateIn core .faults)) ≡ true) where
-    good-plate : plateOk p ≡ true
-    good-plate = both-left (plateOk p) _ (both-right (leb (numberAt core 4) 0xFFFFFF) _ numbers)
-
-    good-state : stateOk p (heldIn core) ≡ true
-    good-state =
-        let c : leb (numberAt core 4) 0xFFFFFF ≡ true = both-left (leb (numberAt core 4) 0xFFFFFF) _ numbers in
-        let o : ltb (numberAt core 8) (2 ^ p .bits) ≡ true = both-right (plateOk p) _ (both-right (leb (numberAt core 4) 0xFFFFFF) _ numbers) in
-        sym (state-told p core m w g (a-core p core h)) ∙ rw (c, o, a)
-
-    pub other-size : lends g ≡ true → (length m ≡ 16 * p .total + p .total → ⊥) → CoreCalled p core m w g 258 core m w
-    unfolding refusedBy
-    other-size l n =
-        let z : eqb (length m) (memoryLength (p .total)) ≡ false = ne-eqb _ _ n in
-        refused-call p core m w g 2 refl (a-core p core h) (rw (good-plate, good-state, l, z))
-
-    module _ (size : length m ≡ 16 * p .total + p .total) where
-      pub too-narrow : lends g ≡ true → length w < 134 → CoreCalled p core m w g 259 core m w
-      unfolding refusedBy
-      too-narrow l n =
-          let z : eqb (length m) (memoryLength (p .total)) ≡ true = eq-eqb _ _ size in
-          refused-call p core m w g 3 refl (a-core p core h) (rw (good-plate, good-state, l, z, lt-ltb (length w) 134 n))
-
-      pub unrefused : 134 ≤ length w → Unrefused p core (length m) (length w)
-      unrefused n = record { bytes = a-core p core h; plate = good-plate; state = good-state; size = size; wide = n }
+pub unrefused : (p : Plate) (core : List ℕ) (m w : ℕ) → 0 ≡ refusalIn p core m w → Unrefused p core m w
+unfolding refusalIn
+unrefused p core m w e = go (isCore core) (plateOk p) (stateOk p (heldIn core)) (eqb m (memoryLength (p .total))) (ltb w 134) refl refl refl refl refl e
+  where
+    go : (a b c d f : Bool) → isCore core ≡ a → plateOk p ≡ b → stateOk p (heldIn core) ≡ c → eqb m (memoryLength (p .total)) ≡ d → ltb w 134 ≡ f
+        → _≡_ {A = ℕ} 0 (pick (not a) 1 (pick (either (not b) (not c)) 1 (pick (not d) 2 (pick f 3 0)))) → Unrefused p core m w
+    go true true true true false i j k l n z = record { bytes = i; plate = j; state = k; size = eqb-true m (memoryLength (p .total)) l; wide = omega (arith, ltb-false w 134 n) }
+    go true true true true true i j k l n z = absurd (omega (arith, z))
+    go true true true false f i j k l n z = absurd (omega (arith, z))
+    go true true false d f i j k l n z = absurd (omega (arith, z))
+    go true false c d f i j k l n z = absurd (omega (arith, z))
+    go false b c d f i j k l n z = absurd (omega (arith, z))

@@ -8,7 +8,7 @@ use lib.Dec.{T, eqb, lit<}
 use lib.ListN.{length, length-replicate, getD, take, drop}
 use Rattle.meaning.specs.Bytes.{pick, arg, zeros}
 use Rattle.meaning.specs.State as meaning
-use Rattle.meaning.specs.State.{Plate, fresh, ownByte}
+use Rattle.meaning.specs.State.{Plate, fresh, ownByte, poweredOn, withMeasured}
 use Rattle.meaning.specs.Fields.{memoryLength}
 use Rattle.meaning.specs.Characters.{Frame, over, closed, whole, taken}
 use Rattle.meaning.specs.Commands.{commandOf, Answer, refuse, accept, quiet, freeByte, readField, memoryStatus, worked}
@@ -26,34 +26,43 @@ use Rattle.meaning.proofs.Honest.{carried-the-code}
 use Rattle.meaning.proofs.Room.{refused-for-want-of-room, free-by-traffic}
 use Rattle.meaning.proofs.Told.{reads-by-traffic}
 use Rattle.line.proofs.Limits.{low-address}
-use Rattle.image.specs.Image.{heldIn, imageOf}
-use Rattle.quicksetter.specs.Calls.{freshOk, Freshens, Called}
-use Rattle.quicksetter.specs.Promises.{Ran, began, called, AsRun, QsRuns, QsMemoryByTraffic, QsTrafficAlone, QsCarriedTheCode, ClosesNext, closes-next, QsRefusedForRoom, HoldsRequest, QsRepliesAsMeant, QsFreeByTraffic, QsReadsByTraffic}
-use Rattle.quicksetter.proofs.Freshening.{fresh-holds}
-use Rattle.quicksetter.proofs.Theorems.{qs-steps}
-use Rattle.quicksetter.proofs.Staying.{Holds, unrefused, was-fresh, starts, goes-on}
+use Rattle.image.specs.Image.{heldIn}
+use Rattle.quicksetter.specs.Calls.{stateHeld, lastingOf, imageOf, startOk, rested, Freshens, Restarts, Called}
+use Rattle.quicksetter.specs.Promises.{Ran, began, called, restarted, AsRun, QsRuns, QsMemoryByTraffic, QsTrafficAlone, QsCarriedTheCode, ClosesNext, closes-next, QsRefusedForRoom, HoldsRequest, QsRepliesAsMeant, QsFreeByTraffic, QsReadsByTraffic}
+use Rattle.quicksetter.proofs.Starting.{core-again, fresh-holds}
+use Rattle.quicksetter.proofs.Resting.{rested-as, measured-again}
+use Rattle.quicksetter.proofs.Staying.{Holds, steps-so, was-made, starts, starts-again, restart-holds, goes-on}
+
+enough : 134 ≤ length (zeros 134)
+enough = rw (length-replicate {A = ℕ} 134 0) (omega arith)
 
 stays : (p : Plate) (gs : List Call) (t : List Heard) (img m x : List ℕ) → Ran p gs t img m x → Holds p img m
 stays p _ _ img m _ (began old _ f) = starts p old img m f (length-replicate {A = ℕ} (memoryLength (p .total)) 0)
 stays p _ _ img m _ (called gs t img₀ m₀ x w g r _ _ w′ h wide c) = goes-on p img₀ m₀ w g r img m w′ (stays p gs t img₀ m₀ x h) wide c
+stays p _ _ img m _ (restarted gs t img₀ _ x old off n r _ h f c) =
+    let k = starts-again p (lastingOf img₀) old off f m (stays p gs t img₀ m x h .size) in
+    goes-on p off m (zeros 134) (measured n) r img m (zeros 134) k enough (c m (zeros 134))
 
 -- a call of an image and a memory within the limits, with room enough, leaves the step's reply
-replies : (p : Plate) (img m w : List ℕ) (g : Call) (r : ℕ) (img′ m′ w′ : List ℕ) → Holds p img m → 134 ≤ length w → Called p img m w g r img′ m′ w′
-    → take r w′ ≡ (step p (heldIn img) m g) .reply
-replies p img m w g r img′ m′ w′ k wide c = qs-steps p img m w g r img′ m′ w′ c (k .image) (rw (unrefused p img m (length w) g k wide) tt) .front
+replies : (p : Plate) (img m w : List ℕ) (g : Call) (r : ℕ) (img′ m′ w′ : List ℕ) → Holds p img m → 134 ≤ length w → Called img m w g r img′ m′ w′
+    → take r w′ ≡ (step p (stateHeld img) m g) .reply
+replies p img m w g r img′ m′ w′ k wide c = steps-so p img m w g r img′ m′ w′ k wide c .front
+
+-- the state of a board that was off, at its measured position
+off-state : (img₀ : List ℕ) (n : ℕ) → withMeasured (rested (lastingOf img₀)) n ≡ withMeasured (poweredOn (stateHeld img₀)) n
+off-state img₀ n = ap (λ (s : meaning.State). withMeasured s n) (rested-as img₀) ∙ measured-again (poweredOn (stateHeld img₀)) 0 n
 
 pub qs-runs : QsRuns
-unfolding run runFrom still traffic
+unfolding run runFrom still traffic step heard closes
 qs-runs p _ _ img _ _ (began old _ f) =
-    let k : freshOk p old ≡ true = was-fresh (freshOk p old) (f .answer) in
-    let e : img ≡ imageOf (fresh p) (zeros 135) = f .image ∙ ap (λ (b : Bool). pick b (imageOf (fresh p) (zeros 135)) old) k in
-    record { state = ap heldIn e ∙ fresh-holds p; memory = refl; reply = refl; wire = refl }
+    let k : startOk p (fresh p) old ≡ true = was-made (startOk p (fresh p) old) (f .answer) in
+    let e : img ≡ imageOf p (fresh p) (zeros 135) = f .image ∙ ap (λ (b : Bool). pick b (imageOf p (fresh p) (zeros 135)) old) k in
+    record { state = ap stateHeld e ∙ ap heldIn (core-again p (fresh p) (zeros 135)) ∙ fresh-holds p; memory = refl; reply = refl; wire = refl }
 qs-runs p _ _ img m _ (called gs t img₀ m₀ x w g r _ _ w′ h wide c) =
     let k = stays p gs t img₀ m₀ x h in
-    let free : T (eqb (refusedBy p (heldIn img₀) m₀ (length w) g) 0) = rw (unrefused p img₀ m₀ (length w) g k wide) tt in
-    let s = qs-steps p img₀ m₀ w g r img m w′ c (k .image) free in
+    let s = steps-so p img₀ m₀ w g r img m w′ k wide c in
     let i = qs-runs p gs t img₀ m₀ x h in
-    let e : step p (heldIn img₀) m₀ g ≡ step p ((run p gs) .state) ((run p gs) .memory) g = ap₂ (λ (a : meaning.State) (b : List ℕ). step p a b g) (i .state) (i .memory) in
+    let e : step p (stateHeld img₀) m₀ g ≡ step p ((run p gs) .state) ((run p gs) .memory) g = ap₂ (λ (a : meaning.State) (b : List ℕ). step p a b g) (i .state) (i .memory) in
     let y : take r w′ ≡ (run p (g ∷ gs)) .reply = s .front ∙ ap (λ (o : Outcome). o .reply) e in
     record {
       state = s .after ∙ ap (λ (o : Outcome). o .state) e;
@@ -61,10 +70,22 @@ qs-runs p _ _ img m _ (called gs t img₀ m₀ x w g r _ _ w′ h wide c) =
       reply = y;
       wire = ap₂ (λ (a : meaning.State) (b : List Heard). heard p a g (take r w′) b) (i .state) (i .wire) ∙ ap (λ (b : List ℕ). heard p ((run p gs) .state) g b (traffic p gs)) y;
     }
+qs-runs p _ _ img m _ (restarted gs t img₀ _ x old off n r _ h f c) =
+    let k = stays p gs t img₀ m x h in
+    let j = starts-again p (lastingOf img₀) old off f m (k .size) in
+    let s = steps-so p off m (zeros 134) (measured n) r img m (zeros 134) j enough (c m (zeros 134)) in
+    let i = qs-runs p gs t img₀ m x h in
+    record {
+      state = s .after ∙ ap (λ (a : meaning.State). withMeasured a n) (restart-holds p (lastingOf img₀) old off f) ∙ off-state img₀ n
+          ∙ ap (λ (a : meaning.State). withMeasured (poweredOn a) n) (i .state);
+      memory = i .memory;
+      reply = refl;
+      wire = i .wire;
+    }
 
 -- what holds of the run's state, memory and traffic holds of the host's
 module _ (p : Plate) (gs : List Call) (t : List Heard) (img m x : List ℕ) (h : Ran p gs t img m x) where
-  pub as-run : (P : meaning.State → List ℕ → List Heard → Type 0) → P ((run p gs) .state) ((run p gs) .memory) (traffic p gs) → P (heldIn img) m t
+  pub as-run : (P : meaning.State → List ℕ → List Heard → Type 0) → P ((run p gs) .state) ((run p gs) .memory) (traffic p gs) → P (stateHeld img) m t
   as-run P y =
       let i = qs-runs p gs t img m x h in
       subst (λ (a : meaning.State). P a m t) (sym (i .state))
@@ -95,7 +116,7 @@ module _ (p : Plate) (s : meaning.State) (m : List ℕ) where
 pub qs-refused-for-room : QsRefusedForRoom
 qs-refused-for-room p t img m _ (closes-next gs x w g r img′ m′ w′ h wide c o) W =
     let k = stays p gs t img m x h in
-    let z = closing p (heldIn img) m g o in
+    let z = closing p (stateHeld img) m g o in
     replies p img m w g r img′ m′ w′ k wide c ∙ z .1 .1
     ∙ as-run p gs t img m x h
     (λ (s : meaning.State) (m : List ℕ) (t : List Heard). T (over p s (z .0)) → Wanted p (resting s) t (closed (s .line))
@@ -105,7 +126,7 @@ qs-refused-for-room p t img m _ (closes-next gs x w g r img′ m′ w′ h wide 
 pub qs-replies-as-meant : QsRepliesAsMeant
 unfolding upTo close meant ownByte
 qs-replies-as-meant p t img m _ a c d (closes-next gs x w g r img′ m′ w′ h wide q o) A =
-    let s = heldIn img in
+    let s = stateHeld img in
     let k = stays p gs t img m x h in
     let z = closing p s m g o in
     let sent : Sent p (resting s) m a c d = record { address = low-address p (k .plate); size = k .size; ours = A .ours; may = A .may } in
@@ -115,14 +136,14 @@ qs-replies-as-meant p t img m _ a c d (closes-next gs x w g r img′ m′ w′ h
 
 -- what holds after every run holds where a frame is closed
 where-closes-next : (p : Plate) (t : List Heard) (img m y : List ℕ) (P : meaning.State → List ℕ → List Heard → Type 0)
-    → ((gs : List Call) → P ((run p gs) .state) ((run p gs) .memory) (traffic p gs)) → ClosesNext p t img m y → P (heldIn img) m t
+    → ((gs : List Call) → P ((run p gs) .state) ((run p gs) .memory) (traffic p gs)) → ClosesNext p t img m y → P (stateHeld img) m t
 where-closes-next p t img m _ P always (closes-next gs x w g r img′ m′ w′ h wide c o) = as-run p gs t img m x h P (always gs)
 
 pub qs-free-by-traffic : QsFreeByTraffic
 unfolding meant commandOf worked outcome
 qs-free-by-traffic p t img m y a z A =
     qs-replies-as-meant p t img m y a 0x4E [] z A
-    ∙ ap (λ (b : Answer). (outcome p (resting (heldIn img)) m 0x4E b) .reply)
+    ∙ ap (λ (b : Answer). (outcome p (resting (stateHeld img)) m 0x4E b) .reply)
     (where-closes-next p t img m y
     (λ (s : meaning.State) (m : List ℕ) (t : List Heard). memoryStatus p (resting s) m [] ≡ accept (freeByte (p .total + back t - granted t) ∷ fieldsOf t ∷ []) (resting s) m)
     (λ gs. free-by-traffic p gs (resting ((run p gs) .state))) z)
@@ -142,6 +163,6 @@ pub qs-reads-by-traffic : QsReadsByTraffic
 unfolding meant commandOf worked
 qs-reads-by-traffic p t img m y a d z A k i l =
     let e = qs-replies-as-meant p t img m y a 0x4A d z A in
-    let told : BringsTold t d (readField p (resting (heldIn img)) m d)
+    let told : BringsTold t d (readField p (resting (stateHeld img)) m d)
     = where-closes-next p t img m y (λ (s : meaning.State) (m : List ℕ) (t : List Heard). BringsTold t d (readField p (resting s) m d)) (λ gs. reads-by-traffic p gs (resting ((run p gs) .state)) d) z in
-    rw e (brought p (resting (heldIn img)) m t d (readField p (resting (heldIn img)) m d) told (rw (← e) k) i l)
+    rw e (brought p (resting (stateHeld img)) m t d (readField p (resting (stateHeld img)) m d) told (rw (← e) k) i l)

@@ -7,7 +7,7 @@ use Rattle.meaning.specs.Run.{Call}
 use Rattle.meaning.specs.Bench as meaning
 use Rattle.wire.proofs.Tight.{same-outcome}
 use Rattle.quicksetter.specs.declared.replies.Piece.{Piece}
-use Rattle.quicksetter.specs.Calls.{Called, Freshens}
+use Rattle.quicksetter.specs.Calls.{Called, Freshens, Restarts}
 use Rattle.quicksetter.specs.Verdicts.{Writes, verdictNumber, pieceForC}
 
 -- what a call's outcome is made of
@@ -17,9 +17,9 @@ pub record Alike (r t : ℕ) (img′ img″ m′ m″ w′ w″ : List ℕ) : Ty
   pub memory : m′ ≡ m″
   pub room : w′ ≡ w″
 
-module _ (p : Plate) (img : List ℕ) (g : Call) {r t : ℕ} {img′ img″ : List ℕ} where
+module _ (img : List ℕ) (g : Call) {r t : ℕ} {img′ img″ : List ℕ} where
   -- a character, a poll
-  pub called-tight : (m w : List ℕ) {m′ m″ w′ w″ : List ℕ} → Called p img m w g r img′ m′ w′ → Called p img m w g t img″ m″ w″
+  pub called-tight : (m w : List ℕ) {m′ m″ w′ w″ : List ℕ} → Called img m w g r img′ m′ w′ → Called img m w g t img″ m″ w″
       → Alike r t img′ img″ m′ m″ w′ w″
   called-tight m w x y =
       record {
@@ -30,11 +30,14 @@ module _ (p : Plate) (img : List ℕ) (g : Call) {r t : ℕ} {img′ img″ : Li
       }
 
   -- a measured position, a fault code, power-on: neither memory nor room is lent
-  pub note-tight : ((m w : List ℕ) → Called p img m w g r img′ m w) → ((m w : List ℕ) → Called p img m w g t img″ m w) → (r ≡ t) × (img′ ≡ img″)
+  pub note-tight : ((m w : List ℕ) → Called img m w g r img′ m w) → ((m w : List ℕ) → Called img m w g t img″ m w) → (r ≡ t) × (img′ ≡ img″)
   note-tight x y = let z = called-tight [] [] (x [] []) (y [] []) in (z .number, z .image)
 
 pub fresh-tight : (p : Plate) (img : List ℕ) {r t : ℕ} {img′ img″ : List ℕ} → Freshens p img r img′ → Freshens p img t img″ → (r ≡ t) × (img′ ≡ img″)
 fresh-tight p img x y = (x .answer ∙ sym (y .answer), x .image ∙ sym (y .image))
+
+pub restart-tight : (p : Plate) (lasting img : List ℕ) {r t : ℕ} {img′ img″ : List ℕ} → Restarts p lasting img r img′ → Restarts p lasting img t img″ → (r ≡ t) × (img′ ≡ img″)
+restart-tight p lasting img x y = (x .answer ∙ sym (y .answer), x .image ∙ sym (y .image))
 
 pub request-tight : (w : meaning.Written) {r t : ℕ} {buffer′ buffer″ : List ℕ} → Writes w r buffer′ → Writes w t buffer″ → (r ≡ t) × (buffer′ ≡ buffer″)
 request-tight w x y = (x .answer ∙ sym (y .answer), x .buffer ∙ sym (y .buffer))

@@ -1,119 +1,82 @@
--- What a call from C leaves of core, memory and room, and the number that comes back (01, "Named refusals"). Assumes nothing.
-use Prim.Native.Nat.{ℕ, _+_, _-_, _≤_, _^_}
+-- What a call from C leaves of image, memory and room, and the number that comes back (01, "Named refusals"). Assumes nothing.
+use Prim.Native.Nat.{ℕ, _+_}
 use mathlib.Core.Path.{_≡_}
-use mathlib.Core.Bool.{Bool, true}
-use mathlib.Core.List.{List}
-use lib.Dec.{eqb, leb, ltb}
-use lib.ListN.{length, take, drop}
-use Rattle.meaning.specs.Bytes.{pick, both, longestRequest, longestReply, zeros}
+use mathlib.Core.Bool.{Bool}
+use mathlib.Core.List.{List, _++_}
+use lib.Dec.{eqb}
+use lib.ListN.{length}
+use Rattle.meaning.specs.Bytes.{pick, both, longestRequest, zeros}
 use Rattle.meaning.specs.State as meaning
-use Rattle.meaning.specs.Fields.{memoryLength}
-use Rattle.meaning.specs.Frames.{dataOf}
-use Rattle.meaning.specs.Run.{Call, poll, measured, fault, power-on, Held, called}
+use Rattle.meaning.specs.Run.{Call, Held, called}
 use Rattle.line.specs.declared.plate.Plate.{Plate}
-use Rattle.board.specs.declared.limits.Board.{Board}
-use Rattle.board.specs.declared.limits.Outcome.{Outcome}
-use Rattle.board.specs.declared.limits.Outcome.the-variants.{R1, R2, R3, Still, Over}
-use Rattle.board.specs.declared.limits.Stepped.{Stepped}
-use Rattle.board.specs.Work.{Workable, Serves, Closes}
-use Rattle.quicksetter.specs.declared.notes.Note.{Note}
-use Rattle.quicksetter.specs.declared.notes.Note.the-variants.{Measured, Fault, PowerOn}
-use Rattle.image.specs.Image.{coreLength, numberAt, isCore, stateIn, frameIn, heldIn, keptIn, coreOf, PutsState, PutsBoard}
+use Rattle.line.specs.Line.{plateOf}
+use Rattle.state.specs.State.{stateWith}
+use Rattle.image.specs.Image.{imageLength, lastingLength, isOurs, isCore, headIn, coreIn, plateIn, heldIn, lastingIn, restedIn, keptIn, headOf, coreOf}
 
+-- the plate by its numbers, in the order of document 01
 abbrev pub plateFrom : ℕ → ℕ → ℕ → ℕ → ℕ → Plate
 plateFrom t b a k q = record { total = t; bits = b; address = a; ticks = k; pause = q }
 
-abbrev pub boardIn : List ℕ → Board
-boardIn core = record { state = stateIn core; frame = frameIn core }
+-- what an image is: ours by length and layout, its core one too
+unfoldable pub isImage : List ℕ → Bool
+isImage img = both (isOurs img) (isCore (coreIn img))
 
--- the meaning's call on the state that the core holds; what is no core is R1
-unfoldable pub coreCalled : meaning.Plate → List ℕ → List ℕ → List ℕ → Call → Held
-coreCalled p core m room g =
-    pick (isCore core) (called p (heldIn core) m room g)
-    (record { refusal = 1; count = 0; state = heldIn core; memory = m; room = room })
+-- the plate and the state that it holds
+abbrev pub plateHeld : List ℕ → meaning.Plate
+plateHeld img = plateOf (plateIn img)
+
+abbrev pub stateHeld : List ℕ → meaning.State
+stateHeld img = heldIn (coreIn img)
+
+-- its bytes that must last when the supply is off: codes, counter, offset
+abbrev pub lastingOf : List ℕ → List ℕ
+lastingOf img = lastingIn (coreIn img)
+
+-- the meaning's call on the plate and the state that the image holds; what is no image is R1
+unfoldable pub calledBy : List ℕ → List ℕ → List ℕ → Call → Held
+calledBy img m room g =
+    pick (isImage img) (called (plateHeld img) (stateHeld img) m room g)
+    (record { refusal = 1; count = 0; state = stateHeld img; memory = m; room = room })
 
 -- 0 for silence, 1 to 134 the reply's length, 256 + n for Rn
 unfoldable pub callNumber : Held → ℕ
 callNumber h = pick (eqb (h .refusal) 0) (h .count) (256 + h .refusal)
 
--- the state after the call, its unused places as they were; a refused call leaves the core as it was
-unfoldable pub coreAfter : List ℕ → Held → List ℕ
-coreAfter core h = pick (eqb (h .refusal) 0) (coreOf (h .state) (keptIn core)) core
+-- the state after the call, its unused places and the head as they were; a refused call leaves the image as it was
+unfoldable pub imageAfter : List ℕ → Held → List ℕ
+imageAfter img h = pick (eqb (h .refusal) 0) (headIn img ++ coreOf (h .state) (keptIn (coreIn img))) img
 
-pub record CoreCalled (p : meaning.Plate) (core m w : List ℕ) (g : Call) (r : ℕ) (core′ m′ w′ : List ℕ) : Type 0 where
-  pub answer : r ≡ callNumber (coreCalled p core m w g)
-  pub state : heldIn core′ ≡ (coreCalled p core m w g) .state
-  pub bytes : core′ ≡ coreAfter core (coreCalled p core m w g)
-  pub memory : m′ ≡ (coreCalled p core m w g) .memory
-  pub room : w′ ≡ (coreCalled p core m w g) .room
+pub record Called (img m w : List ℕ) (g : Call) (r : ℕ) (img′ m′ w′ : List ℕ) : Type 0 where
+  pub answer : r ≡ callNumber (calledBy img m w g)
+  pub state : stateHeld img′ ≡ (calledBy img m w g) .state
+  pub image : img′ ≡ imageAfter img (calledBy img m w g)
+  pub memory : m′ ≡ (calledBy img m w g) .memory
+  pub room : w′ ≡ (calledBy img m w g) .room
 
--- 01, "Fresh state": every byte of the core is written; R1 for an impossible plate or a core of another length
-unfoldable pub freshOk : meaning.Plate → List ℕ → Bool
-freshOk p core = both (meaning.plateOk p) (eqb (length core) coreLength)
+-- a plate and a state as an image, over the 135 places for kept bytes
+unfoldable pub imageOf : meaning.Plate → meaning.State → List ℕ → List ℕ
+imageOf p s places = headOf p ++ coreOf s places
 
-pub record Freshens (p : meaning.Plate) (core : List ℕ) (r : ℕ) (core′ : List ℕ) : Type 0 where
-  pub answer : r ≡ pick (freshOk p core) 0 257
-  pub bytes : core′ ≡ pick (freshOk p core) (coreOf (meaning.fresh p) (zeros longestRequest)) core
+-- R1 for an impossible plate or state, or an image of another length; else every byte of the image is written
+unfoldable pub startOk : meaning.Plate → meaning.State → List ℕ → Bool
+startOk p s img = both (meaning.plateOk p) (both (eqb (length img) imageLength) (meaning.stateOk p s))
 
--- 01, "The host notes codes": what a host tells besides
-abbrev pub callFor : Note → Call
-callFor (Measured n) = measured n
-callFor (Fault c) = fault c
-callFor PowerOn = power-on
+pub record Starts (p : meaning.Plate) (s : meaning.State) (img : List ℕ) (r : ℕ) (img′ : List ℕ) : Type 0 where
+  pub answer : r ≡ pick (startOk p s img) 0 257
+  pub image : img′ ≡ pick (startOk p s img) (imageOf p s (zeros longestRequest)) img
 
--- R1 does not apply to plate and core, whatever codes wait
-unfoldable pub possible : meaning.Plate → List ℕ → Bool
-possible p core = both (isCore core) (both (leb (numberAt core 4) meaning.lastCount) (both (meaning.plateOk p) (ltb (numberAt core 8) (2 ^ p .bits))))
+-- 01, "Fresh state"
+abbrev pub Freshens : meaning.Plate → List ℕ → ℕ → List ℕ → Type 0
+Freshens p img r img′ = Starts p (meaning.fresh p) img r img′
 
--- R1 to R3 do not apply
-pub record Unrefused (p : meaning.Plate) (core : List ℕ) (memory room : ℕ) : Type 0 where
-  pub bytes : isCore core ≡ true
-  pub plate : meaning.plateOk p ≡ true
-  pub state : meaning.stateOk p (heldIn core) ≡ true
-  pub size : memory ≡ memoryLength (p .total)
-  pub wide : longestReply ≤ room
+-- the state of a board that was off, from the bytes that last
+abbrev pub rested : List ℕ → meaning.State
+rested lasting = stateWith (restedIn lasting) meaning.none
 
--- the data of a kept request that ends before a place of the core
-abbrev pub dataTo : ℕ → List ℕ → List ℕ
-dataTo end core = dataOf (take (end - 30) (drop 30 core))
+-- 01, "Power-on": a board that was off; R1 also for another number of lasting bytes
+unfoldable pub restartOk : meaning.Plate → List ℕ → List ℕ → Bool
+restartOk p lasting img = both (eqb (length lasting) lastingLength) (startOk p (rested lasting) img)
 
--- a request that the core's board may work
-pub record Servable (p : Plate) (c end : ℕ) (core m w : List ℕ) : Type 0 where
-  pub bytes : isCore core ≡ true
-  pub starts : 33 ≤ end
-  pub ends : end ≤ coreLength
-  pub works : Workable p (stateIn core) c (dataTo end core) m w
-
--- the request c with the data d is worked and answered, and the core holds the state after it; but for the state's bytes it is as it was
-pub record ServedIn (p : meaning.Plate) (c : ℕ) (d core m w : List ℕ) (r : ℕ) (core′ m′ w′ : List ℕ) : Type 0 where
-  pub serves : Serves p (stateIn core) c d m w (stateIn core′) r m′ w′
-  pub state : PutsState (stateIn core′) core core′
-
--- the same of the open frame, which is closed
-pub record ClosedIn (p : meaning.Plate) (core m w : List ℕ) (r : ℕ) (core′ m′ w′ : List ℕ) : Type 0 where
-  pub closes : Closes p (stateIn core) (frameIn core) (keptIn core) m w (record { state = stateIn core′; sent = r }) m′ w′
-  pub state : PutsState (stateIn core′) core core′
-
--- what a poll leaves of a core that is not refused; the places of the kept bytes stay
-pub record Polls (p : meaning.Plate) (core m w : List ℕ) (tick r : ℕ) (core′ m′ w′ : List ℕ) : Type 0 where
-  pub called : CoreCalled p core m w (poll tick) r core′ m′ w′
-  pub kept : keptIn core′ ≡ keptIn core
-
--- the outcome of the board's call as the number for C, and the board written back where it was not refused
-abbrev pub outcomeNumber : Outcome → ℕ
-outcomeNumber R1 = 257
-outcomeNumber R2 = 258
-outcomeNumber R3 = 259
-outcomeNumber Still = 0
-outcomeNumber (Over n) = n
-
-abbrev pub LeftBy : Outcome → Board → List ℕ → List ℕ → Type 0
-LeftBy R1 b core core′ = core′ ≡ core
-LeftBy R2 b core core′ = core′ ≡ core
-LeftBy R3 b core core′ = core′ ≡ core
-LeftBy Still b core core′ = PutsBoard (b .state) (b .frame) core core′
-LeftBy (Over n) b core core′ = PutsBoard (b .state) (b .frame) core core′
-
-pub record Finishes (t : Stepped) (core : List ℕ) (r : ℕ) (core′ : List ℕ) : Type 0 where
-  pub answer : r ≡ outcomeNumber (t .outcome)
-  pub left : LeftBy (t .outcome) (t .board) core core′
+pub record Restarts (p : meaning.Plate) (lasting img : List ℕ) (r : ℕ) (img′ : List ℕ) : Type 0 where
+  pub answer : r ≡ pick (restartOk p lasting img) 0 257
+  pub image : img′ ≡ pick (restartOk p lasting img) (imageOf p (rested lasting) (zeros longestRequest)) img

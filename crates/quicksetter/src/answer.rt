@@ -2,7 +2,7 @@
 ghost use mathlib.Core.Path.{_≡_};
 ghost use lib.ListN.{length};
 ghost use Rattle.image.specs.Image.{coreLength};
-ghost use Rattle.quicksetter.specs.Calls.{Finishes};
+ghost use Rattle.quicksetter.specs.Cores.{Finishes};
 use board::Outcome;
 use board::Stepped;
 

@@ -1,4 +1,4 @@
-// A character and a poll (01, "Characters become frames").
+// A character and a poll (01, "Characters become frames"): of a core with its plate, then of an image.
 ghost use mathlib.Core.Path.{_≡_};
 ghost use mathlib.Core.Bool.{true};
 ghost use Prim.Native.Nat.{ℕ, _≤_};
@@ -10,11 +10,13 @@ ghost use Rattle.meaning.specs.Run as run;
 ghost use Rattle.line.specs.Line.{plateOf};
 ghost use Rattle.state.specs.Queue.{queueOf};
 ghost use Rattle.image.specs.Image.{coreLength, stateIn, heldIn};
-ghost use Rattle.quicksetter.specs.Calls.{plateFrom, possible, dataTo, CoreCalled, Unrefused, Servable, ServedIn, ClosedIn, Polls};
+ghost use Rattle.quicksetter.specs.Calls.{Called};
+ghost use Rattle.quicksetter.specs.Cores.{possible, refusalIn, dataTo, CoreCalled, Unrefused, Servable, ServedIn, ClosedIn, Polls};
 use crate::answer::REFUSED;
-use crate::given::plate_from;
+use image::CORE;
 use image::COUNTER;
 use image::KEPT;
+use image::LENGTH;
 use image::OFFSET;
 use image::WAITING;
 use line::Judgement;
@@ -24,8 +26,8 @@ use state::LAST_COUNT;
 use wire::codes::LONGEST_REPLY;
 
 // R1 of the plate and of the core, but for the waiting codes.
-fn is_possible(core: &[u8], total: u32, bits: u32, address: u32, ticks: u32, pause: u32) -> bool
-    ensures { λ r. ⌜ r ≡ possible (plateOf (plateFrom total bits address ticks pause)) (now (core .entry)) ⌝ }
+fn is_possible(core: &[u8], plate: Plate) -> bool
+    ensures { λ r. ⌜ r ≡ possible (plateOf plate) (now (core .entry)) ⌝ }
 {
     if !image::is_core(core) {
         return false;
@@ -33,11 +35,10 @@ fn is_possible(core: &[u8], total: u32, bits: u32, address: u32, ticks: u32, pau
     if LAST_COUNT < wire::number_at(core, COUNTER) {
         return false;
     }
-    let plate = plate_from(total, bits, address, ticks, pause);
     if !plate.is_ok() {
         return false;
     }
-    state::offset_fits(wire::number_at(core, OFFSET), bits)
+    state::offset_fits(wire::number_at(core, OFFSET), plate.bits)
 }
 
 // R1 of the waiting codes; that none waits, as is usual, is told at once.
@@ -52,20 +53,30 @@ fn is_sound(core: &[u8]) -> bool
     state.faults.is_sound()
 }
 
-// Whether the core's open frame is over at that tick.
-fn is_over(
-    core: &[u8],
-    tick: u32,
-    total: u32,
-    bits: u32,
-    address: u32,
-    ticks: u32,
-    pause: u32,
-) -> bool
-    requires { ⌜ coreLength ≤ length (now core) ⌝ }
-    ensures { λ r. ⌜ r ≡ over (plateOf (plateFrom total bits address ticks pause)) (heldIn (now (core .entry))) tick ⌝ }
+// R1 to R3 in that order, 0 for none, of a memory and a room of those lengths.
+fn refusal(plate: Plate, core: &[u8], memory: usize, room: usize) -> usize
+    ensures { λ r. ⌜ r ≡ refusalIn (plateOf plate) (now (core .entry)) memory room ⌝ }
 {
-    let plate = plate_from(total, bits, address, ticks, pause);
+    if !is_possible(core, plate) {
+        return 1;
+    }
+    if !is_sound(core) {
+        return 1;
+    }
+    if memory as u64 != plate.memory_length() {
+        return 2;
+    }
+    if room < LONGEST_REPLY {
+        return 3;
+    }
+    0
+}
+
+// Whether the core's open frame is over at that tick.
+fn is_over(core: &[u8], tick: u32, plate: Plate) -> bool
+    requires { ⌜ coreLength ≤ length (now core) ⌝ }
+    ensures { λ r. ⌜ r ≡ over (plateOf plate) (heldIn (now (core .entry))) tick ⌝ }
+{
     let frame = image::frame_in(core);
     frame.is_over(plate, tick)
 }
@@ -96,20 +107,10 @@ fn served(
 }
 
 // The open frame, judged, worked and answered. The number is the reply's length.
-fn answered(
-    core: &mut [u8],
-    total: u32,
-    bits: u32,
-    address: u32,
-    ticks: u32,
-    pause: u32,
-    memory: &mut [u8],
-    room: &mut [u8],
-) -> usize
-    requires { ⌜ Unrefused (plateOf (plateFrom total bits address ticks pause)) (now core) (length (now memory)) (length (now room)) ⌝ }
-    ensures { λ r. ⌜ ClosedIn (plateOf (plateFrom total bits address ticks pause)) (now (core .entry)) (now (memory .entry)) (now (room .entry)) r (now (core .exit)) (now (memory .exit)) (now (room .exit)) ⌝ }
+fn answered(core: &mut [u8], plate: Plate, memory: &mut [u8], room: &mut [u8]) -> usize
+    requires { ⌜ Unrefused (plateOf plate) (now core) (length (now memory)) (length (now room)) ⌝ }
+    ensures { λ r. ⌜ ClosedIn (plateOf plate) (now (core .entry)) (now (memory .entry)) (now (room .entry)) r (now (core .exit)) (now (memory .exit)) (now (room .exit)) ⌝ }
 {
-    let plate = plate_from(total, bits, address, ticks, pause);
     let frame = image::frame_in(core);
     let end = KEPT + frame.len as usize;
     let judgement = frame.judged(line::own_byte(plate), &core[KEPT..end]);
@@ -121,21 +122,12 @@ fn answered(
 }
 
 // The open frame is over: it is answered and put away.
-fn shut(
-    core: &mut [u8],
-    total: u32,
-    bits: u32,
-    address: u32,
-    ticks: u32,
-    pause: u32,
-    memory: &mut [u8],
-    room: &mut [u8],
-) -> usize
-    requires { ⌜ Unrefused (plateOf (plateFrom total bits address ticks pause)) (now core) (length (now memory)) (length (now room)) ⌝ }
-    ensures { λ r. ⌜ ((tick : ℕ) → over (plateOf (plateFrom total bits address ticks pause)) (heldIn (now (core .entry))) tick ≡ true
-        → Polls (plateOf (plateFrom total bits address ticks pause)) (now (core .entry)) (now (memory .entry)) (now (room .entry)) tick r (now (core .exit)) (now (memory .exit)) (now (room .exit))) ⌝ }
+fn shut(core: &mut [u8], plate: Plate, memory: &mut [u8], room: &mut [u8]) -> usize
+    requires { ⌜ Unrefused (plateOf plate) (now core) (length (now memory)) (length (now room)) ⌝ }
+    ensures { λ r. ⌜ ((tick : ℕ) → over (plateOf plate) (heldIn (now (core .entry))) tick ≡ true
+        → Polls (plateOf plate) (now (core .entry)) (now (memory .entry)) (now (room .entry)) tick r (now (core .exit)) (now (memory .exit)) (now (room .exit))) ⌝ }
 {
-    let sent = answered(core, total, bits, address, ticks, pause, memory, room);
+    let sent = answered(core, plate, memory, room);
     image::put_frame(OpenFrame::none(), core);
     sent
 }
@@ -145,13 +137,8 @@ fn polled(core: &mut [u8], tick: u32, plate: Plate, memory: &mut [u8], room: &mu
     requires { ⌜ Unrefused (plateOf plate) (now core) (length (now memory)) (length (now room)) ⌝ }
     ensures { λ r. ⌜ Polls (plateOf plate) (now (core .entry)) (now (memory .entry)) (now (room .entry)) tick r (now (core .exit)) (now (memory .exit)) (now (room .exit)) ⌝ }
 {
-    let total = plate.total;
-    let bits = plate.bits;
-    let address = plate.address;
-    let ticks = plate.ticks;
-    let pause = plate.pause;
-    if is_over(core, tick, total, bits, address, ticks, pause) {
-        return shut(core, total, bits, address, ticks, pause, memory, room);
+    if is_over(core, tick, plate) {
+        return shut(core, plate, memory, room);
     }
     0
 }
@@ -162,69 +149,69 @@ fn is_fault(parity: u8) -> bool
     parity != 0
 }
 
-#[no_mangle]
-pub extern "C" fn qs_character(
-    core: &mut [u8],
+fn character(
+    plate: Plate,
     tick: u32,
     value: u8,
     parity: u8,
-    total: u32,
-    bits: u32,
-    address: u32,
-    ticks: u32,
-    pause: u32,
+    core: &mut [u8],
     memory: &mut [u8],
     room: &mut [u8],
 ) -> usize
-    ensures { λ r. ⌜ CoreCalled (plateOf (plateFrom total bits address ticks pause)) (now (core .entry)) (now (memory .entry)) (now (room .entry)) (run.character tick value (differ parity 0)) r (now (core .exit)) (now (memory .exit)) (now (room .exit)) ⌝ }
+    ensures { λ r. ⌜ CoreCalled (plateOf plate) (now (core .entry)) (now (memory .entry)) (now (room .entry)) (run.character tick value (differ parity 0)) r (now (core .exit)) (now (memory .exit)) (now (room .exit)) ⌝ }
 {
-    if !is_possible(core, total, bits, address, ticks, pause) {
-        return REFUSED + 1;
-    }
-    if !is_sound(core) {
-        return REFUSED + 1;
-    }
-    let plate = plate_from(total, bits, address, ticks, pause);
-    if memory.len() as u64 != plate.memory_length() {
-        return REFUSED + 2;
-    }
-    if room.len() < LONGEST_REPLY {
-        return REFUSED + 3;
+    let refusal = refusal(plate, core, memory.len(), room.len());
+    if refusal != 0 {
+        return REFUSED + refusal;
     }
     let sent = polled(core, tick, plate, memory, room);
     image::take_character(tick, value, is_fault(parity), core);
     sent
 }
 
+fn poll(plate: Plate, tick: u32, core: &mut [u8], memory: &mut [u8], room: &mut [u8]) -> usize
+    ensures { λ r. ⌜ CoreCalled (plateOf plate) (now (core .entry)) (now (memory .entry)) (now (room .entry)) (run.poll tick) r (now (core .exit)) (now (memory .exit)) (now (room .exit)) ⌝ }
+{
+    let refusal = refusal(plate, core, memory.len(), room.len());
+    if refusal != 0 {
+        return REFUSED + refusal;
+    }
+    polled(core, tick, plate, memory, room)
+}
+
 #[no_mangle]
-pub extern "C" fn qs_poll(
-    core: &mut [u8],
+pub extern "C" fn qs_character(
+    image: &mut [u8],
     tick: u32,
-    total: u32,
-    bits: u32,
-    address: u32,
-    ticks: u32,
-    pause: u32,
+    value: u8,
+    parity: u8,
     memory: &mut [u8],
     room: &mut [u8],
 ) -> usize
-    ensures { λ r. ⌜ CoreCalled (plateOf (plateFrom total bits address ticks pause)) (now (core .entry)) (now (memory .entry)) (now (room .entry)) (run.poll tick) r (now (core .exit)) (now (memory .exit)) (now (room .exit)) ⌝ }
+    ensures { λ r. ⌜ Called (now (image .entry)) (now (memory .entry)) (now (room .entry)) (run.character tick value (differ parity 0)) r (now (image .exit)) (now (memory .exit)) (now (room .exit)) ⌝ }
 {
-    if !is_possible(core, total, bits, address, ticks, pause) {
+    if !image::is_ours(image) {
         return REFUSED + 1;
     }
-    if !is_sound(core) {
+    let plate = image::plate_in(image);
+    character(
+        plate,
+        tick,
+        value,
+        parity,
+        &mut image[CORE..LENGTH],
+        memory,
+        room,
+    )
+}
+
+#[no_mangle]
+pub extern "C" fn qs_poll(image: &mut [u8], tick: u32, memory: &mut [u8], room: &mut [u8]) -> usize
+    ensures { λ r. ⌜ Called (now (image .entry)) (now (memory .entry)) (now (room .entry)) (run.poll tick) r (now (image .exit)) (now (memory .exit)) (now (room .exit)) ⌝ }
+{
+    if !image::is_ours(image) {
         return REFUSED + 1;
     }
-    let plate = plate_from(total, bits, address, ticks, pause);
-    if memory.len() as u64 != plate.memory_length() {
-        return REFUSED + 2;
-    }
-    if room.len() < LONGEST_REPLY {
-        return REFUSED + 3;
-    }
-    if is_over(core, tick, total, bits, address, ticks, pause) {
-        return shut(core, total, bits, address, ticks, pause, memory, room);
-    }
-    0
+    let plate = image::plate_in(image);
+    poll(plate, tick, &mut image[CORE..LENGTH], memory, room)
 }

@@ -3,7 +3,8 @@ ghost use mathlib.Core.Path.{_≡_};
 ghost use Prim.Native.Nat.{_≤_};
 ghost use lib.ListN.{length};
 ghost use Rattle.image.specs.Image.{coreLength};
-ghost use Rattle.quicksetter.specs.Calls.{plateFrom, boardIn};
+ghost use Rattle.quicksetter.specs.Calls.{plateFrom};
+ghost use Rattle.quicksetter.specs.Cores.{boardIn};
 use board::Board;
 use line::Plate;
 

@@ -4,3 +4,4 @@ mod events;
 mod given;
 mod notes;
 mod replies;
+mod starts;

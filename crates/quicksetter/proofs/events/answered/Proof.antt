@@ -7,7 +7,6 @@ use Rattle.line.proofs.Judging.{no-request}
 use Rattle.state.specs.State.{stateWith}
 use Rattle.image.specs.Image.{stateIn}
 use Rattle.image.proofs.Round.{good}
-use Rattle.quicksetter.specs.Calls.{plateFrom}
 use Rattle.quicksetter.proofs.Closing.{low-own, may-answer, at-most, refused-in, servable, request-in}
 use borrow.Author.Needs.{needs}
 use Rattle.quicksetter.proofs.events.answered.Statement.{statement}
@@ -21,14 +20,10 @@ use Rattle.line.proofs.characters.OpenFrame.judged.Reads as judged-reads
 use Rattle.line.proofs.judge.Judgement.code.Reads as code-reads
 use Rattle.line.proofs.own_byte.Reads as own-byte-reads
 use Rattle.quicksetter.proofs.events.served.Reads as served-reads
-use Rattle.quicksetter.proofs.given.plate_from.Reads as plate-from-reads
-
-plate-from-requires : tie.Need-plate-from-requires
-plate-from-requires c κs = search needs
 
 frame-in-requires : tie.Need-frame-in-requires
 frame-in-requires c κs =
-    let start = c .before .before .before .before .before in
+    let start = c .before .before .before .before in
     omega (arith, good _ (start .pre .bytes) .all)
 
 cast-end : tie.Need-cast-end
@@ -39,9 +34,8 @@ add-end c = search needs
 
 own-byte-requires : tie.Need-own-byte-requires
 own-byte-requires c κs =
-    let after-plate-from = c .before .before .before in
-    let start = after-plate-from .before .before .before .before in
-    rw (after-plate-from .plate-from .ensures) (low-own (plateFrom (start .args .total) (start .args .bits) (start .args .address) (start .args .ticks) (start .args .pause)) (now (start .args .core)) (now (start .args .memory)) (now (start .args .room)) (start .pre))
+    let start = c .before .before .before .before .before .before in
+    low-own (start .args .plate) (now (start .args .core)) (now (start .args .memory)) (now (start .args .room)) (start .pre)
 
 sub-judged : tie.Need-sub-judged
 sub-judged c = search needs
@@ -52,10 +46,10 @@ part-judged-start c = search needs
 part-judged-end : tie.Need-part-judged-end
 part-judged-end c =
     let after-frame-in = c .before .before .before in
-    let start = after-frame-in .before .before .before .before .before .before in
+    let start = after-frame-in .before .before .before .before .before in
     omega (
       arith,
-      at-most (plateFrom (start .args .total) (start .args .bits) (start .args .address) (start .args .ticks) (start .args .pause)) (now (start .args .core)) (now (start .args .memory)) (now (start .args .room)) (start .pre)
+      at-most (start .args .plate) (now (start .args .core)) (now (start .args .memory)) (now (start .args .room)) (start .pre)
           (after-frame-in .frame-in .ensures),
       good _ (start .pre .bytes) .all,
     )
@@ -68,7 +62,7 @@ enum-known-judgement c = search needs
 
 state-in-requires : tie.Need-state-in-requires
 state-in-requires c κs =
-    let start = c .before .before .before .before .before .before .before .before .before .before .before .before .before in
+    let start = c .before .before .before .before .before .before .before .before .before .before .before .before in
     omega (arith, good _ (start .pre .bytes) .all)
 
 code-requires : tie.Need-code-requires
@@ -76,9 +70,8 @@ code-requires c κs = search needs
 
 refuse-requires : tie.Need-refuse-requires
 refuse-requires c κs =
-    let after-plate-from = c .before .before .before .before .before .before .before .before .before .before .before .before in
-    let start = after-plate-from .before .before .before .before in
-    rw (after-plate-from .plate-from .ensures) (may-answer (plateFrom (start .args .total) (start .args .bits) (start .args .address) (start .args .ticks) (start .args .pause)) (now (start .args .core)) (now (start .args .memory)) (now (start .args .room)) (start .pre))
+    let start = c .before .before .before .before .before .before .before .before .before .before .before .before .before .before .before in
+    may-answer (start .args .plate) (now (start .args .core)) (now (start .args .memory)) (now (start .args .room)) (start .pre)
 
 same-length : tie.Need-same-length
 same-length c = search needs
@@ -91,27 +84,25 @@ returns c =
     let after-refuse = c .before .before in
     let after-code = after-refuse .before .before in
     let after-state-in = after-code .before in
-    let at-match-keys2 = after-state-in .before .before in
-    let after-judged = at-match-keys2 .before in
+    let after-match = after-state-in .before .before in
+    let after-judged = after-match .before in
     let after-own-byte = after-judged .before .before .before in
     let after-frame-in = after-own-byte .before .before in
-    let after-plate-from = after-frame-in .before .before in
-    let after-slice-known = after-plate-from .before .before .before in
+    let after-slice-known = after-frame-in .before .before .before .before in
     let start = after-slice-known .before in
-    refused-in (plateFrom (start .args .total) (start .args .bits) (start .args .address) (start .args .ticks) (start .args .pause)) (now (start .args .core)) (now (start .args .memory)) (now (start .args .room)) (start .pre)
+    refused-in (start .args .plate) (now (start .args .core)) (now (start .args .memory)) (now (start .args .room)) (start .pre)
     (after-frame-in .frame-in .ensures) (after-judged .judged .result) _ (λ i. (after-slice-known .slice-known .given i) .fits)
-    (rw (after-plate-from .plate-from .ensures) at (after-own-byte .own-byte .ensures (stateWith (stateIn (now (start .args .core))) none))) (sym (after-judged .judged .ensures))
-    (no-request (after-judged .judged .result) (at-match-keys2 .match .keys2)) (rw (after-plate-from .plate-from .ensures, after-state-in .state-in .ensures, after-code .code .ensures) at (after-refuse .refuse .ensures))
+    (after-own-byte .own-byte .ensures (stateWith (stateIn (now (start .args .core))) none)) (sym (after-judged .judged .ensures))
+    (no-request (after-judged .judged .result) (after-match .match .keys2)) (rw (after-state-in .state-in .ensures, after-code .code .ensures) at (after-refuse .refuse .ensures))
 
 served-requires : tie.Need-served-requires
 served-requires c κs =
     let after-judgement = c .before .before .before .before in
     let after-judged = after-judgement .before .before in
     let after-frame-in = after-judged .before .before .before .before .before in
-    let after-plate-from = after-frame-in .before .before in
-    let start = after-plate-from .before .before .before .before in
-    rw (after-plate-from .plate-from .ensures) (servable (plateFrom (start .args .total) (start .args .bits) (start .args .address) (start .args .ticks) (start .args .pause)) (now (start .args .core)) (now (start .args .memory))
-    (now (start .args .room)) (start .pre) (after-frame-in .frame-in .ensures) _ (sym (after-judged .judged .ensures) ∙ after-judgement .judgement .given .1))
+    let start = after-frame-in .before .before .before .before .before in
+    servable (start .args .plate) (now (start .args .core)) (now (start .args .memory)) (now (start .args .room)) (start .pre)
+    (after-frame-in .frame-in .ensures) _ (sym (after-judged .judged .ensures) ∙ after-judgement .judgement .given .1)
 
 same-length-3 : tie.Need-same-length-3
 same-length-3 c = search needs
@@ -129,17 +120,15 @@ returns-2 c =
     let after-judged = after-judgement .before .before in
     let after-own-byte = after-judged .before .before .before in
     let after-frame-in = after-own-byte .before .before in
-    let after-plate-from = after-frame-in .before .before in
-    let start = after-plate-from .before .before .before .before in
-    request-in (plateFrom (start .args .total) (start .args .bits) (start .args .address) (start .args .ticks) (start .args .pause)) (now (start .args .core)) (now (start .args .memory)) (now (start .args .room)) (start .pre)
+    let start = after-frame-in .before .before .before .before .before in
+    request-in (start .args .plate) (now (start .args .core)) (now (start .args .memory)) (now (start .args .room)) (start .pre)
     (after-frame-in .frame-in .ensures) _ (sym (after-judged .judged .ensures) ∙ after-judgement .judgement .given .1)
-    (rw (after-plate-from .plate-from .ensures) at (after-own-byte .own-byte .ensures (stateWith (stateIn (now (start .args .core))) none))) (rw (after-plate-from .plate-from .ensures) at (after-served .served .ensures))
+    (after-own-byte .own-byte .ensures (stateWith (stateIn (now (start .args .core))) none)) (after-served .served .ensures)
 
 pub answered-spec : {M : Type 1} → statement M
 answered-spec =
     tie.close
     (tie.spec
-    plate-from-requires
     frame-in-requires
     cast-end
     add-end

@@ -7,10 +7,6 @@ use Rattle.quicksetter.proofs.events.is_over.Reads as reads
 use Rattle.quicksetter.proofs.events.is_over.Lts as lts
 use Rattle.image.proofs.frame_in.Reads as frame-in-reads
 use Rattle.line.proofs.characters.OpenFrame.is_over.Reads as is-over-reads
-use Rattle.quicksetter.proofs.given.plate_from.Reads as plate-from-reads
-
-plate-from-requires : tie.Need-plate-from-requires
-plate-from-requires c κs = search needs
 
 frame-in-requires : tie.Need-frame-in-requires
 frame-in-requires c κs = search needs
@@ -19,9 +15,7 @@ is-over-requires : tie.Need-is-over-requires
 is-over-requires c κs = search needs
 
 returns : tie.Need-returns
-returns c =
-    let after-plate-from = c .before .before in
-    over-in _ _ _ (c .before .frame-in .ensures) (rw (after-plate-from .plate-from .ensures) at (c .is-over .ensures))
+returns c = over-in _ _ _ (c .before .frame-in .ensures) (c .is-over .ensures)
 
 pub is-over-spec : {M : Type 1} → statement M
-is-over-spec = tie.close (tie.spec plate-from-requires frame-in-requires is-over-requires returns)
+is-over-spec = tie.close (tie.spec frame-in-requires is-over-requires returns)

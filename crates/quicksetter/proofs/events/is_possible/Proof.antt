@@ -6,7 +6,7 @@ use denote.Ref.{now}
 use borrow.Author.Tests.{lt-leb, le-leb, not-true, not-false}
 use Rattle.image.specs.Image.{isCore}
 use Rattle.image.proofs.Round.{good}
-use Rattle.quicksetter.specs.Calls.{possible}
+use Rattle.quicksetter.specs.Cores.{possible}
 use borrow.Author.Needs.{needs}
 use Rattle.quicksetter.proofs.events.is_possible.Statement.{statement}
 use Rattle.quicksetter.proofs.events.is_possible.Tie as tie
@@ -14,17 +14,10 @@ use Rattle.quicksetter.proofs.events.is_possible.Reads as reads
 use Rattle.quicksetter.proofs.events.is_possible.Lts as lts
 use Rattle.image.proofs.is_core.Reads as is-core-reads
 use Rattle.line.proofs.plate.Plate.is_ok.Reads as is-ok-reads
-use Rattle.quicksetter.proofs.given.plate_from.Reads as plate-from-reads
 use Rattle.state.proofs.offset_fits.Reads as offset-fits-reads
 use Rattle.wire.proofs.number_at.Reads as number-at-reads
 
--- where the call began
-abbrev entry : tie.Else1 → tie.Start
-entry c =
-    let start = c .before .before .before in
-    start
-
-fine : (c : tie.Else1) → isCore (now (entry c .args .core)) ≡ true
+fine : (c : tie.Else1) → isCore (now (c .before .before .before .args .core)) ≡ true
 fine c = sym (c .before .is-core .ensures) ∙ not-false _ (c .if1 .left)
 
 is-core-requires : tie.Need-is-core-requires
@@ -43,25 +36,21 @@ returns-2 c =
     let after-else1 = c .before .before in
     simp (fine after-else1, lt-leb _ _ (rw (c .before .number-at .ensures) at (c .if2 .taken)))
 
-plate-from-requires : tie.Need-plate-from-requires
-plate-from-requires c κs = search needs
-
 is-ok-requires : tie.Need-is-ok-requires
 is-ok-requires c κs = search needs
 
 returns-3 : tie.Need-returns-3
 unfolding possible
 returns-3 c =
-    let after-plate-from = c .before .before in
-    let after-else2 = after-plate-from .before in
-    let after-number-at = after-else2 .before in
-    let after-else1 = after-number-at .before in
-    simp (fine after-else1, le-leb _ _ (rw (after-number-at .number-at .ensures) at (after-else2 .if2 .left)), sym (rw (after-plate-from .plate-from .ensures) at (c .before .is-ok .ensures)) ∙ not-true _ (c .if3 .taken))
+    let after-if2 = c .before .before in
+    let after-number-at = after-if2 .before in
+    let after-if1 = after-number-at .before in
+    simp (fine (after-if1), le-leb _ _ (rw (after-number-at .number-at .ensures) at (after-if2 .if2 .left)), sym (c .before .is-ok .ensures) ∙ not-true _ (c .if3 .taken))
 
 number-at-requires-2 : tie.Need-number-at-requires-2
 number-at-requires-2 c κs =
-    let after-else1 = c .before .before .before .before .before in
-    omega (arith, good _ (fine after-else1) .all)
+    let after-if1 = c .before .before .before .before in
+    omega (arith, good _ (fine (after-if1)) .all)
 
 offset-fits-requires : tie.Need-offset-fits-requires
 offset-fits-requires c κs = search needs
@@ -69,18 +58,16 @@ offset-fits-requires c κs = search needs
 returns-4 : tie.Need-returns-4
 unfolding possible
 returns-4 c =
-    let after-else3 = c .before .before in
-    let after-is-ok = after-else3 .before in
-    let after-plate-from = after-is-ok .before in
-    let after-else2 = after-plate-from .before in
-    let after-number-at = after-else2 .before in
-    let after-else1 = after-number-at .before in
+    let after-if3 = c .before .before in
+    let after-is-ok = after-if3 .before in
+    let after-if2 = after-is-ok .before in
+    let after-number-at = after-if2 .before in
+    let after-if1 = after-number-at .before in
     simp (
-      fine after-else1,
-      le-leb _ _ (rw (after-number-at .number-at .ensures) at (after-else2 .if2 .left)),
-      sym (rw (after-plate-from .plate-from .ensures) at (after-is-ok .is-ok .ensures)) ∙ not-false _ (after-else3 .if3 .left),
-      sym
-          (rw (c .before .number-at2 .ensures) at (c .offset-fits .ensures)),
+      fine (after-if1),
+      le-leb _ _ (rw (after-number-at .number-at .ensures) at (after-if2 .if2 .left)),
+      sym (after-is-ok .is-ok .ensures) ∙ not-false _ (after-if3 .if3 .left),
+      sym (rw (c .before .number-at2 .ensures) at (c .offset-fits .ensures)),
     )
 
 pub is-possible-spec : {M : Type 1} → statement M
@@ -91,7 +78,6 @@ is-possible-spec =
     returns
     number-at-requires
     returns-2
-    plate-from-requires
     is-ok-requires
     returns-3
     number-at-requires-2

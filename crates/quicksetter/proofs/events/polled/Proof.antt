@@ -32,9 +32,9 @@ same-length-3 c = search needs
 returns : tie.Need-returns
 returns c =
     let after-shut = c .before .before .before .before .before .before in
-    let after-1 = after-shut .before .before .before .before in
-    let after-is-over = after-1 .before in
-    after-shut .shut .ensures _ (sym (after-is-over .is-over .ensures) ∙ after-1 .if1 .taken)
+    let after-if1 = after-shut .before .before .before .before in
+    let after-is-over = after-if1 .before in
+    after-shut .shut .ensures _ (sym (after-is-over .is-over .ensures) ∙ after-if1 .if1 .taken)
 
 same-length-4 : tie.Need-same-length-4
 same-length-4 c = search needs

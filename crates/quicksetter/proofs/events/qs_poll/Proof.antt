@@ -1,77 +1,22 @@
 -- `quicksetter::events::qs_poll` meets its contract. Assumes nothing.
-use mathlib.Core.Path.{_≡_, sym, _∙_}
+use mathlib.Core.Path.{_≡_, refl, sym, _∙_}
 use mathlib.Core.Bool.{true}
 use native.Mathlib.Omega.{arith}
 use denote.Ref.{now}
 use borrow.Author.Tests.{not-true, not-false}
-use lib.ListN.{length}
-use Rattle.meaning.specs.State.{Plate, apart}
-use Rattle.meaning.specs.Fields.{memoryLength}
-use Rattle.meaning.specs.Run.{poll}
-use Rattle.line.specs.Line.{plateOf}
-use Rattle.state.specs.Queue.{queueOf}
-use Rattle.image.specs.Image.{stateIn}
-use Rattle.image.proofs.Round.{good}
-use Rattle.quicksetter.specs.Calls.{plateFrom, possible, Unrefused}
-use Rattle.quicksetter.proofs.Refusing.{a-core, lends-poll, impossible, unsound, other-size, too-narrow, unrefused}
-use Rattle.quicksetter.proofs.Closing.{nothing-over}
+use Rattle.image.specs.Image.{isOurs}
+use Rattle.quicksetter.proofs.Heads.{ours-length, not-ours, called-whole}
 use borrow.Author.Needs.{needs}
 use Rattle.quicksetter.proofs.events.qs_poll.Statement.{statement}
 use Rattle.quicksetter.proofs.events.qs_poll.Tie as tie
 use Rattle.quicksetter.proofs.events.qs_poll.Reads as reads
 use Rattle.quicksetter.proofs.events.qs_poll.Lts as lts
-use Rattle.line.proofs.plate.Plate.memory_length.Reads as memory-length-reads
-use Rattle.quicksetter.proofs.events.is_over.Reads as is-over-reads
-use Rattle.quicksetter.proofs.events.is_possible.Reads as is-possible-reads
-use Rattle.quicksetter.proofs.events.is_sound.Reads as is-sound-reads
-use Rattle.quicksetter.proofs.events.shut.Reads as shut-reads
-use Rattle.quicksetter.proofs.given.plate_from.Reads as plate-from-reads
+use Rattle.image.proofs.is_ours.Reads as is-ours-reads
+use Rattle.image.proofs.plate_in.Reads as plate-in-reads
+use Rattle.quicksetter.proofs.events.poll.Reads as poll-reads
 
--- where the call began
-abbrev entry1 : tie.Else1 → tie.Start
-entry1 c =
-    let start = c .before .before .before .before .before .before in
-    start
-
-abbrev entry2 : tie.Else2 → tie.Start
-entry2 c =
-    let start = c .before .before .before .before .before .before .before .before .before in
-    start
-
-abbrev entry3 : tie.Else3 → tie.Start
-entry3 c =
-    let start = c .before .before .before .before .before .before .before .before .before .before .before .before in
-    start
-
-abbrev entry4 : tie.Else4 → tie.Start
-entry4 c =
-    let start = c .before .before .before .before .before .before .before .before .before .before .before .before .before in
-    start
-
--- the plate that it was given
-abbrev plate-at : tie.Start → Plate
-plate-at s = plateOf (plateFrom (s .args .total) (s .args .bits) (s .args .address) (s .args .ticks) (s .args .pause))
-
-can : (c : tie.Else1) → possible (plate-at (entry1 c)) (now (entry1 c .args .core)) ≡ true
-can c = sym (c .before .is-possible .ensures) ∙ not-false _ (c .if1 .left)
-
-sound : (c : tie.Else2) → apart (queueOf (stateIn (now (entry2 c .args .core)) .faults)) ≡ true
-sound c = sym (c .before .is-sound .ensures) ∙ not-false _ (c .if2 .left)
-
-sized : (c : tie.Else3) → length (now (entry3 c .args .memory)) ≡ memoryLength (entry3 c .args .total)
-sized c =
-    let after-plate-from = c .before .before in
-    c .if3 .left ∙ rw (after-plate-from .plate-from .ensures) at (c .before .memory-length .ensures)
-
-passed : (c : tie.Else4) → Unrefused (plate-at (entry4 c)) (now (entry4 c .args .core)) (length (now (entry4 c .args .memory))) (length (now (entry4 c .args .room)))
-passed c =
-    let after-else2 = c .before .before .before .before in
-    let after-else1 = after-else2 .before .before .before in
-    let start = after-else1 .before .before .before .before .before .before in
-    unrefused _ _ (now (start .args .memory)) (now (start .args .room)) (poll 0) (can after-else1) (sound after-else2) (sized (c .before)) (c .if4 .left)
-
-is-possible-requires : tie.Need-is-possible-requires
-is-possible-requires c κs = search needs
+is-ours-requires : tie.Need-is-ours-requires
+is-ours-requires c κs = search needs
 
 add-result : tie.Need-add-result
 add-result c = search needs
@@ -80,114 +25,66 @@ same-length : tie.Need-same-length
 same-length c = search needs
 
 returns : tie.Need-returns
-returns c = impossible _ _ _ _ _ (sym (c .before .is-possible .ensures) ∙ not-true _ (c .if1 .taken))
+returns c = not-ours _ _ _ _ (sym (c .before .is-ours .ensures) ∙ not-true _ (c .if1 .taken))
 
-is-sound-requires : tie.Need-is-sound-requires
-is-sound-requires c κs = omega (arith, good _ (a-core _ _ (can (c .before))) .all)
+plate-in-requires : tie.Need-plate-in-requires
+plate-in-requires c κs =
+    let after-is-ours = c .before .before in
+    omega (arith, ours-length _ (sym (after-is-ours .is-ours .ensures) ∙ not-false _ (c .before .if1 .left)))
 
-add-result-2 : tie.Need-add-result-2
-add-result-2 c = search needs
+sub-poll : tie.Need-sub-poll
+sub-poll c =
+    let after-if1 = c .before .before in
+    let after-is-ours = after-if1 .before in
+    omega (arith, ours-length _ (sym (after-is-ours .is-ours .ensures) ∙ not-false _ (after-if1 .if1 .left)))
+
+part-poll-start : tie.Need-part-poll-start
+part-poll-start c =
+    let after-if1 = c .before .before in
+    let after-is-ours = after-if1 .before in
+    omega (arith, ours-length _ (sym (after-is-ours .is-ours .ensures) ∙ not-false _ (after-if1 .if1 .left)))
+
+part-poll-end : tie.Need-part-poll-end
+part-poll-end c =
+    let after-if1 = c .before .before in
+    let after-is-ours = after-if1 .before in
+    omega (arith, ours-length _ (sym (after-is-ours .is-ours .ensures) ∙ not-false _ (after-if1 .if1 .left)))
+
+poll-requires : tie.Need-poll-requires
+poll-requires c κs = search needs
 
 same-length-2 : tie.Need-same-length-2
 same-length-2 c = search needs
 
-returns-2 : tie.Need-returns-2
-returns-2 c =
-    let after-else1 = c .before .before .before in
-    unsound _ _ _ _ _ (can after-else1) (sym (c .before .is-sound .ensures) ∙ not-true _ (c .if2 .taken))
-
-plate-from-requires : tie.Need-plate-from-requires
-plate-from-requires c κs = search needs
-
-memory-length-requires : tie.Need-memory-length-requires
-memory-length-requires c κs = search needs
-
-add-result-3 : tie.Need-add-result-3
-add-result-3 c = search needs
-
 same-length-3 : tie.Need-same-length-3
 same-length-3 c = search needs
-
-returns-3 : tie.Need-returns-3
-returns-3 c =
-    let after-plate-from = c .before .before in
-    let after-else2 = after-plate-from .before in
-    let after-else1 = after-else2 .before .before .before in
-    other-size _ _ _ _ _ (can after-else1) (sound after-else2) (lends-poll _) (λ e. c .if3 .taken (e ∙ sym (rw (after-plate-from .plate-from .ensures) at (c .before .memory-length .ensures))))
-
-add-result-4 : tie.Need-add-result-4
-add-result-4 c = search needs
 
 same-length-4 : tie.Need-same-length-4
 same-length-4 c = search needs
 
-returns-4 : tie.Need-returns-4
-returns-4 c =
-    let after-else2 = c .before .before .before .before in
-    let after-else1 = after-else2 .before .before .before in
-    too-narrow _ _ _ _ _ (can after-else1) (sound after-else2) (sized (c .before)) (lends-poll _) (c .if4 .taken)
-
-is-over-requires : tie.Need-is-over-requires
-is-over-requires c κs =
-    let after-else1 = c .before .before .before .before .before .before .before .before in
-    omega (arith, good _ (a-core _ _ (can after-else1)) .all)
-
-shut-requires : tie.Need-shut-requires
-shut-requires c κs =
-    let after-else4 = c .before .before .before .before .before .before in
-    passed after-else4
-
-same-length-5 : tie.Need-same-length-5
-same-length-5 c = search needs
-
-same-length-6 : tie.Need-same-length-6
-same-length-6 c = search needs
-
-same-length-7 : tie.Need-same-length-7
-same-length-7 c = search needs
-
-returns-5 : tie.Need-returns-5
-returns-5 c =
-    let after-shut = c .before .before .before .before .before .before in
-    let after-5 = after-shut .before .before .before .before in
-    let after-is-over = after-5 .before in
-    (after-shut .shut .ensures _ (sym (after-is-over .is-over .ensures) ∙ after-5 .if5 .taken)) .called
-
-same-length-8 : tie.Need-same-length-8
-same-length-8 c = search needs
-
-returns-6 : tie.Need-returns-6
-returns-6 c =
-    let after-else4 = c .before .before .before in
-    let after-slice-known = after-else4 .before .before .before .before .before .before .before .before .before .before .before .before in
-    let start = after-slice-known .before in
-    (nothing-over _ (now (start .args .core)) _ _ (passed after-else4) _ (λ i. (after-slice-known .slice-known .given i) .fits) (sym (c .before .is-over .ensures) ∙ c .if5 .left)) .called
+returns-2 : tie.Need-returns-2
+returns-2 c =
+    let after-poll = c .before .before .before .before .before .before in
+    let after-plate-in = after-poll .before .before .before .before in
+    let after-if1 = after-plate-in .before .before in
+    let after-is-ours = after-if1 .before in
+    let start = after-is-ours .before .before .before .before .before in
+    called-whole (now (start .args .image)) _ _ _ (sym (after-is-ours .is-ours .ensures) ∙ not-false _ (after-if1 .if1 .left)) (after-plate-in .plate-in .ensures) (after-poll .poll .ensures)
 
 pub qs-poll-spec : {M : Type 1} → statement M
 qs-poll-spec =
     tie.close
     (tie.spec
-    is-possible-requires
+    is-ours-requires
     add-result
     same-length
     returns
-    is-sound-requires
-    add-result-2
+    plate-in-requires
+    sub-poll
+    part-poll-start
+    part-poll-end
+    poll-requires
     same-length-2
-    returns-2
-    plate-from-requires
-    memory-length-requires
-    add-result-3
     same-length-3
-    returns-3
-    add-result-4
     same-length-4
-    returns-4
-    is-over-requires
-    shut-requires
-    same-length-5
-    same-length-6
-    same-length-7
-    returns-5
-    same-length-8
-    returns-6)
+    returns-2)

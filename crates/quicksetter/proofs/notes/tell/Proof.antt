@@ -1,27 +1,22 @@
 -- `quicksetter::notes::tell` meets its contract. Assumes nothing.
-use mathlib.Core.Path.{_≡_, sym, _∙_}
+use mathlib.Core.Path.{_≡_, refl, sym, _∙_}
 use mathlib.Core.Bool.{true}
 use native.Mathlib.Omega.{arith}
 use denote.Ref.{now}
 use borrow.Author.Tests.{not-true, not-false}
-use Rattle.image.specs.Image.{isCore}
-use Rattle.image.proofs.Round.{good}
-use Rattle.quicksetter.proofs.Leaving.{no-core, finished-here}
+use Rattle.image.specs.Image.{isOurs}
+use Rattle.quicksetter.proofs.Heads.{ours-length, not-ours, called-whole}
 use borrow.Author.Needs.{needs}
 use Rattle.quicksetter.proofs.notes.tell.Statement.{statement}
 use Rattle.quicksetter.proofs.notes.tell.Tie as tie
 use Rattle.quicksetter.proofs.notes.tell.Reads as reads
 use Rattle.quicksetter.proofs.notes.tell.Lts as lts
-use Rattle.image.proofs.is_core.Reads as is-core-reads
-use Rattle.quicksetter.proofs.answer.finish.Reads as finish-reads
-use Rattle.quicksetter.proofs.given.board_in.Reads as board-in-reads
-use Rattle.quicksetter.proofs.notes.told.Reads as told-reads
+use Rattle.image.proofs.is_ours.Reads as is-ours-reads
+use Rattle.image.proofs.plate_in.Reads as plate-in-reads
+use Rattle.quicksetter.proofs.notes.tell_core.Reads as tell-core-reads
 
-fine : (c : tie.Else1) → isCore (now (c .before .before .before .before .args .core)) ≡ true
-fine c = sym (c .before .is-core .ensures) ∙ not-false _ (c .if1 .left)
-
-is-core-requires : tie.Need-is-core-requires
-is-core-requires c κs = search needs
+is-ours-requires : tie.Need-is-ours-requires
+is-ours-requires c κs = search needs
 
 add-result : tie.Need-add-result
 add-result c = search needs
@@ -30,41 +25,58 @@ same-length : tie.Need-same-length
 same-length c = search needs
 
 returns : tie.Need-returns
-returns c = λ m w. no-core _ _ m w _ (sym (c .before .is-core .ensures) ∙ not-true _ (c .if1 .taken))
+returns c = λ m w. not-ours _ _ _ _ (sym (c .before .is-ours .ensures) ∙ not-true _ (c .if1 .taken))
 
-board-in-requires : tie.Need-board-in-requires
-board-in-requires c κs = omega (arith, good _ (fine (c .before)) .all)
+plate-in-requires : tie.Need-plate-in-requires
+plate-in-requires c κs =
+    let after-is-ours = c .before .before in
+    omega (arith, ours-length _ (sym (after-is-ours .is-ours .ensures) ∙ not-false _ (c .before .if1 .left)))
 
-told-requires : tie.Need-told-requires
-told-requires c κs = search needs
+sub-tell-core : tie.Need-sub-tell-core
+sub-tell-core c =
+    let after-if1 = c .before .before in
+    let after-is-ours = after-if1 .before in
+    omega (arith, ours-length _ (sym (after-is-ours .is-ours .ensures) ∙ not-false _ (after-if1 .if1 .left)))
 
-finish-requires : tie.Need-finish-requires
-finish-requires c κs =
-    let after-else1 = c .before .before .before .before in
-    good _ (fine (after-else1)) .all
+part-tell-core-start : tie.Need-part-tell-core-start
+part-tell-core-start c =
+    let after-if1 = c .before .before in
+    let after-is-ours = after-if1 .before in
+    omega (arith, ours-length _ (sym (after-is-ours .is-ours .ensures) ∙ not-false _ (after-if1 .if1 .left)))
+
+part-tell-core-end : tie.Need-part-tell-core-end
+part-tell-core-end c =
+    let after-if1 = c .before .before in
+    let after-is-ours = after-if1 .before in
+    omega (arith, ours-length _ (sym (after-is-ours .is-ours .ensures) ∙ not-false _ (after-if1 .if1 .left)))
+
+tell-core-requires : tie.Need-tell-core-requires
+tell-core-requires c κs = search needs
 
 same-length-2 : tie.Need-same-length-2
 same-length-2 c = search needs
 
 returns-2 : tie.Need-returns-2
 returns-2 c =
-    let after-finish = c .before .before in
-    let after-told = after-finish .before .before in
-    let after-board-in = after-told .before in
-    let after-else1 = after-board-in .before .before in
-    let start = after-else1 .before .before .before .before in
-    λ m w. finished-here _ (now (start .args .core)) m w _ (fine (after-else1)) (after-board-in .board-in .ensures) (after-told .told .ensures) (after-finish .finish .ensures)
+    let after-tell-core = c .before .before in
+    let after-plate-in = after-tell-core .before .before in
+    let after-if1 = after-plate-in .before .before in
+    let after-is-ours = after-if1 .before in
+    let start = after-is-ours .before .before .before in
+    λ m w. called-whole (now (start .args .image)) m w _ (sym (after-is-ours .is-ours .ensures) ∙ not-false _ (after-if1 .if1 .left)) (after-plate-in .plate-in .ensures) (after-tell-core .tell-core .ensures m w)
 
 pub tell-spec : {M : Type 1} → statement M
 tell-spec =
     tie.close
     (tie.spec
-    is-core-requires
+    is-ours-requires
     add-result
     same-length
     returns
-    board-in-requires
-    told-requires
-    finish-requires
+    plate-in-requires
+    sub-tell-core
+    part-tell-core-start
+    part-tell-core-end
+    tell-core-requires
     same-length-2
     returns-2)

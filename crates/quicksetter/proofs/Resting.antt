@@ -1,0 +1,45 @@
+-- What lasted of a board that was off: the state after power-on, but for the measured position. Assumes nothing.
+use Prim.Native.Nat.{ℕ, _+_, _<_}
+use native.Mathlib.Omega.{arith}
+use mathlib.Core.Path.{_≡_, refl, ap}
+use mathlib.Core.List.{List}
+use lib.ListN.{take}
+use lib.Seq.{getD-take}
+use Rattle.meaning.specs.Bytes.{arg}
+use Rattle.meaning.specs.State as meaning
+use Rattle.meaning.specs.State.{none, poweredOn, withMeasured, withQueue, withLock, withLine}
+use Rattle.state.specs.Queue.{queueOf, waiting}
+use Rattle.wire.proofs.Numbers.{little-at}
+use Rattle.image.specs.Image.{coreIn, stateIn, restedIn}
+use Rattle.quicksetter.specs.Calls.{stateHeld, lastingOf, rested}
+
+pub measured-again : (s : meaning.State) (a b : ℕ) → withMeasured (withMeasured s a) b ≡ withMeasured s b
+unfolding withMeasured
+measured-again s a b = refl
+
+-- the lasting bytes are the core's first twelve
+module _ (img : List ℕ) where
+  front : (i : ℕ) → i < 12 → arg (lastingOf img) i ≡ arg (coreIn img) i
+  front i h = getD-take 12 (coreIn img) i 0 h
+
+  pub rested-as : rested (lastingOf img) ≡ withMeasured (poweredOn (stateHeld img)) 0
+  unfolding restedIn stateIn queueOf waiting withMeasured poweredOn withQueue withLock withLine
+  rested-as =
+      rw (
+        little-at (lastingOf img) 4,
+        little-at (lastingOf img) 8,
+        little-at (coreIn img) 4,
+        little-at (coreIn img) 8,
+        front 0 (omega arith),
+        front 1 (omega arith),
+        front 2 (omega arith),
+        front 3 (omega arith),
+        front 4 (omega arith),
+        front 5 (omega arith),
+        front 6 (omega arith),
+        front 7 (omega arith),
+        front 8 (omega arith),
+        front 9 (omega arith),
+        front 10 (omega arith),
+        front 11 (omega arith),
+      )

@@ -1,0 +1,115 @@
+-- An image that is made: of a fresh board, of a board that was off. Assumes nothing.
+use Prim.Native.Nat.{ℕ, _+_, _^_, _<_, _≤_}
+use native.Mathlib.Omega.{arith}
+use native.Mathlib.Nat.{pow-le-pow-right}
+use mathlib.Core.Path.{_≡_, refl, sym, ap, _∙_, subst}
+use mathlib.Core.Bool.{Bool, true, false}
+use mathlib.Core.List.{List, _++_}
+use borrow.Author.Tests.{eq-eqb, ne-eqb, leb-true, ltb-true}
+use lib.Dec.{eqb, leb, ltb}
+use lib.ListN.{length, take, drop, length-replicate}
+use lib.Seq.{take-at, drop-at, length-take-le}
+use Rattle.meaning.specs.Bytes.{pick, both, part, put, zeros, little}
+use Rattle.meaning.specs.State as meaning
+use Rattle.meaning.specs.State.{Plate, none, plateOk, stateOk, fresh}
+use Rattle.meaning.proofs.Choices.{both-left, both-right}
+use Rattle.meaning.proofs.Puts.{length-put}
+use Rattle.line.specs.declared.plate.Plate as line
+use Rattle.line.specs.declared.characters.OpenFrame.{OpenFrame}
+use Rattle.line.specs.Line.{plateOf, lineOf, noFrame, Fits}
+use Rattle.line.proofs.Limits.{few-bits}
+use Rattle.state.specs.declared.state.State.{State}
+use Rattle.state.specs.State.{stateWith}
+use Rattle.state.specs.Queue.{queueOf, waiting}
+use Rattle.state.proofs.Answering.{put-nothing}
+use Rattle.image.specs.Image.{flagByte, stateIn, frameIn, keptIn, heldIn, stateBytes, lineBytes, frameRow, frameBytes, headOf, headIn, coreIn, plateIn, restedIn, coreOf, PutsBoard}
+use Rattle.image.proofs.Standing.{put-whole, Typed}
+use Rattle.image.proofs.Parts.{kept-length}
+use Rattle.image.proofs.Round.{state-round-trip, frame-round-trip, kept-round-trip}
+use Rattle.quicksetter.proofs.Heads.{core-back}
+use Rattle.quicksetter.specs.Calls.{plateHeld, imageOf, startOk, Starts, rested, restartOk, Restarts}
+
+nothing-open : frameBytes noFrame ≡ lineBytes none
+unfolding frameRow lineBytes none flagByte
+nothing-open = refl
+
+nothing-kept : put (zeros 135) 0 (none .kept) ≡ zeros 135
+unfolding none
+nothing-kept = sym (put-nothing (zeros 135) 0)
+
+pub nothing-long : length (zeros 135) ≡ 135
+nothing-long = length-replicate {A = ℕ} 135 0
+
+pub nothing-short : length (none .kept) ≤ 135
+unfolding none
+nothing-short = omega arith
+
+-- the places are blanked, then state and numbers are written
+pub core-made : (core : List ℕ) {s : State} {f : OpenFrame} {after core′ : List ℕ} → length core ≡ 165
+    → after ≡ put (take 135 (drop 30 core)) 0 (zeros 135) → f ≡ noFrame
+    → PutsBoard s f (take 30 core ++ (after ++ drop 135 (drop 30 core))) core′ → core′ ≡ coreOf (stateWith s none) (zeros 135)
+unfolding coreOf
+core-made core {s} {f} {after} {core′} all a c d =
+    let k : length (take 135 (drop 30 core)) ≡ 135 = kept-length core all in
+    let w : after ≡ zeros 135 = a ∙ put-whole (take 135 (drop 30 core)) (zeros 135) (omega (arith, nothing-long)) in
+    let y : keptIn (take 30 core ++ (zeros 135 ++ drop 135 (drop 30 core))) ≡ zeros 135 =
+    ap (take 135) (drop-at (take 30 core) (zeros 135 ++ drop 135 (drop 30 core)) 30 (length-take-le 30 core (omega arith)))
+    ∙ take-at (zeros 135) (drop 135 (drop 30 core)) 135 nothing-long in
+    let x : keptIn (take 30 core ++ (after ++ drop 135 (drop 30 core))) ≡ zeros 135 = rw w y in
+    d .bytes none ∙ ap (λ (v : List ℕ). stateBytes (stateWith s none) ++ (frameBytes f ++ v)) x ∙ rw (c, nothing-open, nothing-kept)
+
+module _ (p : line.Plate) (s : State) (img : List ℕ) where
+  pub no-plate : plateOk (plateOf p) ≡ false → Starts (plateOf p) (stateWith s none) img 257 img
+  unfolding startOk
+  no-plate e = record { answer = rw e; image = rw e }
+
+  module _ (e : plateOk (plateOf p) ≡ true) where
+    pub no-length : (length img ≡ 171 → ⊥) → Starts (plateOf p) (stateWith s none) img 257 img
+    unfolding startOk
+    no-length n = let z : eqb (length img) 171 ≡ false = ne-eqb _ _ n in record { answer = rw (e, z); image = rw (e, z) }
+
+    module _ (all : length img ≡ 171) where
+      pub no-state : stateOk (plateOf p) (stateWith s none) ≡ false → Starts (plateOf p) (stateWith s none) img 257 img
+      unfolding startOk
+      no-state n = let z : eqb (length img) 171 ≡ true = eq-eqb _ _ all in record { answer = rw (e, z, n); image = rw (e, z, n) }
+
+      pub started : {mid core′ : List ℕ} → stateOk (plateOf p) (stateWith s none) ≡ true → mid ≡ put img 0 (headOf (plateOf p))
+          → core′ ≡ coreOf (stateWith s none) (zeros 135) → Starts (plateOf p) (stateWith s none) img 0 (take 6 mid ++ (core′ ++ drop 165 (drop 6 mid)))
+      unfolding startOk imageOf put headOf
+      started {mid} {core′} n a b =
+          let z : eqb (length img) 171 ≡ true = eq-eqb _ _ all in
+          let long : length mid ≡ 171 = ap length a ∙ length-put img 0 (headOf (plateOf p)) (omega arith) ∙ all in
+          record { answer = rw (e, z, n); image = rw (e, z, n) (core-back mid core′ long ∙ rw (a, b)) }
+
+-- another number of lasting bytes; else it starts from them
+pub no-lasting : (p : Plate) (lasting img : List ℕ) → (length lasting ≡ 12 → ⊥) → Restarts p lasting img 257 img
+unfolding restartOk
+no-lasting p lasting img n = let z : eqb (length lasting) 12 ≡ false = ne-eqb _ _ n in record { answer = rw z; image = rw z }
+
+pub restarts : (p : Plate) (lasting img : List ℕ) {r : ℕ} {img′ : List ℕ} → length lasting ≡ 12 → Starts p (rested lasting) img r img′ → Restarts p lasting img r img′
+unfolding restartOk
+restarts p lasting img n s = let z : eqb (length lasting) 12 ≡ true = eq-eqb _ _ n in record { answer = rw z (s .answer); image = rw z (s .image) }
+
+-- ---- what such an image holds
+pub fresh-holds : (p : Plate) → heldIn (coreOf (fresh p) (zeros 135)) ≡ fresh p
+unfolding coreOf stateBytes lineBytes fresh none flagByte put stateIn frameIn part little queueOf waiting
+fresh-holds p = refl
+
+pub plate-again : (p : Plate) (s : meaning.State) (places : List ℕ) → plateHeld (imageOf p s places) ≡ p
+unfolding imageOf headOf plateIn
+plate-again p s places = refl
+
+pub core-again : (p : Plate) (s : meaning.State) (places : List ℕ) → coreIn (imageOf p s places) ≡ coreOf s places
+unfolding imageOf headOf
+core-again p s places = refl
+
+-- a state of the code's types, with no frame open
+pub made-holds : (s : State) → Typed s → heldIn (coreOf (stateWith s none) (zeros 135)) ≡ stateWith s none
+unfolding none
+made-holds s t =
+    let fits : Fits noFrame (zeros 135) = record { few = omega arith; all = nothing-long } in
+    let c : List ℕ = coreOf (stateWith s none) (zeros 135) in
+    let a : stateIn c ≡ s = state-round-trip s noFrame (zeros 135) t (omega arith) fits in
+    let b : frameIn c ≡ noFrame = frame-round-trip s noFrame (zeros 135) t (omega arith) fits in
+    let k : keptIn c ≡ zeros 135 = kept-round-trip s noFrame (zeros 135) t (omega arith) fits in
+    ap (λ (x : State). stateWith x (lineOf (frameIn c) (keptIn c))) a ∙ ap (λ (f : OpenFrame). stateWith s (lineOf f (keptIn c))) b ∙ ap (λ (y : List ℕ). stateWith s (lineOf noFrame y)) k

@@ -1,0 +1,111 @@
+-- What a call leaves of the core of an image, for the plate that its head told, and the steps on the way (01, "Named refusals"). Assumes nothing.
+use Prim.Native.Nat.{ℕ, _-_, _≤_, _^_}
+use mathlib.Core.Path.{_≡_}
+use mathlib.Core.Bool.{Bool, true, not}
+use mathlib.Core.List.{List}
+use lib.Dec.{eqb, leb, ltb}
+use lib.ListN.{take, drop}
+use Rattle.meaning.specs.Bytes.{pick, both, either, longestReply}
+use Rattle.meaning.specs.State as meaning
+use Rattle.meaning.specs.Fields.{memoryLength}
+use Rattle.meaning.specs.Frames.{dataOf}
+use Rattle.meaning.specs.Run.{Call, poll, measured, fault, power-on, Held, called}
+use Rattle.line.specs.declared.plate.Plate.{Plate}
+use Rattle.board.specs.declared.limits.Board.{Board}
+use Rattle.board.specs.declared.limits.Outcome.{Outcome}
+use Rattle.board.specs.declared.limits.Outcome.the-variants.{R1, R2, R3, Still, Over}
+use Rattle.board.specs.declared.limits.Stepped.{Stepped}
+use Rattle.board.specs.Work.{Workable, Serves, Closes}
+use Rattle.quicksetter.specs.declared.notes.Note.{Note}
+use Rattle.quicksetter.specs.declared.notes.Note.the-variants.{Measured, Fault, PowerOn}
+use Rattle.image.specs.Image.{coreLength, numberAt, isCore, stateIn, frameIn, heldIn, keptIn, coreOf, PutsState, PutsBoard}
+use Rattle.quicksetter.specs.Calls.{callNumber}
+
+abbrev pub boardIn : List ℕ → Board
+boardIn core = record { state = stateIn core; frame = frameIn core }
+
+-- the meaning's call on the state that the core holds; what is no core is R1
+unfoldable pub coreCalled : meaning.Plate → List ℕ → List ℕ → List ℕ → Call → Held
+coreCalled p core m room g =
+    pick (isCore core) (called p (heldIn core) m room g)
+    (record { refusal = 1; count = 0; state = heldIn core; memory = m; room = room })
+
+unfoldable pub coreAfter : List ℕ → Held → List ℕ
+coreAfter core h = pick (eqb (h .refusal) 0) (coreOf (h .state) (keptIn core)) core
+
+pub record CoreCalled (p : meaning.Plate) (core m w : List ℕ) (g : Call) (r : ℕ) (core′ m′ w′ : List ℕ) : Type 0 where
+  pub answer : r ≡ callNumber (coreCalled p core m w g)
+  pub state : heldIn core′ ≡ (coreCalled p core m w g) .state
+  pub bytes : core′ ≡ coreAfter core (coreCalled p core m w g)
+  pub memory : m′ ≡ (coreCalled p core m w g) .memory
+  pub room : w′ ≡ (coreCalled p core m w g) .room
+
+-- 01, "The host notes codes": what a host tells besides
+abbrev pub callFor : Note → Call
+callFor (Measured n) = measured n
+callFor (Fault c) = fault c
+callFor PowerOn = power-on
+
+-- R1 does not apply to plate and core, whatever codes wait
+unfoldable pub possible : meaning.Plate → List ℕ → Bool
+possible p core = both (isCore core) (both (leb (numberAt core 4) meaning.lastCount) (both (meaning.plateOk p) (ltb (numberAt core 8) (2 ^ p .bits))))
+
+-- R1 to R3 of a call that can close a frame, 0 for none; memory and room by their lengths
+unfoldable pub refusalIn : meaning.Plate → List ℕ → ℕ → ℕ → ℕ
+refusalIn p core memory room =
+    pick (not (isCore core)) 1
+    (pick (either (not (meaning.plateOk p)) (not (meaning.stateOk p (heldIn core)))) 1
+    (pick (not (eqb memory (memoryLength (p .total)))) 2 (pick (ltb room longestReply) 3 0)))
+
+-- none of them applies
+pub record Unrefused (p : meaning.Plate) (core : List ℕ) (memory room : ℕ) : Type 0 where
+  pub bytes : isCore core ≡ true
+  pub plate : meaning.plateOk p ≡ true
+  pub state : meaning.stateOk p (heldIn core) ≡ true
+  pub size : memory ≡ memoryLength (p .total)
+  pub wide : longestReply ≤ room
+
+-- the data of a kept request that ends before a place of the core
+abbrev pub dataTo : ℕ → List ℕ → List ℕ
+dataTo end core = dataOf (take (end - 30) (drop 30 core))
+
+-- a request that the core's board may work
+pub record Servable (p : Plate) (c end : ℕ) (core m w : List ℕ) : Type 0 where
+  pub bytes : isCore core ≡ true
+  pub starts : 33 ≤ end
+  pub ends : end ≤ coreLength
+  pub works : Workable p (stateIn core) c (dataTo end core) m w
+
+-- the request c with the data d is worked and answered, and the core holds the state after it; but for the state's bytes it is as it was
+pub record ServedIn (p : meaning.Plate) (c : ℕ) (d core m w : List ℕ) (r : ℕ) (core′ m′ w′ : List ℕ) : Type 0 where
+  pub serves : Serves p (stateIn core) c d m w (stateIn core′) r m′ w′
+  pub state : PutsState (stateIn core′) core core′
+
+-- the same of the open frame, which is closed
+pub record ClosedIn (p : meaning.Plate) (core m w : List ℕ) (r : ℕ) (core′ m′ w′ : List ℕ) : Type 0 where
+  pub closes : Closes p (stateIn core) (frameIn core) (keptIn core) m w (record { state = stateIn core′; sent = r }) m′ w′
+  pub state : PutsState (stateIn core′) core core′
+
+-- what a poll leaves of a core that is not refused; the places of the kept bytes stay
+pub record Polls (p : meaning.Plate) (core m w : List ℕ) (tick r : ℕ) (core′ m′ w′ : List ℕ) : Type 0 where
+  pub called : CoreCalled p core m w (poll tick) r core′ m′ w′
+  pub kept : keptIn core′ ≡ keptIn core
+
+-- the outcome of the board's call as the number for C, and the board written back where it was not refused
+abbrev pub outcomeNumber : Outcome → ℕ
+outcomeNumber R1 = 257
+outcomeNumber R2 = 258
+outcomeNumber R3 = 259
+outcomeNumber Still = 0
+outcomeNumber (Over n) = n
+
+abbrev pub LeftBy : Outcome → Board → List ℕ → List ℕ → Type 0
+LeftBy R1 b core core′ = core′ ≡ core
+LeftBy R2 b core core′ = core′ ≡ core
+LeftBy R3 b core core′ = core′ ≡ core
+LeftBy Still b core core′ = PutsBoard (b .state) (b .frame) core core′
+LeftBy (Over n) b core core′ = PutsBoard (b .state) (b .frame) core core′
+
+pub record Finishes (t : Stepped) (core : List ℕ) (r : ℕ) (core′ : List ℕ) : Type 0 where
+  pub answer : r ≡ outcomeNumber (t .outcome)
+  pub left : LeftBy (t .outcome) (t .board) core core′
