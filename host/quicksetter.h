@@ -1,52 +1,76 @@
 /* What C calls of Quicksetter: the board's calls and the bench's, on numbers and byte slices. Link libquicksetter.a.
  *
  * The board. The host keeps three buffers for each board:
- *   image   QS_IMAGE_LENGTH bytes, the board's state (layout below); qs_fresh makes it, and every other call takes it and leaves the new one in it.
+ *   image   QS_IMAGE_LENGTH bytes, the plate and the board's state (layout below); qs_fresh or qs_restart makes it, and every other call takes it and leaves
+ *           the new one in it.
  *   memory  QS_MEMORY_LENGTH(total) bytes, the motor's data fields: all 00h on a new board, later what the last call left there.
  *   room    at least QS_REPLY_ROOM bytes; a reply fills its front.
  * Each received character goes to qs_character with the tick of its end. Between characters the host calls qs_poll, so that a frame is closed and answered
  * when its pause is over. Both may return a reply: the one to the frame that this very call closed.
  *
- * The plate, five numbers handed to every call of a board, always the same five:
+ * The plate is given once, when the image is made, and stands in it from then on:
  *   total    blocks of QS_BLOCK bytes in memory, 1 to 112
  *   bits     position bits, 1 to 32
  *   address  0 to 31; the board's address byte is 40h + address
  *   ticks    ticks per bit, one of 1, 2, 4, 8, 16, 32, 64; a tick is 1/38400 s
  *   pause    bit times without a character that close a frame, 22 or 55
  *
- * The host's duties, which no call can test:
+ * Only numbers and pointers to bytes cross. Every length, and every number of bytes that comes back, is a uint64_t, also where size_t has 32 bits.
+ *
+ * What must last. When the supply goes, two things must still be there afterwards: memory, and the QS_LASTING_LENGTH bytes of the image from
+ * QS_IMAGE_LASTING on (codes, counter, offset). A call that returns 0 or a refusal changes neither. A call that returns a reply changes them only if
+ * QS_MAY_CHANGE(room[1]) holds of the reply's command byte, so an error reply never does. A host that then first writes what changed to its flash and only
+ * after that sends the reply loses nothing that it ever acknowledged. After power-on it calls qs_restart with the plate and those bytes, and gives the
+ * measured position by qs_measured: memory and state are then what power-on left of them.
+ *
+ * Duties on the line, which no call can test:
+ *   - The host hands in only what others sent. On a half-duplex line the receiver hears the host's own transmission too: it is thrown away. A board that is
+ *     fed its own reply takes it for a request and answers it, for ever.
+ *   - tick is a counter of 1/38400 s that wraps around at exactly 2^32 and never steps back behind a character that was handed in. A 32-bit microsecond
+ *     timer that is divided wraps early: count ticks in the timer itself, or keep 64 bits and convert (host/example.c, ticks_of_microseconds).
+ *   - qs_poll is called often enough: a frame is answered at the first poll after its pause. The reply is due within the times beside the commands below,
+ *     counted from the end of the pause; they hold the flash write too.
+ *   - A reply that qs_character returns answers the frame before: the master is sending again already. A host that is about to send lets it go and sends
+ *     nothing; what the request changed stays changed, and is written to flash all the same.
+ *   - Every board answers a broadcast (address FFh), each with its own address. A master asks so only where one board is on the line.
+ *   - A good 53h is followed by silence. 000 gives a master 100 ms after it before the next request.
+ *
+ * Duties towards the library, which no call can test either:
  *   - no pointer is null, also where its length is 0;
  *   - each pointer has at least as many bytes behind it as the length beside it says;
- *   - the buffers of one call do not overlap; request and reply of qs_judge and qs_data_part are only read and may;
+ *   - the buffers of one call do not overlap; those that are only read may;
  *   - a board's buffers are in one call at a time: no interrupt calls on them while another call runs.
- * Any alignment will do. The library keeps nothing of its own, allocates nothing, always returns and calls nothing of the host's.
+ * Any alignment will do. The library keeps nothing of its own, allocates nothing, always returns and calls nothing of the host's; of the C library it needs
+ * memset. docs/PERFORMANCE.md tells its size, its need of stack and the instructions of each call.
  *
  * Refusals. A call refuses in the order of the numbers, and then it has done nothing: every buffer is as it was. */
 #ifndef QUICKSETTER_H
 #define QUICKSETTER_H
 
-#include <stddef.h>
 #include <stdint.h>
 
 #ifdef __cplusplus
 extern "C" {
 #endif
 
+#define QS_VERSION "0.2.0" /* CHANGELOG.md tells what a host must change from one to the next */
+
 /* ---- sizes ---------------------------------------------------------------------------------------------------------------------------------------------- */
 
-#define QS_BLOCK 16                                             /* bytes of a block */
-#define QS_MEMORY_LENGTH(total) ((size_t)(total) * (QS_BLOCK + 1)) /* total blocks of data, then one status byte for each possible field */
-#define QS_IMAGE_LENGTH 165                                     /* the state image */
-#define QS_KEPT_BYTES 135                                       /* bytes kept of a frame; a longer one is answered with 0Ch */
-#define QS_REPLY_ROOM 134                                       /* the longest reply */
-#define QS_REQUEST_BUFFER 135                                     /* the longest request */
-#define QS_BROADCAST 255                                        /* address number of a request to every board */
+#define QS_BLOCK 16                                                   /* bytes of a block */
+#define QS_MEMORY_LENGTH(total) ((uint64_t)(total) * (QS_BLOCK + 1)) /* total blocks of data, then one status byte for each possible field */
+#define QS_IMAGE_LENGTH 171                                           /* the image: plate and state */
+#define QS_LASTING_LENGTH 12                                          /* of it, the bytes that must last */
+#define QS_KEPT_BYTES 135                                             /* bytes kept of a frame; a longer one is answered with 0Ch */
+#define QS_REPLY_ROOM 134                                             /* the longest reply */
+#define QS_REQUEST_BUFFER 135                                         /* the longest request */
+#define QS_BROADCAST 255                                              /* address number of a request to every board */
 
 /* ---- results -------------------------------------------------------------------------------------------------------------------------------------------- */
 
 /* Board calls and qs_request return a number of bytes, or QS_REFUSED and the number of the refusal. */
 #define QS_REFUSED 256
-#define QS_R1 (QS_REFUSED + 1) /* a plate or state number beyond its limit, or an image that is not QS_IMAGE_LENGTH bytes long */
+#define QS_R1 (QS_REFUSED + 1) /* a plate or state number beyond its limit, another layout number, another length of image or of lasting bytes */
 #define QS_R2 (QS_REFUSED + 2) /* memory not QS_MEMORY_LENGTH(total) bytes long */
 #define QS_R3 (QS_REFUSED + 3) /* reply room under QS_REPLY_ROOM bytes, needed or not */
 #define QS_R4 (QS_REFUSED + 4) /* request buffer under QS_REQUEST_BUFFER bytes, needed or not */
@@ -59,6 +83,9 @@ extern "C" {
 #define QS_VERDICT_ERROR 256              /* and the error code: 256 to 511 */
 #define QS_VERDICT_ERROR_WITH_WARNING 512 /* and the error code: 512 to 767 */
 #define QS_VERDICT_REFUSED 1024           /* and the number of the refusal, B0 to B6 */
+#define QS_VERDICT_IS_ERROR(verdict) ((verdict) >= QS_VERDICT_ERROR && (verdict) < QS_VERDICT_ERROR_WITH_WARNING + 256)
+#define QS_VERDICT_CODE(verdict) ((uint8_t)((verdict)&0xFF)) /* the error code, where QS_VERDICT_IS_ERROR */
+#define QS_VERDICT_WARNS(verdict) ((verdict) == QS_VERDICT_DONE_WITH_WARNING || ((verdict) & ~0xFFu) == QS_VERDICT_ERROR_WITH_WARNING)
 #define QS_B0 (QS_VERDICT_REFUSED + 0)    /* the request is not one that the bench writes */
 #define QS_B1 (QS_VERDICT_REFUSED + 1)    /* reply under 3 bytes */
 #define QS_B2 (QS_VERDICT_REFUSED + 2)    /* its checksum is wrong */
@@ -69,20 +96,27 @@ extern "C" {
 
 /* ---- commands, and the codes of error replies ----------------------------------------------------------------------------------------------------------- */
 
-#define QS_READ_POSITION 0x42
-#define QS_SET_POSITION 0x43
-#define QS_READ_COUNTER 0x46
-#define QS_INCREMENT_COUNTER 0x47
-#define QS_RESET_COUNTER 0x49
-#define QS_READ_DATA 0x4A
-#define QS_STORE_DATA 0x4B
-#define QS_FIELD_STATUS 0x4C
-#define QS_CREATE_FIELD 0x4D /* also changes and deletes one */
-#define QS_MEMORY_STATUS 0x4E
-#define QS_SET_ACCESS_CODE 0x4F
-#define QS_READ_STATUS 0x50 /* reads the oldest waiting fault code; 50h is also the command byte of every error reply */
-#define QS_RESET 0x53       /* has no reply */
-#define QS_WARNING_BIT 0x80 /* set in a reply's command byte exactly if a fault code waits after the request was worked */
+/* Beside each: data of the request; data of the reply; the time within which the reply is due after the pause (000, table 10). Numbers of several bytes
+ * stand high byte first; a code is an access code. */
+#define QS_READ_POSITION 0x42     /* nothing; position 4; 10 ms */
+#define QS_SET_POSITION 0x43      /* position 4, Code0; nothing; 40 ms */
+#define QS_READ_COUNTER 0x46      /* nothing; counter 3; 5 ms */
+#define QS_INCREMENT_COUNTER 0x47 /* nothing; nothing; 30 ms */
+#define QS_RESET_COUNTER 0x49     /* Code0; nothing; 30 ms */
+#define QS_READ_DATA 0x4A         /* field, offset, count, code; field, offset, count and as many bytes; 30 ms */
+#define QS_STORE_DATA 0x4B        /* field, offset, count, code and as many bytes; field, offset, count; 250 ms */
+#define QS_FIELD_STATUS 0x4C      /* field; field, status; 5 ms */
+#define QS_CREATE_FIELD 0x4D      /* field, status, code; field, status; 70 ms. Also changes and deletes one */
+#define QS_MEMORY_STATUS 0x4E     /* nothing; free blocks, number of fields; 5 ms */
+#define QS_SET_ACCESS_CODE 0x4F   /* number 0 to 3, old code, new code; number; 40 ms */
+#define QS_READ_STATUS 0x50       /* nothing; the oldest waiting fault code or 00h; 5 ms. Also the command byte of every error reply, whose data is its code */
+#define QS_RESET 0x53             /* nothing; no reply at all */
+#define QS_WARNING_BIT 0x80       /* set in a reply's command byte exactly if a fault code waits after the request was worked */
+
+/* Whether the call that left a reply with this command byte may have changed memory or the lasting bytes. */
+#define QS_MAY_CHANGE(command)                                                                                                                              \
+    (((command)&0x7F) == QS_SET_POSITION || ((command)&0x7F) == QS_INCREMENT_COUNTER || ((command)&0x7F) == QS_RESET_COUNTER ||                             \
+     ((command)&0x7F) == QS_STORE_DATA || ((command)&0x7F) == QS_CREATE_FIELD || ((command)&0x7F) == QS_SET_ACCESS_CODE)
 
 #define QS_ERROR_POSITION_LOCKED 0x02
 #define QS_ERROR_TABLE_UNSOUND 0x03
@@ -109,39 +143,54 @@ extern "C" {
 #define QS_STATUS_WRITE_ENABLED 0x40
 #define QS_STATUS_EXISTS 0x80
 
-/* ---- the state image ------------------------------------------------------------------------------------------------------------------------------------ */
+/* ---- the image ------------------------------------------------------------------------------------------------------------------------------------------ */
 
-/* Place and size of each part. Numbers of four bytes are little-endian. A host may store the image as it stands and hand it in again after a restart
- * (qs_power_on then says that the supply was off); it may also read and write its parts within the limits. */
-#define QS_IMAGE_CODES 0         /* the four access codes, any bytes */
+/* Place and size of each part. Numbers of four bytes are little-endian. A host may read the parts, and write those of the state within their limits. */
+#define QS_LAYOUT_NUMBER 1
+#define QS_IMAGE_LAYOUT 0        /* QS_LAYOUT_NUMBER; another number is another layout, and R1 */
+#define QS_IMAGE_LAYOUT_SIZE 1
+#define QS_IMAGE_TOTAL 1         /* the plate, a byte each */
+#define QS_IMAGE_TOTAL_SIZE 1
+#define QS_IMAGE_BITS 2
+#define QS_IMAGE_BITS_SIZE 1
+#define QS_IMAGE_ADDRESS 3
+#define QS_IMAGE_ADDRESS_SIZE 1
+#define QS_IMAGE_TICKS 4
+#define QS_IMAGE_TICKS_SIZE 1
+#define QS_IMAGE_PAUSE 5
+#define QS_IMAGE_PAUSE_SIZE 1
+#define QS_IMAGE_LASTING 6       /* codes, counter and offset: what must last */
+#define QS_IMAGE_LASTING_SIZE QS_LASTING_LENGTH
+#define QS_IMAGE_CODES 6         /* the four access codes, any bytes */
 #define QS_IMAGE_CODES_SIZE 4
-#define QS_IMAGE_COUNTER 4       /* at most FFFFFFh */
+#define QS_IMAGE_COUNTER 10      /* at most FFFFFFh */
 #define QS_IMAGE_COUNTER_SIZE 4
-#define QS_IMAGE_OFFSET 8        /* of the position, below 2^bits */
+#define QS_IMAGE_OFFSET 14       /* of the position, below 2^bits */
 #define QS_IMAGE_OFFSET_SIZE 4
-#define QS_IMAGE_MEASURED 12     /* the measured position as it was given, any number */
+#define QS_IMAGE_MEASURED 18     /* the measured position as it was given, any number */
 #define QS_IMAGE_MEASURED_SIZE 4
-#define QS_IMAGE_WAITING 16      /* the waiting fault codes, oldest first; all different, none of them 22h or 24h */
+#define QS_IMAGE_WAITING 22      /* the waiting fault codes, oldest first; all different, none of them 22h or 24h */
 #define QS_IMAGE_WAITING_SIZE 4
-#define QS_IMAGE_LOCKED 20       /* 1 while the position is locked, else 0 */
+#define QS_IMAGE_LOCKED 26       /* 1 while the position is locked, else 0 */
 #define QS_IMAGE_LOCKED_SIZE 1
-#define QS_IMAGE_OPEN 21         /* 1 while a frame is open, else 0 */
+#define QS_IMAGE_OPEN 27         /* 1 while a frame is open, else 0 */
 #define QS_IMAGE_OPEN_SIZE 1
-#define QS_IMAGE_LONGER 22       /* 1 if the open frame has more than QS_KEPT_BYTES bytes, else 0 */
+#define QS_IMAGE_LONGER 28       /* 1 if the open frame has more than QS_KEPT_BYTES bytes, else 0 */
 #define QS_IMAGE_LONGER_SIZE 1
-#define QS_IMAGE_PARITY 23       /* 1 if a character of the open frame had a parity fault, else 0 */
+#define QS_IMAGE_PARITY 29       /* 1 if a character of the open frame had a parity fault, else 0 */
 #define QS_IMAGE_PARITY_SIZE 1
-#define QS_IMAGE_LAST 24         /* the tick of the open frame's last character, any number */
+#define QS_IMAGE_LAST 30         /* the tick of the open frame's last character, any number */
 #define QS_IMAGE_LAST_SIZE 4
-#define QS_IMAGE_SUM 28          /* the XOR of all bytes of the open frame, any byte */
+#define QS_IMAGE_SUM 34          /* the XOR of all bytes of the open frame, any byte */
 #define QS_IMAGE_SUM_SIZE 1
-#define QS_IMAGE_KEPT_NUMBER 29  /* the number of its kept bytes, at most QS_KEPT_BYTES */
+#define QS_IMAGE_KEPT_NUMBER 35  /* the number of its kept bytes, at most QS_KEPT_BYTES */
 #define QS_IMAGE_KEPT_NUMBER_SIZE 1
-#define QS_IMAGE_KEPT 30         /* its kept bytes */
+#define QS_IMAGE_KEPT 36         /* its kept bytes */
 #define QS_IMAGE_KEPT_SIZE QS_KEPT_BYTES
 
-/* R1 for an image: a counter over FFFFFFh; an offset of 2^bits or more; two waiting codes that are equal; 22h or 24h waiting; a code that waits behind an
- * empty place; locked, open, longer or parity other than 0 and 1; a number of kept bytes over QS_KEPT_BYTES. Each also with no frame open.
+/* R1 for an image: another length; another layout number; a plate number beyond its limit; a counter over FFFFFFh; an offset of 2^bits or more; two waiting
+ * codes that are equal; 22h or 24h waiting; a code that waits behind an empty place; locked, open, longer or parity other than 0 and 1; a number of kept
+ * bytes over QS_KEPT_BYTES. Each also with no frame open.
  * No step leads out of the limits: a host that hands in what the last call left never meets R1 for its image.
  *
  * Places that carry no meaning follow one rule each:
@@ -152,36 +201,42 @@ extern "C" {
 
 /* ---- the board ------------------------------------------------------------------------------------------------------------------------------------------ */
 
-/* Makes the state image of a fresh board: codes 55h, nothing counted, no offset, nothing measured, no fault, no frame open. Every byte of the image is
- * written, the kept bytes too. The host clears memory itself where the board is new.
+/* Makes the image of a fresh board: codes 55h, nothing counted, no offset, nothing measured, no fault, no frame open. Every byte of the image is written,
+ * the kept bytes too. The host clears memory itself where the board is new.
  * Returns 0. Refuses QS_R1: a plate number beyond its limit, or image_length not QS_IMAGE_LENGTH. */
-size_t qs_fresh(uint32_t total, uint32_t bits, uint32_t address, uint32_t ticks, uint32_t pause, uint8_t *image, size_t image_length);
+uint64_t qs_fresh(uint32_t total, uint32_t bits, uint32_t address, uint32_t ticks, uint32_t pause, uint8_t *image, uint64_t image_length);
 
-/* A character came. tick is the time of its end on a counter that wraps around at 2^32; parity is 0, or anything else if the character had a parity fault.
- * If its gap to the last character is at least pause * ticks, it closes the open frame, which is then answered, and opens the next one.
+/* Makes the image of a board that was off, from its plate and the bytes that lasted: codes, counter and offset are theirs, all else is as fresh. It holds
+ * what qs_power_on leaves of the image from which they were taken, but that the measured position is 0: the host gives that next, by qs_measured.
+ * Returns 0. Refuses QS_R1: a plate number beyond its limit, image_length not QS_IMAGE_LENGTH, lasting_length not QS_LASTING_LENGTH, a counter over FFFFFFh,
+ * an offset of 2^bits or more. That bytes within those limits are the right ones it cannot tell: a host keeps a checksum of its own beside them. */
+uint64_t qs_restart(uint32_t total, uint32_t bits, uint32_t address, uint32_t ticks, uint32_t pause, const uint8_t *lasting, uint64_t lasting_length,
+                    uint8_t *image, uint64_t image_length);
+
+/* A character came. tick is the time of its end; parity is 0, or anything else if the character had a parity fault. If its gap to the last character is at
+ * least pause * ticks, it closes the open frame, which is then answered, and opens the next one.
  * Returns the length of the reply to the closed frame, 1 to QS_REPLY_ROOM bytes at the room's front with the rest of the room as it was, or 0 for none; then
  * all of the room is as it was.
  * Refuses QS_R1, QS_R2, QS_R3 in this order. */
-size_t qs_character(uint8_t *image, size_t image_length, uint32_t tick, uint8_t value, uint8_t parity, uint32_t total, uint32_t bits, uint32_t address,
-                    uint32_t ticks, uint32_t pause, uint8_t *memory, size_t memory_length, uint8_t *room, size_t room_length);
+uint64_t qs_character(uint8_t *image, uint64_t image_length, uint32_t tick, uint8_t value, uint8_t parity, uint8_t *memory, uint64_t memory_length,
+                      uint8_t *room, uint64_t room_length);
 
 /* The host looks whether the open frame is over: it is closed and answered if tick is at least pause * ticks after its last character. With no frame open,
  * or too early, nothing changes.
  * Returns and refuses as qs_character does. */
-size_t qs_poll(uint8_t *image, size_t image_length, uint32_t tick, uint32_t total, uint32_t bits, uint32_t address, uint32_t ticks, uint32_t pause,
-               uint8_t *memory, size_t memory_length, uint8_t *room, size_t room_length);
+uint64_t qs_poll(uint8_t *image, uint64_t image_length, uint32_t tick, uint8_t *memory, uint64_t memory_length, uint8_t *room, uint64_t room_length);
 
 /* The host gives the measured position, any number; 42h and 43h reduce it mod 2^bits. It holds for frames that close later, open ones included.
  * Returns 0. Refuses QS_R1. */
-size_t qs_measured(uint8_t *image, size_t image_length, uint32_t position, uint32_t total, uint32_t bits, uint32_t address, uint32_t ticks, uint32_t pause);
+uint64_t qs_measured(uint8_t *image, uint64_t image_length, uint32_t position);
 
 /* The host notes a fault code. 00h is ignored; 22h and 24h lock the position; any other joins the queue of four, unless it waits already or four wait.
  * Returns 0. Refuses QS_R1. */
-size_t qs_fault(uint8_t *image, size_t image_length, uint8_t code, uint32_t total, uint32_t bits, uint32_t address, uint32_t ticks, uint32_t pause);
+uint64_t qs_fault(uint8_t *image, uint64_t image_length, uint8_t code);
 
 /* The supply came on: the queue is emptied, an open frame is dropped without an answer, the position is unlocked; all else stays.
  * Returns 0. Refuses QS_R1. */
-size_t qs_power_on(uint8_t *image, size_t image_length, uint32_t total, uint32_t bits, uint32_t address, uint32_t ticks, uint32_t pause);
+uint64_t qs_power_on(uint8_t *image, uint64_t image_length);
 
 /* ---- the bench ------------------------------------------------------------------------------------------------------------------------------------------ */
 
@@ -189,22 +244,24 @@ size_t qs_power_on(uint8_t *image, size_t image_length, uint32_t total, uint32_t
  * Returns its length, 3 to QS_REQUEST_BUFFER; the rest of the buffer is as it was.
  * Refuses QS_R4, then QS_R5: another address; a command that is not one of the above; data of a length that the command does not allow; a count of 0 or over
  * 128 in 4Ah; a code number over 3 in 4Fh. */
-size_t qs_request(uint32_t address, uint8_t command, const uint8_t *data, size_t data_length, uint8_t *buffer, size_t buffer_length);
+uint64_t qs_request(uint32_t address, uint8_t command, const uint8_t *data, uint64_t data_length, uint8_t *buffer, uint64_t buffer_length);
 
 /* Judges a reply to a request. An error reply is the verdict error, but to a request 50h it is done and its byte is the data, since the wire shows no
  * difference. A request 53h is never done: it has no reply.
  * Returns a verdict, QS_VERDICT_REFUSED + n for B0 to B6 in this order. */
-uint32_t qs_judge(const uint8_t *request, size_t request_length, const uint8_t *reply, size_t reply_length);
-
-/* A piece of a reply: its first byte is reply[place]. */
-struct qs_piece {
-    size_t place;
-    size_t length;
-};
+uint32_t qs_judge(const uint8_t *request, uint64_t request_length, const uint8_t *reply, uint64_t reply_length);
 
 /* The data part of a reply that qs_judge takes: all between command and checksum, at place 2; the code byte of an error reply. Of a reply that qs_judge
- * refuses, the empty piece at place 0. */
-struct qs_piece qs_data_part(const uint8_t *request, size_t request_length, const uint8_t *reply, size_t reply_length);
+ * refuses, no bytes at place 0. Its first byte is reply[QS_DATA_PLACE(part)]. */
+uint64_t qs_data_part(const uint8_t *request, uint64_t request_length, const uint8_t *reply, uint64_t reply_length);
+#define QS_DATA_PLACE(part) ((part) >> 32)
+#define QS_DATA_LENGTH(part) ((part)&0xFFFFFFFF)
+
+/* How long the reply to a request will be, once its first two bytes are here, so that a master knows its end: any reply that begins so and that qs_judge
+ * takes has that length.
+ * Returns the length, 3 to QS_REPLY_ROOM; 0 while fewer than two bytes are here; else, since qs_judge takes no reply that begins so, QS_B0 (not a request
+ * that the bench writes), QS_B4 (another command), QS_B5 (to 53h there is none). */
+uint64_t qs_reply_length(const uint8_t *request, uint64_t request_length, const uint8_t *reply, uint64_t reply_length);
 
 #ifdef __cplusplus
 }
