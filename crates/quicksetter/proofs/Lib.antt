@@ -2,6 +2,7 @@
 mod Leaving
 mod Refusing
 mod Closing
+mod Wholes
 mod Finishing
 mod Heads
 mod Starting
