@@ -8,7 +8,7 @@ use Rattle.answer.proofs.end.Statement.{statement}
 use Rattle.answer.proofs.end.Tie as tie
 use Rattle.answer.proofs.end.Reads as reads
 use Rattle.answer.proofs.end.Lts as lts
-use Rattle.answer.proofs.flush.Reads as flush-reads
+use Rattle.answer.proofs.streams.flush.Reads as flush-reads
 use Rattle.passes.proofs.finish.Reads as finish-reads
 
 sub-if1 : tie.Need-sub-if1

@@ -9,7 +9,7 @@ use Rattle.answer.proofs.feed.Statement.{statement}
 use Rattle.answer.proofs.feed.Tie as tie
 use Rattle.answer.proofs.feed.Reads as reads
 use Rattle.answer.proofs.feed.Lts as lts
-use Rattle.answer.proofs.flush.Reads as flush-reads
+use Rattle.answer.proofs.streams.flush.Reads as flush-reads
 use Rattle.passes.proofs.eat.Reads as eat-reads
 
 abbrev Inv-loop : tie.InvT-loop

@@ -15,8 +15,8 @@ use Rattle.answer.proofs.run.Reads as reads
 use Rattle.answer.proofs.run.Lts as lts
 use Rattle.answer.proofs.end.Reads as end-reads
 use Rattle.answer.proofs.feed.Reads as feed-reads
-use Rattle.answer.proofs.flush.Reads as flush-reads
-use Rattle.answer.proofs.refill.Reads as refill-reads
+use Rattle.answer.proofs.streams.flush.Reads as flush-reads
+use Rattle.answer.proofs.streams.refill.Reads as refill-reads
 use Rattle.answer.proofs.shift.Reads as shift-reads
 use Rattle.passes.proofs.session.Session.start.Reads as start-reads
 use Rattle.tape.proofs.first_line.Reads as first-line-reads
