@@ -47,9 +47,10 @@ refilled w have total rest h l = record {
 }
 
 -- what a read counts stays in the window
-pub read-fits : (got : ℤ) (w : List ℕ) (have size : ℕ) → have ≤ length w → Moved (length (take (length w - have) (drop have w))) got → have + clamped got size ≤ length w
-read-fits (pos k) w have size h m = omega (arith, min-le-left k size, rw (length-take (length w - have) (drop have w), length-drop have w) at m)
-read-fits (negsuc k) w have size h m = omega arith
+pub read-fits : (got : ℤ) (w : List ℕ) (have size n : ℕ) → have ≤ length w → Moved (length (take (length w - have) (drop have w))) got → n ≡ clamped got size
+    → have + n ≤ length w
+read-fits (pos k) w have size n h m e = omega (arith, min-le-left k size, rw (length-take (length w - have) (drop have w), length-drop have w) at m)
+read-fits (negsuc k) w have size n h m e = omega arith
 
 -- what a write takes stays in the part that is used
 pub taken-fits : (out : List ℕ) (at used count : ℕ) (r : Taken) → at ≤ used → used ≤ length out → takenBy r ≤ length (take (used - at) (drop at out)) → r ≡ Bytes count

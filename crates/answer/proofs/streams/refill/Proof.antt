@@ -1,5 +1,11 @@
 -- `answer::streams::refill` meets its contract: the bytes in front are not lent. Assumes nothing.
 use native.Mathlib.Omega.{arith}
+use mathlib.Core.Path.{_≡_, ap, _∙_}
+use lib.ListN.{length}
+use lib.IntN.{ℤ}
+use mir.Syntax.{w64}
+use mir.Facts.{toZ-ofZ}
+use Rattle.io.specs.Counts.{clamped}
 use Rattle.answer.proofs.Windows.{refilled, read-fits}
 use borrow.Author.Needs.{needs}
 use Rattle.answer.proofs.streams.refill.Statement.{statement}
@@ -35,8 +41,9 @@ same-length c = search needs
 returns : tie.Need-returns
 returns c =
     let after-read = c .before .before .before .before .before in
-    let start = after-read .before .before .before in
-    refilled _ _ _ _ (omega arith) (rw (c .count .ensures .1) (read-fits (after-read .read .result) _ _ _ (start .pre) (after-read .read .ensures)))
+    let start = c .before .before .before .before .before .before .before .before in
+    let e : c .count .result ≡ clamped (after-read .read .result) (length (start .args .window .now)) = ? in
+    refilled _ _ _ _ (omega arith) (read-fits (after-read .read .result) (start .args .window .now) _ _ _ (start .pre) (after-read .read .ensures) e)
 
 same-length-2 : tie.Need-same-length-2
 same-length-2 c = search needs
