@@ -7,6 +7,9 @@ use native.Mathlib.Nat.{zero-add, min-le-left}
 use native.Mathlib.Omega.{arith}
 use lib.ListN.{length, getD, take, drop, set, length-take, length-drop}
 use lib.IntN.{ℤ, pos, negsuc}
+use mir.Syntax.{w64}
+use mir.Val.{SFits, toZ, ofZ}
+use mir.Facts.{toZ-ofZ}
 use lib.Seq.{take-suc, take-at, getD-drop, length-take-le}
 use Rattle.meaning.specs.Bytes.{part, put}
 use Rattle.meaning.proofs.Puts.{put-after}
@@ -47,10 +50,14 @@ refilled w have total rest h l = record {
 }
 
 -- what a read counts stays in the window
-pub read-fits : (got : ℤ) (w : List ℕ) (have size n : ℕ) → have ≤ length w → Moved (length (take (length w - have) (drop have w))) got → n ≡ clamped got size
-    → have + n ≤ length w
-read-fits (pos k) w have size n h m e = omega (arith, min-le-left k size, rw (length-take (length w - have) (drop have w), length-drop have w) at m)
-read-fits (negsuc k) w have size n h m e = omega arith
+within-window : (got : ℤ) (w : List ℕ) (have size : ℕ) → have ≤ length w → Moved (length (take (length w - have) (drop have w))) got → have + clamped got size ≤ length w
+within-window (pos k) w have size h m = omega (arith, min-le-left k size, rw (length-take (length w - have) (drop have w), length-drop have w) at m)
+within-window (negsuc k) w have size h m = omega arith
+
+-- .. counted by `io::count`, which is handed the answer's bits
+pub read-fits : (got : ℤ) (w : List ℕ) (have size n : ℕ) → have ≤ length w → SFits w64 got → Moved (length (take (length w - have) (drop have w))) got
+    → n ≡ clamped (toZ w64 (ofZ w64 got)) size → have + n ≤ length w
+read-fits got w have size n h f m e = rw (e, toZ-ofZ {w = w64} {z = got} f) (within-window got w have size h m)
 
 -- what a write takes stays in the part that is used
 pub taken-fits : (out : List ℕ) (at used count : ℕ) (r : Taken) → at ≤ used → used ≤ length out → takenBy r ≤ length (take (used - at) (drop at out)) → r ≡ Bytes count

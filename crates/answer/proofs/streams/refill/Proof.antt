@@ -1,13 +1,8 @@
 -- `answer::streams::refill` meets its contract: the bytes in front are not lent. Assumes nothing.
 use native.Mathlib.Omega.{arith}
-use mathlib.Core.Path.{_≡_, ap, _∙_}
-use lib.ListN.{length}
-use lib.IntN.{ℤ}
-use mir.Syntax.{w64}
-use mir.Facts.{toZ-ofZ}
-use Rattle.io.specs.Counts.{clamped}
 use Rattle.answer.proofs.Windows.{refilled, read-fits}
-use borrow.Author.Needs.{needs}
+use mir.Syntax.{w64}
+use borrow.Author.Needs.{needs, sfits-of}
 use Rattle.answer.proofs.streams.refill.Statement.{statement}
 use Rattle.answer.proofs.streams.refill.Tie as tie
 use Rattle.answer.proofs.streams.refill.Reads as reads
@@ -42,8 +37,8 @@ returns : tie.Need-returns
 returns c =
     let after-read = c .before .before .before .before .before in
     let start = c .before .before .before .before .before .before .before .before in
-    let e : c .count .result ≡ clamped (after-read .read .result) (length (start .args .window .now)) = ? in
-    refilled _ _ _ _ (omega arith) (read-fits (after-read .read .result) (start .args .window .now) _ _ _ (start .pre) (after-read .read .ensures) e)
+    refilled _ _ _ _ (omega arith)
+    (read-fits (after-read .read .result) (start .args .window .now) _ _ _ (start .pre) (sfits-of {w = w64} (after-read .read .ok)) (after-read .read .ensures) (c .count .ensures .1))
 
 same-length-2 : tie.Need-same-length-2
 same-length-2 c = search needs
