@@ -39,6 +39,17 @@ ate o c =
     eaten-leaves _ _ _ _ _ _ (at-loop .loop .inv .4 .ready (g .0)) o (start .args .window .now) _ _ _ _ _ _ _ (g .1) (start .pre .1)
     (part-fits (start .args .window .now) (at-loop .loop .at) (at-loop .loop .inv .4 .inside)) (c .eat .ensures) (k .1 .1 .0) (k .1 .1 .1 .0) (k .1 .1 .1 .1 .0)
 
+-- the lent buffers keep their lengths
+lengths : (c : tie.After-eat Inv-loop μ-loop)
+    → (length (c .eat .last .1 .1 .0) ≡ length (c .before .before .before .before .before .before .before .before .before .before .before .before .before .before .before .args .kept .now))
+    × (length (c .eat .last .1 .1 .1 .0) ≡ length (c .before .before .before .before .before .before .before .before .before .before .before .before .before .before .before .args .memory .now))
+    × (length (c .eat .last .1 .1 .1 .1 .0) ≡ length (c .before .before .before .before .before .before .before .before .before .before .before .before .before .before .before .args .reply .now))
+    × (length (c .eat .last .1 .1 .1 .1 .1 .0) ≡ length (c .before .before .before .before .before .before .before .before .before .before .before .before .before .before .before .args .out .now))
+lengths c =
+    let v = c .before .before .before .before .before .before .before .before .before .loop .inv in
+    let k = c .eat .kept in
+    (k .1 .1 .0 ∙ v .0, k .1 .1 .1 .0 ∙ v .1, k .1 .1 .1 .1 .0 ∙ v .2, k .1 .1 .1 .1 .1 .0 ∙ v .3)
+
 add-turns : tie.Need-add-turns Inv-loop μ-loop
 add-turns c = search needs
 
@@ -97,16 +108,16 @@ halt-requires-2 : tie.Need-halt-requires-2 Inv-loop μ-loop
 halt-requires-2 c κs = search needs
 
 same-length-5 : tie.Need-same-length-5 Inv-loop μ-loop
-same-length-5 c = c .before .before .before .before .before .before .before .before .before .before .before .before .eat .kept .1 .1 .0 ∙ c .before .before .before .before .before .before .before .before .before .before .before .before .before .before .before .before .before .before .before .before .before .loop .inv .0
+same-length-5 c = lengths (c .before .before .before .before .before .before .before .before .before .before .before .before) .0
 
 same-length-6 : tie.Need-same-length-6 Inv-loop μ-loop
-same-length-6 c = c .before .before .before .before .before .before .before .before .before .before .before .before .eat .kept .1 .1 .1 .0 ∙ c .before .before .before .before .before .before .before .before .before .before .before .before .before .before .before .before .before .before .before .before .before .loop .inv .1
+same-length-6 c = lengths (c .before .before .before .before .before .before .before .before .before .before .before .before) .1
 
 same-length-7 : tie.Need-same-length-7 Inv-loop μ-loop
-same-length-7 c = c .before .before .before .before .before .before .before .before .before .before .before .before .eat .kept .1 .1 .1 .1 .0 ∙ c .before .before .before .before .before .before .before .before .before .before .before .before .before .before .before .before .before .before .before .before .before .loop .inv .2
+same-length-7 c = lengths (c .before .before .before .before .before .before .before .before .before .before .before .before) .2
 
 same-length-8 : tie.Need-same-length-8 Inv-loop μ-loop
-same-length-8 c = c .before .before .before .before .before .before .before .before .before .before .before .before .eat .kept .1 .1 .1 .1 .1 .0 ∙ c .before .before .before .before .before .before .before .before .before .before .before .before .before .before .before .before .before .before .before .before .before .loop .inv .3
+same-length-8 c = lengths (c .before .before .before .before .before .before .before .before .before .before .before .before) .3
 
 returns-2 : tie.Need-returns-2 Inv-loop μ-loop
 returns-2 c = rw (c .halt2 .ensures) (ate Written (c .before .before .before .before .before .before .before .before .before .before .before .before))
@@ -124,16 +135,16 @@ halt-requires-3 : tie.Need-halt-requires-3 Inv-loop μ-loop
 halt-requires-3 c κs = search needs
 
 same-length-9 : tie.Need-same-length-9 Inv-loop μ-loop
-same-length-9 c = c .before .before .before .before .before .before .before .before .before .before .before .before .before .before .before .before .before .eat .kept .1 .1 .0 ∙ c .before .before .before .before .before .before .before .before .before .before .before .before .before .before .before .before .before .before .before .before .before .before .before .before .before .before .loop .inv .0
+same-length-9 c = lengths (c .before .before .before .before .before .before .before .before .before .before .before .before .before .before .before .before .before) .0
 
 same-length-10 : tie.Need-same-length-10 Inv-loop μ-loop
-same-length-10 c = c .before .before .before .before .before .before .before .before .before .before .before .before .before .before .before .before .before .eat .kept .1 .1 .1 .0 ∙ c .before .before .before .before .before .before .before .before .before .before .before .before .before .before .before .before .before .before .before .before .before .before .before .before .before .before .loop .inv .1
+same-length-10 c = lengths (c .before .before .before .before .before .before .before .before .before .before .before .before .before .before .before .before .before) .1
 
 same-length-11 : tie.Need-same-length-11 Inv-loop μ-loop
-same-length-11 c = c .before .before .before .before .before .before .before .before .before .before .before .before .before .before .before .before .before .eat .kept .1 .1 .1 .1 .0 ∙ c .before .before .before .before .before .before .before .before .before .before .before .before .before .before .before .before .before .before .before .before .before .before .before .before .before .before .loop .inv .2
+same-length-11 c = lengths (c .before .before .before .before .before .before .before .before .before .before .before .before .before .before .before .before .before) .2
 
 same-length-12 : tie.Need-same-length-12 Inv-loop μ-loop
-same-length-12 c = c .before .before .before .before .before .before .before .before .before .before .before .before .before .before .before .before .before .eat .kept .1 .1 .1 .1 .1 .0 ∙ c .before .before .before .before .before .before .before .before .before .before .before .before .before .before .before .before .before .before .before .before .before .before .before .before .before .before .loop .inv .3
+same-length-12 c = lengths (c .before .before .before .before .before .before .before .before .before .before .before .before .before .before .before .before .before) .3
 
 returns-3 : tie.Need-returns-3 Inv-loop μ-loop
 returns-3 c = rw (c .halt3 .ensures) (ate _ (c .before .before .before .before .before .before .before .before .before .before .before .before .before .before .before .before .before))
@@ -145,9 +156,8 @@ loop-again : tie.Need-loop-again Inv-loop μ-loop
 loop-again c =
     let after-eat = c .before .before .before .before .before .before .before .before .before .before .before .before .before .before .before .before in
     let g = ate Written after-eat in
-    let v = c .before .before .before .before .before .before .before .before .before .before .before .before .before .before .before .before .before .before .before .before .before .before .before .before .before .loop .inv in
-    let w = after-eat .eat .kept in
-    (w .1 .1 .0 ∙ v .0, w .1 .1 .1 .0 ∙ v .1, w .1 .1 .1 .1 .0 ∙ v .2, w .1 .1 .1 .1 .1 .0 ∙ v .3, record { inside = g .inside; space = omega arith; ready = λ n. emptied _ _ _ _ _ _ (g .ready n) })
+    let l = lengths after-eat in
+    (l .0, l .1, l .2, l .3, record { inside = g .inside; space = omega arith; ready = λ n. emptied _ _ _ _ _ _ (g .ready n) })
 
 halt-requires-4 : tie.Need-halt-requires-4 Inv-loop μ-loop
 halt-requires-4 c κs = search needs

@@ -32,7 +32,9 @@ abbrev μ-loop : tie.MeasureT-loop
     turns
 
 -- the bytes that were read stand behind those that the window had
-refilled-to : (c : tie.After-input Inv-loop μ-loop) → Refills (c .before .before .before .before .before .before .before .before .loop .window) (c .before .before .before .before .before .before .before .before .loop .have) (c .input .given .0 .0) (c .before .before .before .before .before .refill .last .0)
+refilled-to : (c : tie.After-input Inv-loop μ-loop)
+    → Refills (c .before .before .before .before .before .before .before .before .loop .window) (c .before .before .before .before .before .before .before .before .loop .have)
+    (c .input .given .0 .0) (c .before .before .before .before .before .refill .last .0)
 refilled-to c = rw (c .input .given .1) at (c .before .before .before .before .before .refill .ensures)
 
 -- the window's length stays, and the bytes that it has are in it
@@ -44,6 +46,31 @@ far : (c : tie.After-feed Inv-loop μ-loop) → c .feed .result .at ≤ c .befor
 far c =
     let after-input = c .before .before .before .before .before .before .before in
     omega (arith, c .feed .ensures .inside, length-take-le (after-input .input .given .0 .0) (after-input .before .before .before .before .before .refill .last .0) (filled after-input))
+
+-- where a window that is fed was read, and where the program began
+abbrev refill-of : tie.After-feed Inv-loop μ-loop → tie.After-refill Inv-loop μ-loop
+refill-of c = c .before .before .before .before .before .before .before .before .before .before .before .before
+
+abbrev start-of : tie.After-feed Inv-loop μ-loop → tie.Start Inv-loop μ-loop
+start-of c = refill-of c .before .before .before .before .before .before .before .before .before .before .before .before .before .before
+
+-- the lent buffers keep their lengths
+lengths : (c : tie.After-feed Inv-loop μ-loop)
+    → (length (refill-of c .refill .last .0) ≡ length (start-of c .args .window .now))
+    × (length (c .feed .last .1 .1 .0) ≡ length (start-of c .args .kept .now))
+    × (length (c .feed .last .1 .1 .1 .0) ≡ length (start-of c .args .memory .now))
+    × (length (c .feed .last .1 .1 .1 .1 .0) ≡ length (start-of c .args .reply .now))
+    × (length (c .feed .last .1 .1 .1 .1 .1 .0) ≡ length (start-of c .args .out .now))
+lengths c =
+    let at-loop = refill-of c .before .before .before in
+    let v = at-loop .loop .inv in
+    let k = c .feed .kept in (
+      refill-of c .refill .kept .0 ∙ v .0,
+      k .1 .1 .0 ∙ v .1,
+      k .1 .1 .1 .0 ∙ v .2,
+      k .1 .1 .1 .1 .0 ∙ v .3,
+      k .1 .1 .1 .1 .1 .0 ∙ v .4 ∙ same-size (at-loop .before .before .before .first-line .ensures),
+    )
 
 start-requires : tie.Need-start-requires Inv-loop μ-loop
 start-requires c κs = search needs
@@ -140,19 +167,19 @@ enum-told-3 : tie.Need-enum-told-3 Inv-loop μ-loop
 enum-told-3 c = search needs
 
 same-length-11 : tie.Need-same-length-11 Inv-loop μ-loop
-same-length-11 c = c .before .before .before .before .before .before .before .before .before .before .before .before .before .before .before .before .before .before .before .before .before .before .before .refill .kept .0 ∙ c .before .before .before .before .before .before .before .before .before .before .before .before .before .before .before .before .before .before .before .before .before .before .before .before .before .before .loop .inv .0
+same-length-11 c = lengths (c .before .before .before .before .before .before .before .before .before .before .before) .0
 
 same-length-12 : tie.Need-same-length-12 Inv-loop μ-loop
-same-length-12 c = c .before .before .before .before .before .before .before .before .before .before .before .feed .kept .1 .1 .0 ∙ c .before .before .before .before .before .before .before .before .before .before .before .before .before .before .before .before .before .before .before .before .before .before .before .before .before .before .loop .inv .1
+same-length-12 c = lengths (c .before .before .before .before .before .before .before .before .before .before .before) .1
 
 same-length-13 : tie.Need-same-length-13 Inv-loop μ-loop
-same-length-13 c = c .before .before .before .before .before .before .before .before .before .before .before .feed .kept .1 .1 .1 .0 ∙ c .before .before .before .before .before .before .before .before .before .before .before .before .before .before .before .before .before .before .before .before .before .before .before .before .before .before .loop .inv .2
+same-length-13 c = lengths (c .before .before .before .before .before .before .before .before .before .before .before) .2
 
 same-length-14 : tie.Need-same-length-14 Inv-loop μ-loop
-same-length-14 c = c .before .before .before .before .before .before .before .before .before .before .before .feed .kept .1 .1 .1 .1 .0 ∙ c .before .before .before .before .before .before .before .before .before .before .before .before .before .before .before .before .before .before .before .before .before .before .before .before .before .before .loop .inv .3
+same-length-14 c = lengths (c .before .before .before .before .before .before .before .before .before .before .before) .3
 
 same-length-15 : tie.Need-same-length-15 Inv-loop μ-loop
-same-length-15 c = c .before .before .before .before .before .before .before .before .before .before .before .feed .kept .1 .1 .1 .1 .1 .0 ∙ c .before .before .before .before .before .before .before .before .before .before .before .before .before .before .before .before .before .before .before .before .before .before .before .before .before .before .loop .inv .4 ∙ same-size (c .before .before .before .before .before .before .before .before .before .before .before .before .before .before .before .before .before .before .before .before .before .before .before .before .before .before .before .before .before .first-line .ensures)
+same-length-15 c = lengths (c .before .before .before .before .before .before .before .before .before .before .before) .4
 
 returns-3 : tie.Need-returns-3 Inv-loop μ-loop
 returns-3 c = search needs
@@ -164,25 +191,27 @@ flush-requires-2 : tie.Need-flush-requires-2 Inv-loop μ-loop
 flush-requires-2 c κs = search needs
 
 same-length-16 : tie.Need-same-length-16 Inv-loop μ-loop
-same-length-16 c = c .before .before .before .before .before .before .before .before .before .before .before .before .before .before .before .before .before .before .before .before .before .before .before .before .before .before .before .refill .kept .0 ∙ c .before .before .before .before .before .before .before .before .before .before .before .before .before .before .before .before .before .before .before .before .before .before .before .before .before .before .before .before .before .before .loop .inv .0
+same-length-16 c = lengths (c .before .before .before .before .before .before .before .before .before .before .before .before .before .before .before) .0
 
 same-length-17 : tie.Need-same-length-17 Inv-loop μ-loop
-same-length-17 c = c .before .before .before .before .before .before .before .before .before .before .before .before .before .before .before .feed .kept .1 .1 .0 ∙ c .before .before .before .before .before .before .before .before .before .before .before .before .before .before .before .before .before .before .before .before .before .before .before .before .before .before .before .before .before .before .loop .inv .1
+same-length-17 c = lengths (c .before .before .before .before .before .before .before .before .before .before .before .before .before .before .before) .1
 
 same-length-18 : tie.Need-same-length-18 Inv-loop μ-loop
-same-length-18 c = c .before .before .before .before .before .before .before .before .before .before .before .before .before .before .before .feed .kept .1 .1 .1 .0 ∙ c .before .before .before .before .before .before .before .before .before .before .before .before .before .before .before .before .before .before .before .before .before .before .before .before .before .before .before .before .before .before .loop .inv .2
+same-length-18 c = lengths (c .before .before .before .before .before .before .before .before .before .before .before .before .before .before .before) .2
 
 same-length-19 : tie.Need-same-length-19 Inv-loop μ-loop
-same-length-19 c = c .before .before .before .before .before .before .before .before .before .before .before .before .before .before .before .feed .kept .1 .1 .1 .1 .0 ∙ c .before .before .before .before .before .before .before .before .before .before .before .before .before .before .before .before .before .before .before .before .before .before .before .before .before .before .before .before .before .before .loop .inv .3
+same-length-19 c = lengths (c .before .before .before .before .before .before .before .before .before .before .before .before .before .before .before) .3
 
 same-length-20 : tie.Need-same-length-20 Inv-loop μ-loop
-same-length-20 c = c .before .before .before .before .before .before .before .before .before .before .before .before .before .before .before .feed .kept .1 .1 .1 .1 .1 .0 ∙ c .before .before .before .before .before .before .before .before .before .before .before .before .before .before .before .before .before .before .before .before .before .before .before .before .before .before .before .before .before .before .loop .inv .4 ∙ same-size (c .before .before .before .before .before .before .before .before .before .before .before .before .before .before .before .before .before .before .before .before .before .before .before .before .before .before .before .before .before .before .before .before .before .first-line .ensures)
+same-length-20 c = lengths (c .before .before .before .before .before .before .before .before .before .before .before .before .before .before .before) .4
 
 returns-4 : tie.Need-returns-4 Inv-loop μ-loop
 returns-4 c = search needs
 
 shift-requires : tie.Need-shift-requires Inv-loop μ-loop
-shift-requires c κs = (far (c .before .before .before .before .before .before .before .before .before .before .before .before .before), filled (c .before .before .before .before .before .before .before .before .before .before .before .before .before .before .before .before .before .before .before .before))
+shift-requires c κs =
+    let after-feed = c .before .before .before .before .before .before .before .before .before .before .before .before .before in
+    (far after-feed, filled (after-feed .before .before .before .before .before .before .before))
 
 loop-less : tie.Need-loop-less Inv-loop μ-loop
 loop-less c = omega (arith, c .before .before .before .before .before .before .before .before .before .before .before .before .before .before .before .before .before .before .before .before .before .before .before .before .before .before .before .before .before .before .loop-test .taken)
@@ -190,15 +219,16 @@ loop-less c = omega (arith, c .before .before .before .before .before .before .b
 loop-again : tie.Need-loop-again Inv-loop μ-loop
 loop-again c =
     let after-feed = c .before .before .before .before .before .before .before .before .before .before .before .before .before .before .before .before in
-    let v = c .before .before .before .before .before .before .before .before .before .before .before .before .before .before .before .before .before .before .before .before .before .before .before .before .before .before .before .before .before .before .before .loop .inv in
+    let r = refill-of after-feed in
+    let v = r .before .before .before .loop .inv in
     let k = after-feed .feed .kept in
     let h = c .before .before .shift in (
-      h .kept .0 ∙ c .before .before .before .before .before .before .before .before .before .before .before .before .before .before .before .before .before .before .before .before .before .before .before .before .before .before .before .before .refill .kept .0 ∙ v .0,
+      h .kept .0 ∙ lengths after-feed .0,
       k .1 .1 .0 ∙ v .1,
       k .1 .1 .1 .0 ∙ v .2,
       k .1 .1 .1 .1 .0 ∙ v .3,
       k .1 .1 .1 .1 .1 .0 ∙ v .4,
-      omega (arith, h .kept .0, h .ensures .0, filled (c .before .before .before .before .before .before .before .before .before .before .before .before .before .before .before .before .before .before .before .before .before .before .before)),
+      omega (arith, h .kept .0, h .ensures .0, filled (after-feed .before .before .before .before .before .before .before)),
       after-feed .feed .ensures .ready (not-ended (after-feed .feed .result .session .phase) (c .before .before .before .before .match4 .keys2)),
     )
 
