@@ -150,9 +150,9 @@ fn run(window: &mut [u8], kept: &mut [u8], memory: &mut [u8], reply: &mut [u8], 
         used = fed.used;
         let at = fed.at;
         let output = fed.output;
-        let Output::Written = output else {
+        if let Output::Failed = output {
             return;
-        };
+        }
         let phase = session.phase;
         if let Phase::Ended = phase {
             flush(out, used);

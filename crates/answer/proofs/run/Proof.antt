@@ -163,9 +163,6 @@ feed-requires c κs =
 enum-told-2 : tie.Need-enum-told-2 Inv-loop μ-loop
 enum-told-2 c = search needs
 
-enum-told-3 : tie.Need-enum-told-3 Inv-loop μ-loop
-enum-told-3 c = search needs
-
 same-length-11 : tie.Need-same-length-11 Inv-loop μ-loop
 same-length-11 c = lengths (c .before .before .before .before .before .before .before .before .before .before .before) .0
 
@@ -183,6 +180,9 @@ same-length-15 c = lengths (c .before .before .before .before .before .before .b
 
 returns-3 : tie.Need-returns-3 Inv-loop μ-loop
 returns-3 c = search needs
+
+enum-told-3 : tie.Need-enum-told-3 Inv-loop μ-loop
+enum-told-3 c = search needs
 
 enum-told-4 : tie.Need-enum-told-4 Inv-loop μ-loop
 enum-told-4 c = search needs
@@ -283,13 +283,13 @@ run-spec =
     slice-aggregate-feed
     feed-requires
     enum-told-2
-    enum-told-3
     same-length-11
     same-length-12
     same-length-13
     same-length-14
     same-length-15
     returns-3
+    enum-told-3
     enum-told-4
     flush-requires-2
     same-length-16
