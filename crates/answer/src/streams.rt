@@ -13,6 +13,7 @@ pub(crate) enum Input {
     Failed,
 }
 
+// Whether all of the output could be written.
 pub(crate) enum Output {
     Written,
     Failed,
