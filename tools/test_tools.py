@@ -192,7 +192,8 @@ def test_bytes_are_taken_in_every_form():
             assert not written.bytes_of(form), form
         except written.WrittenError:
             continue
-    assert tape.tape_of(PLATE_LINE + "character at 3: 0x4E parity\nfault 0x22\nfault 22h\n") == tape.tape_of(PLATE_LINE + "character at 3: 4E parity\nfault 22\nfault 22\n")
+    single = tape.tape_of(PLATE_LINE + "character at 3: 4E parity\nfault 22\nfault 22\n")
+    assert tape.tape_of(PLATE_LINE + "character at 3: 0x4E parity\nfault 0x22\nfault 22h\n") == single
 
 
 def test_ask_is_frame_sum_and_poll():
@@ -267,7 +268,8 @@ def test_ask_and_expect_errors():
 
 
 def test_expectations_become_answers():
-    text = PLATE_LINE + "ask memory-status\nexpect done\nexpect reply 40 4E 08 00 sum\nask 40 44\nexpect error unknown-command\nask to 1 memory-status\nexpect silence\n"
+    text = PLATE_LINE + "ask memory-status\nexpect done\nexpect reply 40 4E 08 00 sum\nask 40 44\nexpect error unknown-command\n"
+    text += "ask to 1 memory-status\nexpect silence\n"
     assert tape.answers_to_come(text) == "tick reply\n308 40 4E 08 00 06\n660 40 50 0B 1B\n"
     assert tape.answers_to_come(PLATE_LINE + "fault 08\nask 40 44\nexpect error 0B with warning\n") == "tick reply\n308 40 D0 0B 9B\n"
     cases = (
