@@ -23,7 +23,8 @@ import written
 
 HERE = os.path.dirname(os.path.abspath(__file__))
 SESSIONS = sorted(name[:-4] for name in os.listdir(os.path.join(HERE, "sessions")) if name.endswith(".txt"))
-HEADER = os.path.join(os.path.dirname(HERE), "host", "quicksetter.h")
+ROOT = os.path.dirname(HERE)
+HEADER = os.path.join(ROOT, "host", "quicksetter.h")
 JUDGE = bench.load()
 
 SHEET_TAPE = bytes.fromhex(
@@ -534,6 +535,20 @@ def test_bad_tape_is_told():
     assert empty == (words.Summary().line() + "\n", words.Summary()) and empty[1].status() == 0
 
 
+def test_documents_tell_what_is():
+    """README's part of the demo is the page's, and docs/TOOLS.md has every command, and every code that the board answers with, by name."""
+    text = session("pallet-night")
+    page, _ = explain.explain_tape(tape.good_session(text), tape.answers_to_come(text), JUDGE)
+    with open(os.path.join(ROOT, "README.md"), encoding="utf-8") as file:
+        shown = file.read().partition("A part of what it tells:\n\n")[2].partition("A session is text")[0]
+    assert shown.count("\n") > 10 and shown.replace("\n    ", "\n")[4:].strip("\n") in page, shown
+    with open(os.path.join(ROOT, "docs", "TOOLS.md"), encoding="utf-8") as file:
+        tools = " ".join(file.read().split())
+    assert all(name in tools for name in commands.BY_NAME)
+    assert all(f"{commands.hyphened(code.name)} {byte:02X}" in tools for byte, code in commands.CODES.items() if code.answered)
+    assert all(f" {part.name}" in tools for command in commands.COMMANDS.values() for part in command.request)
+
+
 # --- expectations ----------------------------------------------------------------------------
 
 # An ask, the answer to it, what holds of it and what does not.
@@ -620,6 +635,7 @@ def test_log():
 
 def test_logs_that_are_not_well():
     cases = (
+        ("0 > 40 4E 0E\n1 < 40 40\n", "bench: refused B1, reply under 3 bytes", words.Summary(frames=1, replies=1, wrong=1)),
         ("0 > 40 4E 0E\n1 < 40 4E 70 00 7F\n", "bench: refused B2, checksum wrong", words.Summary(frames=1, replies=1, wrong=1)),
         ("0 > 40 4E 0E\n1 < 41 4E 70 00 7F\n", "bench: refused B3, address not the asked one", words.Summary(frames=1, replies=1, wrong=1)),
         ("0 > FF 4E B1\n1 < FF 4E 70 00 C1\n", "bench: refused B3, address not the asked one", words.Summary(frames=1, replies=1, wrong=1)),
