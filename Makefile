@@ -27,8 +27,8 @@ $(ANSWER): always
 	@test -e $@ || echo 'The answer program is proved from nothing, which takes some minutes.'
 	@rt check answer >target/answer.log 2>&1 || { cat target/answer.log; exit 1; }
 
-# rt staticlib proves anew each time, so make looks whether a file of the crates is newer.
-$(ARCHIVE): crates.txt $(shell find crates -name '*.rt' -o -name '*.antt')
+# rt staticlib proves anew each time, so make looks whether a file of the crates, or a folder where one went away, is newer.
+$(ARCHIVE): crates.txt $(shell find crates -name '*.rt' -o -name '*.antt' -o -type d)
 	rt staticlib quicksetter
 	@touch $@
 

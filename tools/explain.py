@@ -95,11 +95,8 @@ def shared_out(plate: Plate, run: List[Frame], replies: List[Reply], judge: Judg
     return in_order(len(run), len(replies), score)
 
 
-def paired(plate: Plate, frames: List[Frame], replies: List[Reply], judge: Judge) -> Tuple[Dict[int, Reply], List[Reply]]:
-    """The reply to each frame, by the place of its first character, and the replies that answer none.
-
-    Replies come in the order of their frames, each at the tick at which its frame closed.
-    """
+def matched(plate: Plate, frames: List[Frame], replies: List[Reply], judge: Judge) -> Tuple[Dict[int, Reply], List[Reply]]:
+    """As `paired`, where replies are missing or too many: tick by tick, and a reply at a tick at which no frame closes hides none behind it."""
     found: Dict[int, Reply] = {}
     strays: List[Reply] = []
     waiting = list(reversed(replies))
@@ -114,6 +111,17 @@ def paired(plate: Plate, frames: List[Frame], replies: List[Reply], judge: Judge
             found[run[frame].first] = reply
         to_close[run[0].closed] -= len(run)
     return found, strays + waiting[::-1]
+
+
+def paired(plate: Plate, frames: List[Frame], replies: List[Reply], judge: Judge) -> Tuple[Dict[int, Reply], List[Reply]]:
+    """The reply to each frame, by the place of its first character, and the replies that answer none.
+
+    A board answers each frame that is to be answered, at the tick at which it closes, and no other: then the replies are theirs, one by one.
+    """
+    due = [frame for frame in frames if frame.closed is not None and not silence_due(plate, frame)]
+    if [frame.closed for frame in due] == [reply.tick for reply in replies]:
+        return {frame.first: reply for frame, reply in zip(due, replies)}, []
+    return matched(plate, frames, replies, judge)
 
 
 # --- the page -------------------------------------------------------------------------------
@@ -273,14 +281,22 @@ def built_program() -> str:
     return program
 
 
-def session_of(data: bytes) -> Session:
+def text_in(name: str, data: bytes) -> str:
+    """The text that a file has."""
+    try:
+        return text_of_bytes(data)
+    except WrittenError as error:
+        raise WrittenError(f"{name}: {error}") from None
+
+
+def session_of(name: str, data: bytes) -> Session:
     """A file that is a session text or a tape."""
-    return read_session(text_of_bytes(data)) if is_text(data) else Session(data, [], [], [])
+    return read_session(text_in(name, data)) if is_text(data) else Session(data, [], [], [])
 
 
 def tell_session(name: str, answers: Callable[[bytes], str], judge: Judge) -> int:
     """Tells a session or tape; of a text with bad lines only these."""
-    session = session_of(read_file(name))
+    session = session_of(name, read_file(name))
     for error in session.bad:
         complain(f"explain.py: {name}: {error}")
     if session.bad:
@@ -296,7 +312,7 @@ def tell_log(name: str, judge: Judge) -> int:
     data = read_file(name)
     if not is_text(data):
         raise WrittenError(f"{name}: a log is text, and this is not")
-    page, summary = explain_log(text_of_bytes(data), judge)
+    page, summary = explain_log(text_in(name, data), judge)
     put_out(page.encode("ascii", "backslashreplace"))
     return summary.status()
 

@@ -9,6 +9,7 @@ from records import xor_of
 
 MOST_TIMES = 100_000
 LONGEST_NUMBER = 20
+UTF_16 = (b"\xff\xfe", b"\xfe\xff")
 
 BYTE_WORD = re.compile(
     r'[\s,]*(?:(?:0[xX]([0-9a-fA-F]|(?:[0-9a-fA-F]{2})+)|((?:[0-9a-fA-F]{2})+)[hH]?)(?:\*([0-9]+))?|"([^"]*)"|(sum))(?=[\s,]|$)'
@@ -80,6 +81,8 @@ def event_and_comment(line: str) -> Tuple[str, str]:
 
 def text_of_bytes(data: bytes) -> str:
     """A file's bytes as UTF-8 text, with or without a byte order mark."""
+    if data.startswith(UTF_16):
+        raise WrittenError("this text is UTF-16; save it as UTF-8")
     try:
         return data.decode("utf-8-sig")
     except UnicodeDecodeError as error:
@@ -89,7 +92,7 @@ def text_of_bytes(data: bytes) -> str:
 
 def is_text(data: bytes) -> bool:
     """Text has no control characters but tab and line ends; every record of a tape has one."""
-    return not any(byte < 32 and byte not in b"\t\n\r" for byte in data)
+    return data.startswith(UTF_16) or not any(byte < 32 and byte not in b"\t\n\r" for byte in data)
 
 
 def read_file(name: str) -> bytes:
