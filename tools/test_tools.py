@@ -181,6 +181,8 @@ def test_program(program):
         assert answers == tape.answers_to_come(text), f"{name}: {answers}"
         status, page, said = run_tool("explain.py", ["--run", program, path_of(name)], b"")
         assert (status, said) == (0, b"") and b"FAILED" not in page and page.rstrip().endswith(b" 0 failed expectations"), name
+    is_built = os.path.isfile(os.path.join(bench.ROOT, explain.ANSWER))
+    assert run_tool("explain.py", [path_of("pallet-night")], b"")[0] == (0 if is_built else 1)
     torn = tape.tape_of(PLATE_LINE) + b"\x05"
     assert explain.answers_of(program, torn) == "tick reply\nbad 9\n"
     assert run_tool("explain.py", ["--run", program, "-"], torn)[0] == 1
