@@ -138,6 +138,7 @@ def test_frames_that_close_at_one_tick():
         (("40 53 13", "40 4E 0E"), status, [(0x4E, "40 4E 08 00 06")]),
         (("40 4E 0E", "40 53 13"), status, [(0x4E, "40 4E 08 00 06")]),
         (("40 40", "40 4E 0E"), status, [(0x4E, "40 4E 08 00 06")]),
+        (("40 53 13", "40 44 04"), "308 40 50 0B 1B\n", [(0x44, "40 50 0B 1B")]),
         (("40 53 14", "40 4E 0E"), "308 40 50 0A 1A\n" + status, [(0x53, "40 50 0A 1A"), (0x4E, "40 4E 08 00 06")]),
         (("40 4E 0E", "40 46 06"), status + counter, [(0x4E, "40 4E 08 00 06"), (0x46, "40 46 00 00 00 06")]),
         (("40 4E 0E", "40 46 06"), counter, [(0x46, "40 46 00 00 00 06")]),
@@ -146,6 +147,8 @@ def test_frames_that_close_at_one_tick():
     )
     for (first, second), answers, pairs in cases:
         assert replies_by_frame(at_308.format(first, second), answers) == (pairs, []), (first, second, answers)
+        unanswered = at_308.format(first, second) + "ask at 5000: 40 42\n"
+        assert replies_by_frame(unanswered, answers) == (pairs, []), (first, second, answers)
     assert summed(at_308.format("41 4E 0F", "40 46 06"), counter)[:5] == (2, 1, 0, 1, 0)
     assert summed(at_308.format("40 4E 0E", "40 46 06"), counter)[:5] == (2, 1, 0, 1, 1)
 
@@ -165,6 +168,7 @@ def test_stray_replies_hide_no_others():
     pairs = [(0x4E, "40 4E 08 00 06"), (0x46, "40 46 00 00 00 06")]
     assert replies_by_frame(two, right.format("")) == (pairs, [])
     assert replies_by_frame(two, right.format("500 40 40\n")) == (pairs, [500])
+    assert replies_by_frame(two, "308 40 4E 08 00 06\n500 40 40\n") == (pairs[:1], [500])
     assert replies_by_frame(two, right.format("308 40 40\n")) == (pairs, [308])
     assert replies_by_frame(two, "1 40 40\n" + right.format("") + "661 40 40\n") == (pairs, [1, 661])
     assert summed(two, right.format("500 40 40\n"))[:6] == (2, 3, 0, 0, 1, 0)
