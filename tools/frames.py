@@ -22,13 +22,16 @@ class Frame(NamedTuple):
     closed_at: Optional[int] = None
 
 
+def is_reset(values: bytes) -> bool:
+    """Whether these are a good Encoder Reset, to which no board answers (000, table 29)."""
+    return len(values) >= SHORTEST and xor_of(values) == 0 and values[1] == RESET and layout_fits(RESET, values[2:-1])
+
+
 def silence_due(plate: Plate, frame: Frame) -> bool:
-    """Whether the board must keep silent: too short, another's, or a good Encoder Reset (01, steps 1 to 6; 53h has no reply)."""
-    values = frame.values
-    if len(values) < SHORTEST or values[0] not in (plate.own_byte(), BROADCAST):
+    """Whether the board must keep silent: too short, another's, or a good Encoder Reset (01, step 1; 53h)."""
+    if len(frame.values) < SHORTEST or frame.values[0] not in (plate.own_byte(), BROADCAST):
         return True
-    faulty = frame.parity or xor_of(values) != 0 or len(values) > KEPT_BYTES
-    return not faulty and values[1] == RESET and layout_fits(RESET, values[2:-1])
+    return is_reset(frame.values) and not frame.parity
 
 
 class Cutter:

@@ -369,11 +369,10 @@ def test_log():
     page, summary = traffic.explain_log(LOG, JUDGE)
     assert summary == words.Summary(frames=5, replies=4, errors=1, silences=2) and summary.status() == 0
     for line in (
-        "         0      0.000 ms  request   40 4E 0E\n                                    4Eh Memory Status\n",
-        "       480     12.500 ms  reply     40 4E 70 00 7E\n",
+        "         0      0.000 ms  request   40 4E 0E\n                                    4Eh Memory Status\n       480     12.500 ms  reply     40 4E 70 00 7E\n",
         "12.500 ms after the request\n",
         "       960     25.000 ms  request   FF 4E B1\n",
-        "as it must be: 53h has no reply\n",
+        "53h Encoder Reset\n                          silence   as it must be: 53h has no reply\n\n",
         "error 0Bh unknown command (the board does not have this command)\n",
         "no reply is logged\n",
     ):
@@ -401,4 +400,5 @@ def test_logs_that_are_not_well():
     for text, line, summed_up in cases:
         page, summary = traffic.explain_log(text, JUDGE)
         assert line in page and summary == summed_up and summary.status() == 1, (text, page)
+    assert "silence   no reply is logged\n" in traffic.explain_log("0 > 40 53 14\n", JUDGE)[0]
     assert "the time goes back\n" in traffic.explain_log("5 > 40 4E 0E\n4 < 40 4E 70 00 7E\n", JUDGE)[0]

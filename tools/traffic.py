@@ -4,7 +4,8 @@ import re
 from typing import Iterator, List, NamedTuple, Optional, Tuple, Union
 
 from bench import Judge
-from commands import BROADCAST, RESET
+from commands import BROADCAST
+from frames import is_reset
 from records import TICKS_A_SECOND, milliseconds
 from words import Summary, entry, error_code, hex_lines, page_of, reply_words, request_words
 from written import WrittenError, bytes_of, event_and_comment
@@ -62,14 +63,12 @@ class Listener:
         """The end of a request: whether it was left without a reply."""
         if self.request is None or self.replies:
             return [], Summary()
-        is_reset = self.request.values[1:2] == bytes([RESET])
-        return entry(None, "silence", ["as it must be: 53h has no reply" if is_reset else "no reply is logged"]), Summary(silences=1)
+        words = "as it must be: 53h has no reply" if is_reset(self.request.values) else "no reply is logged"
+        return entry(None, "silence", [words]), Summary(silences=1)
 
     def hear_request(self, frame: Logged) -> Tuple[List[str], Summary]:
-        before, counted = self.silence()
         self.request, self.replies = frame, 0
-        page = entry(frame.ticks, "request", hex_lines(frame.values) + [request_words(frame.values, False, None)])
-        return before + ([""] if before else []) + page, counted.plus(Summary(frames=1))
+        return entry(frame.ticks, "request", hex_lines(frame.values) + [request_words(frame.values, False, None)]), Summary(frames=1)
 
     def hear_reply(self, frame: Logged) -> Tuple[List[str], Summary]:
         """A reply belongs to the request before it; only a request to all boards may have several."""
@@ -93,15 +92,21 @@ class Listener:
 def explain_log(text: str, judge: Judge) -> Tuple[str, Summary]:
     """The whole log as a page, and what there was. A log without a single frame is a bad one."""
     listener = Listener(judge)
-    parts, summary = [], Summary()
+    parts: List[List[str]] = [[]]
+    summary = Summary()
     for heard in read_log(text):
-        page, counted = listener.hear(heard)
-        parts.append(page)
+        if isinstance(heard, Logged) and not heard.is_reply:
+            lines, counted = listener.silence()
+            parts[-1] += lines
+            parts.append([])
+            summary = summary.plus(counted)
+        lines, counted = listener.hear(heard)
+        parts[-1] += lines
         summary = summary.plus(counted)
-    page, counted = listener.silence()
-    parts.append(page)
+    lines, counted = listener.silence()
+    parts[-1] += lines
     summary = summary.plus(counted)
-    if not (summary.frames or summary.replies or summary.bad):
+    if summary == Summary():
         parts.append(["No line of this log has a frame."])
-        summary = summary.plus(Summary(bad=1))
+        summary = Summary(bad=1)
     return page_of(parts + [[summary.line()]]), summary
