@@ -369,7 +369,8 @@ def test_log():
     page, summary = traffic.explain_log(LOG, JUDGE)
     assert summary == words.Summary(frames=5, replies=4, errors=1, silences=2) and summary.status() == 0
     for line in (
-        "         0      0.000 ms  request   40 4E 0E\n                                    4Eh Memory Status\n       480     12.500 ms  reply     40 4E 70 00 7E\n",
+        "         0      0.000 ms  request   40 4E 0E\n",
+        "4Eh Memory Status\n       480     12.500 ms  reply     40 4E 70 00 7E\n",
         "12.500 ms after the request\n",
         "       960     25.000 ms  request   FF 4E B1\n",
         "53h Encoder Reset\n                          silence   as it must be: 53h has no reply\n\n",
