@@ -12,3 +12,5 @@ pub mod Tight
 pub mod Theorems
 pub mod Staying
 pub mod Running
+mod Keeping
+pub mod Lasting
