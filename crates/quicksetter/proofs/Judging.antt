@@ -60,11 +60,8 @@ module _ (q r : List ℕ) (p : Piece) (v : Verdict) (e : verdictOf v ≡ without
   piece-handed : pieceFrom p ≡ meaning.handed q r
   piece-handed = h ∙ sym (handed-by q r v e)
 
-  pub place-small : p .from ≤ 2
-  place-small = subst (λ (x : meaning.Piece). x .from ≤ 2) (sym piece-handed) (piece-fits q r .0)
-
-  pub length-small : p .count ≤ 131
-  length-small = subst (λ (x : meaning.Piece). x .count ≤ 131) (sym piece-handed) (piece-fits q r .1)
+  pub piece-small : (p .from ≤ 2) × (p .count ≤ 131)
+  piece-small = subst (λ (x : meaning.Piece). (x .from ≤ 2) × (x .count ≤ 131)) (sym piece-handed) (piece-fits q r)
 
   pub piece-number : p .from * 0x100000000 + p .count ≡ pieceNumber (meaning.handed q r)
   unfolding pieceNumber

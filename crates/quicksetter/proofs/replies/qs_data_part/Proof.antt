@@ -1,5 +1,6 @@
 -- `quicksetter::replies::qs_data_part` meets its contract. Assumes nothing.
-use Rattle.quicksetter.proofs.Judging.{place-small, length-small, piece-number}
+use Rattle.quicksetter.proofs.Judging.{piece-small, piece-number}
+use Prim.Native.Nat.{_≤_}
 use native.Mathlib.Omega.{arith}
 use borrow.Author.Needs.{needs}
 use Rattle.quicksetter.proofs.replies.qs_data_part.Statement.{statement}
@@ -9,6 +10,13 @@ use Rattle.quicksetter.proofs.replies.qs_data_part.Lts as lts
 use Rattle.bench.proofs.reply.Verdict.piece.Reads as piece-reads
 use Rattle.bench.proofs.judge.Reads as judge-reads
 
+-- neither number is large
+small : (c : tie.After-piece) → (c .piece .result .from ≤ 2) × (c .piece .result .count ≤ 131)
+small c =
+    let start = c .before .before .before .before in
+    let by-judge = c .before .judge in
+    piece-small (start .args .request .now) (start .args .reply .now) (c .piece .result) (by-judge .result) (by-judge .ensures) (c .piece .ensures)
+
 judge-requires : tie.Need-judge-requires
 judge-requires c κs = search needs
 
@@ -16,16 +24,10 @@ piece-requires : tie.Need-piece-requires
 piece-requires c κs = search needs
 
 mul-result : tie.Need-mul-result
-mul-result c =
-    let start = c .before .before .before .before in
-    let by-judge = c .before .judge in
-    record { fits = omega (arith, place-small (start .args .request .now) (start .args .reply .now) (c .piece .result) (by-judge .result) (by-judge .ensures) (c .piece .ensures)) }
+mul-result c = record { fits = omega (arith, small c .0) }
 
 add-result : tie.Need-add-result
-add-result c =
-    let start = c .before .before .before .before in
-    let by-judge = c .before .judge in
-    record { fits = omega (arith, place-small (start .args .request .now) (start .args .reply .now) (c .piece .result) (by-judge .result) (by-judge .ensures) (c .piece .ensures), length-small (start .args .request .now) (start .args .reply .now) (c .piece .result) (by-judge .result) (by-judge .ensures) (c .piece .ensures)) }
+add-result c = record { fits = omega (arith, small c .0, small c .1) }
 
 returns : tie.Need-returns
 returns c =
