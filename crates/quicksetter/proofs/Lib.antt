@@ -8,6 +8,7 @@ mod Heads
 mod Starting
 mod Resting
 mod Judging
+pub mod Lengths
 pub mod Tight
 pub mod Theorems
 pub mod Staying
