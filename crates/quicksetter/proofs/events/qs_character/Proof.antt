@@ -1,7 +1,11 @@
 -- `quicksetter::events::qs_character` meets its contract. Assumes nothing.
-use mathlib.Core.Path.{sym, _∙_}
+use mathlib.Core.Path.{_≡_, sym, _∙_}
+use mathlib.Core.Bool.{true}
 use native.Mathlib.Omega.{arith}
 use denote.Ref.{now}
+use lib.ListN.{length}
+use Rattle.image.specs.Image.{isOurs}
+use Rattle.quicksetter.specs.Cores.{Workable}
 use borrow.Author.Tests.{not-true, not-false}
 use Rattle.quicksetter.proofs.Heads.{ours-length, not-ours}
 use Rattle.quicksetter.proofs.Refusing.{lends-character, impossible, unsound, other-size, too-narrow, none-applies}
@@ -20,6 +24,34 @@ use Rattle.quicksetter.proofs.events.is_possible.Reads as is-possible-r
 use Rattle.quicksetter.proofs.events.is_sound.Reads as is-sound-reads
 use Rattle.quicksetter.proofs.events.polled.Reads as polled-reads
 
+-- where the call began
+abbrev start1 : tie.Else1 → tie.Start
+start1 c =
+    let start = c .before .before .before .before .before .before in
+    start
+
+abbrev start5 : tie.Else5 → tie.Start
+start5 c =
+    let start = c .before .before .before .before .before .before .before .before .before .before .before .before .before .before .before .before .before .before .before in
+    start
+
+ours : (c : tie.Else1) → isOurs (now (start1 c .args .image)) ≡ true
+ours c = sym (c .before .is-ours .ensures) ∙ not-false _ (c .if1 .left)
+
+-- R1 to R3 do not apply
+fine : (c : tie.Else5) → Workable (now (start5 c .args .image)) (length (now (start5 c .args .memory))) (length (now (start5 c .args .room)))
+fine c =
+    let after-memory-length = c .before .before in
+    let after-if3 = after-memory-length .before in
+    let after-is-sound = after-if3 .before in
+    let after-if2 = after-is-sound .before .before .before in
+    let after-is-possible = after-if2 .before in
+    let after-plate-in = after-is-possible .before .before .before in
+    let after-if1 = after-plate-in .before .before in
+    let start = after-if1 .before .before .before .before .before .before in
+    workable _ (now (start .args .memory)) (now (start .args .room)) (ours (after-if1)) (after-plate-in .plate-in .ensures)
+    (none-applies _ _ _ _ (sym (after-is-possible .is-possible .ensures) ∙ not-false _ (after-if2 .if2 .left)) (sym (after-is-sound .is-sound .ensures) ∙ not-false _ (after-if3 .if3 .left)) (c .before .if4 .left ∙ after-memory-length .memory-length .ensures) (c .if5 .left))
+
 is-ours-requires : tie.Need-is-ours-requires
 is-ours-requires c κs = search needs
 
@@ -33,9 +65,7 @@ returns : tie.Need-returns
 returns c = not-ours _ _ _ _ (sym (c .before .is-ours .ensures) ∙ not-true _ (c .if1 .taken))
 
 plate-in-requires : tie.Need-plate-in-requires
-plate-in-requires c κs =
-    let after-is-ours = c .before .before in
-    omega (arith, ours-length _ (sym (after-is-ours .is-ours .ensures) ∙ not-false _ (c .before .if1 .left)))
+plate-in-requires c κs = omega (arith, ours-length _ (ours (c .before)))
 
 sub-is-possible : tie.Need-sub-is-possible
 sub-is-possible c = search needs
@@ -46,8 +76,7 @@ part-is-possible-start c = search needs
 part-is-possible-end : tie.Need-part-is-possible-end
 part-is-possible-end c =
     let after-if1 = c .before .before .before in
-    let after-is-ours = after-if1 .before in
-    omega (arith, ours-length _ (sym (after-is-ours .is-ours .ensures) ∙ not-false _ (after-if1 .if1 .left)))
+    omega (arith, ours-length _ (ours (after-if1)))
 
 is-possible-requires : tie.Need-is-possible-requires
 is-possible-requires c κs = search needs
@@ -62,9 +91,9 @@ returns-2 : tie.Need-returns-2
 returns-2 c =
     let after-plate-in = c .before .before .before .before in
     let after-if1 = after-plate-in .before .before in
-    let after-is-ours = after-if1 .before in
-    let start = after-is-ours .before .before .before .before .before in
-    refused-whole (now (start .args .image)) (now (start .args .memory)) (now (start .args .room)) (sym (after-is-ours .is-ours .ensures) ∙ not-false _ (after-if1 .if1 .left)) (after-plate-in .plate-in .ensures) _ (lends-character _ _ _) (impossible _ _ _ _ (sym (c .before .is-possible .ensures) ∙ not-true _ (c .if2 .taken))) some-refusal
+    let start = after-if1 .before .before .before .before .before .before in
+    refused-whole _ (now (start .args .memory)) (now (start .args .room)) (ours (after-if1)) (after-plate-in .plate-in .ensures) _ (lends-character _ _ _)
+    (impossible _ _ _ _ (sym (c .before .is-possible .ensures) ∙ not-true _ (c .if2 .taken))) some-refusal
 
 sub-is-sound : tie.Need-sub-is-sound
 sub-is-sound c = search needs
@@ -75,8 +104,7 @@ part-is-sound-start c = search needs
 part-is-sound-end : tie.Need-part-is-sound-end
 part-is-sound-end c =
     let after-if1 = c .before .before .before .before .before .before .before in
-    let after-is-ours = after-if1 .before in
-    omega (arith, ours-length _ (sym (after-is-ours .is-ours .ensures) ∙ not-false _ (after-if1 .if1 .left)))
+    omega (arith, ours-length _ (ours (after-if1)))
 
 is-sound-requires : tie.Need-is-sound-requires
 is-sound-requires c κs = search needs
@@ -93,9 +121,9 @@ returns-3 c =
     let after-is-possible = after-if2 .before in
     let after-plate-in = after-is-possible .before .before .before in
     let after-if1 = after-plate-in .before .before in
-    let after-is-ours = after-if1 .before in
-    let start = after-is-ours .before .before .before .before .before in
-    refused-whole (now (start .args .image)) (now (start .args .memory)) (now (start .args .room)) (sym (after-is-ours .is-ours .ensures) ∙ not-false _ (after-if1 .if1 .left)) (after-plate-in .plate-in .ensures) _ (lends-character _ _ _) (unsound _ _ _ _ (sym (after-is-possible .is-possible .ensures) ∙ not-false _ (after-if2 .if2 .left)) (sym (c .before .is-sound .ensures) ∙ not-true _ (c .if3 .taken))) some-refusal
+    let start = after-if1 .before .before .before .before .before .before in
+    refused-whole _ (now (start .args .memory)) (now (start .args .room)) (ours (after-if1)) (after-plate-in .plate-in .ensures) _ (lends-character _ _ _)
+    (unsound _ _ _ _ (sym (after-is-possible .is-possible .ensures) ∙ not-false _ (after-if2 .if2 .left)) (sym (c .before .is-sound .ensures) ∙ not-true _ (c .if3 .taken))) some-refusal
 
 memory-length-requires : tie.Need-memory-length-requires
 memory-length-requires c κs = search needs
@@ -114,9 +142,10 @@ returns-4 c =
     let after-is-possible = after-if2 .before in
     let after-plate-in = after-is-possible .before .before .before in
     let after-if1 = after-plate-in .before .before in
-    let after-is-ours = after-if1 .before in
-    let start = after-is-ours .before .before .before .before .before in
-    refused-whole (now (start .args .image)) (now (start .args .memory)) (now (start .args .room)) (sym (after-is-ours .is-ours .ensures) ∙ not-false _ (after-if1 .if1 .left)) (after-plate-in .plate-in .ensures) _ (lends-character _ _ _) (other-size _ _ _ _ (sym (after-is-possible .is-possible .ensures) ∙ not-false _ (after-if2 .if2 .left)) (sym (after-is-sound .is-sound .ensures) ∙ not-false _ (after-if3 .if3 .left)) (λ e. c .if4 .taken (e ∙ sym (c .before .memory-length .ensures)))) some-refusal
+    let start = after-if1 .before .before .before .before .before .before in
+    refused-whole _ (now (start .args .memory)) (now (start .args .room)) (ours (after-if1)) (after-plate-in .plate-in .ensures) _ (lends-character _ _ _)
+    (other-size _ _ _ _ (sym (after-is-possible .is-possible .ensures) ∙ not-false _ (after-if2 .if2 .left)) (sym (after-is-sound .is-sound .ensures) ∙ not-false _ (after-if3 .if3 .left))
+    (λ e. c .if4 .taken (e ∙ sym (c .before .memory-length .ensures)))) some-refusal
 
 add-result-5 : tie.Need-add-result-5
 add-result-5 c = search needs
@@ -133,24 +162,15 @@ returns-5 c =
     let after-is-possible = after-if2 .before in
     let after-plate-in = after-is-possible .before .before .before in
     let after-if1 = after-plate-in .before .before in
-    let after-is-ours = after-if1 .before in
-    let start = after-is-ours .before .before .before .before .before in
-    refused-whole (now (start .args .image)) (now (start .args .memory)) (now (start .args .room)) (sym (after-is-ours .is-ours .ensures) ∙ not-false _ (after-if1 .if1 .left)) (after-plate-in .plate-in .ensures) _ (lends-character _ _ _) (too-narrow _ _ _ _ (sym (after-is-possible .is-possible .ensures) ∙ not-false _ (after-if2 .if2 .left)) (sym (after-is-sound .is-sound .ensures) ∙ not-false _ (after-if3 .if3 .left)) (c .before .if4 .left ∙ after-memory-length .memory-length .ensures) (c .if5 .taken)) some-refusal
+    let start = after-if1 .before .before .before .before .before .before in
+    refused-whole _ (now (start .args .memory)) (now (start .args .room)) (ours (after-if1)) (after-plate-in .plate-in .ensures) _ (lends-character _ _ _)
+    (too-narrow _ _ _ _ (sym (after-is-possible .is-possible .ensures) ∙ not-false _ (after-if2 .if2 .left)) (sym (after-is-sound .is-sound .ensures) ∙ not-false _ (after-if3 .if3 .left))
+    (c .before .if4 .left ∙ after-memory-length .memory-length .ensures) (c .if5 .taken)) some-refusal
 
 polled-requires : tie.Need-polled-requires
 polled-requires c κs =
     let after-if5 = c .before .before .before in
-    let after-if4 = after-if5 .before in
-    let after-memory-length = after-if4 .before in
-    let after-if3 = after-memory-length .before in
-    let after-is-sound = after-if3 .before in
-    let after-if2 = after-is-sound .before .before .before in
-    let after-is-possible = after-if2 .before in
-    let after-plate-in = after-is-possible .before .before .before in
-    let after-if1 = after-plate-in .before .before in
-    let after-is-ours = after-if1 .before in
-    let start = after-is-ours .before .before .before .before .before in
-    workable (now (start .args .image)) (now (start .args .memory)) (now (start .args .room)) (sym (after-is-ours .is-ours .ensures) ∙ not-false _ (after-if1 .if1 .left)) (after-plate-in .plate-in .ensures) (none-applies _ _ _ _ (sym (after-is-possible .is-possible .ensures) ∙ not-false _ (after-if2 .if2 .left)) (sym (after-is-sound .is-sound .ensures) ∙ not-false _ (after-if3 .if3 .left)) (after-if4 .if4 .left ∙ after-memory-length .memory-length .ensures) (after-if5 .if5 .left))
+    fine (after-if5)
 
 is-fault-requires : tie.Need-is-fault-requires
 is-fault-requires c κs = search needs
@@ -165,33 +185,13 @@ part-take-character-end : tie.Need-part-take-character-end
 part-take-character-end c =
     let after-polled = c .before .before .before .before .before .before .before in
     let after-if5 = after-polled .before .before .before .before in
-    let after-if4 = after-if5 .before in
-    let after-memory-length = after-if4 .before in
-    let after-if3 = after-memory-length .before in
-    let after-is-sound = after-if3 .before in
-    let after-if2 = after-is-sound .before .before .before in
-    let after-is-possible = after-if2 .before in
-    let after-plate-in = after-is-possible .before .before .before in
-    let after-if1 = after-plate-in .before .before in
-    let after-is-ours = after-if1 .before in
-    let start = after-is-ours .before .before .before .before .before in
-    omega (arith, as-long (now (start .args .image)) (now (start .args .memory)) (now (start .args .room)) (workable (now (start .args .image)) (now (start .args .memory)) (now (start .args .room)) (sym (after-is-ours .is-ours .ensures) ∙ not-false _ (after-if1 .if1 .left)) (after-plate-in .plate-in .ensures) (none-applies _ _ _ _ (sym (after-is-possible .is-possible .ensures) ∙ not-false _ (after-if2 .if2 .left)) (sym (after-is-sound .is-sound .ensures) ∙ not-false _ (after-if3 .if3 .left)) (after-if4 .if4 .left ∙ after-memory-length .memory-length .ensures) (after-if5 .if5 .left))) _ (after-polled .polled .ensures))
+    omega (arith, as-long _ _ _ (fine (after-if5)) _ (after-polled .polled .ensures))
 
 take-character-requires : tie.Need-take-character-requires
 take-character-requires c κs =
     let after-polled = c .before .before .before .before .before .before .before .before in
     let after-if5 = after-polled .before .before .before .before in
-    let after-if4 = after-if5 .before in
-    let after-memory-length = after-if4 .before in
-    let after-if3 = after-memory-length .before in
-    let after-is-sound = after-if3 .before in
-    let after-if2 = after-is-sound .before .before .before in
-    let after-is-possible = after-if2 .before in
-    let after-plate-in = after-is-possible .before .before .before in
-    let after-if1 = after-plate-in .before .before in
-    let after-is-ours = after-if1 .before in
-    let start = after-is-ours .before .before .before .before .before in
-    lent-still (now (start .args .image)) (now (start .args .memory)) (now (start .args .room)) (workable (now (start .args .image)) (now (start .args .memory)) (now (start .args .room)) (sym (after-is-ours .is-ours .ensures) ∙ not-false _ (after-if1 .if1 .left)) (after-plate-in .plate-in .ensures) (none-applies _ _ _ _ (sym (after-is-possible .is-possible .ensures) ∙ not-false _ (after-if2 .if2 .left)) (sym (after-is-sound .is-sound .ensures) ∙ not-false _ (after-if3 .if3 .left)) (after-if4 .if4 .left ∙ after-memory-length .memory-length .ensures) (after-if5 .if5 .left))) _ (after-polled .polled .ensures)
+    lent-still _ _ _ (fine (after-if5)) _ (after-polled .polled .ensures)
 
 same-length-6 : tie.Need-same-length-6
 same-length-6 c = search needs
@@ -209,17 +209,7 @@ returns-6 c =
     let after-slice-known4 = after-is-fault .before .before .before .before .before in
     let after-polled = after-slice-known4 .before .before in
     let after-if5 = after-polled .before .before .before .before in
-    let after-if4 = after-if5 .before in
-    let after-memory-length = after-if4 .before in
-    let after-if3 = after-memory-length .before in
-    let after-is-sound = after-if3 .before in
-    let after-if2 = after-is-sound .before .before .before in
-    let after-is-possible = after-if2 .before in
-    let after-plate-in = after-is-possible .before .before .before in
-    let after-if1 = after-plate-in .before .before in
-    let after-is-ours = after-if1 .before in
-    let start = after-is-ours .before .before .before .before .before in
-    character-whole (now (start .args .image)) (now (start .args .memory)) (now (start .args .room)) (workable (now (start .args .image)) (now (start .args .memory)) (now (start .args .room)) (sym (after-is-ours .is-ours .ensures) ∙ not-false _ (after-if1 .if1 .left)) (after-plate-in .plate-in .ensures) (none-applies _ _ _ _ (sym (after-is-possible .is-possible .ensures) ∙ not-false _ (after-if2 .if2 .left)) (sym (after-is-sound .is-sound .ensures) ∙ not-false _ (after-if3 .if3 .left)) (after-if4 .if4 .left ∙ after-memory-length .memory-length .ensures) (after-if5 .if5 .left))) _ (after-polled .polled .ensures) _ (after-is-fault .is-fault .ensures) (λ i. (after-slice-known4 .slice-known4 .given i) .fits) (after-take-character .take-character .ensures)
+    character-whole _ _ _ (fine (after-if5)) _ (after-polled .polled .ensures) _ (after-is-fault .is-fault .ensures) (λ i. (after-slice-known4 .slice-known4 .given i) .fits) (after-take-character .take-character .ensures)
 
 pub qs-character-spec : {M : Type 1} → statement M
 qs-character-spec =

@@ -1,7 +1,11 @@
 -- `quicksetter::events::qs_poll` meets its contract. Assumes nothing.
-use mathlib.Core.Path.{sym, _∙_}
+use mathlib.Core.Path.{_≡_, sym, _∙_}
+use mathlib.Core.Bool.{true}
 use native.Mathlib.Omega.{arith}
 use denote.Ref.{now}
+use lib.ListN.{length}
+use Rattle.image.specs.Image.{isOurs}
+use Rattle.quicksetter.specs.Cores.{Workable}
 use borrow.Author.Tests.{not-true, not-false}
 use Rattle.quicksetter.proofs.Heads.{ours-length, not-ours}
 use Rattle.quicksetter.proofs.Refusing.{lends-poll, impossible, unsound, other-size, too-narrow, none-applies}
@@ -19,6 +23,34 @@ use Rattle.quicksetter.proofs.events.is_possible.Reads as is-possible-r
 use Rattle.quicksetter.proofs.events.is_sound.Reads as is-sound-reads
 use Rattle.quicksetter.proofs.events.shut.Reads as shut-reads
 
+-- where the call began
+abbrev start1 : tie.Else1 → tie.Start
+start1 c =
+    let start = c .before .before .before .before .before .before in
+    start
+
+abbrev start5 : tie.Else5 → tie.Start
+start5 c =
+    let start = c .before .before .before .before .before .before .before .before .before .before .before .before .before .before .before .before .before .before .before in
+    start
+
+ours : (c : tie.Else1) → isOurs (now (start1 c .args .image)) ≡ true
+ours c = sym (c .before .is-ours .ensures) ∙ not-false _ (c .if1 .left)
+
+-- R1 to R3 do not apply
+fine : (c : tie.Else5) → Workable (now (start5 c .args .image)) (length (now (start5 c .args .memory))) (length (now (start5 c .args .room)))
+fine c =
+    let after-memory-length = c .before .before in
+    let after-if3 = after-memory-length .before in
+    let after-is-sound = after-if3 .before in
+    let after-if2 = after-is-sound .before .before .before in
+    let after-is-possible = after-if2 .before in
+    let after-plate-in = after-is-possible .before .before .before in
+    let after-if1 = after-plate-in .before .before in
+    let start = after-if1 .before .before .before .before .before .before in
+    workable _ (now (start .args .memory)) (now (start .args .room)) (ours (after-if1)) (after-plate-in .plate-in .ensures)
+    (none-applies _ _ _ _ (sym (after-is-possible .is-possible .ensures) ∙ not-false _ (after-if2 .if2 .left)) (sym (after-is-sound .is-sound .ensures) ∙ not-false _ (after-if3 .if3 .left)) (c .before .if4 .left ∙ after-memory-length .memory-length .ensures) (c .if5 .left))
+
 is-ours-requires : tie.Need-is-ours-requires
 is-ours-requires c κs = search needs
 
@@ -32,9 +64,7 @@ returns : tie.Need-returns
 returns c = not-ours _ _ _ _ (sym (c .before .is-ours .ensures) ∙ not-true _ (c .if1 .taken))
 
 plate-in-requires : tie.Need-plate-in-requires
-plate-in-requires c κs =
-    let after-is-ours = c .before .before in
-    omega (arith, ours-length _ (sym (after-is-ours .is-ours .ensures) ∙ not-false _ (c .before .if1 .left)))
+plate-in-requires c κs = omega (arith, ours-length _ (ours (c .before)))
 
 sub-is-possible : tie.Need-sub-is-possible
 sub-is-possible c = search needs
@@ -45,8 +75,7 @@ part-is-possible-start c = search needs
 part-is-possible-end : tie.Need-part-is-possible-end
 part-is-possible-end c =
     let after-if1 = c .before .before .before in
-    let after-is-ours = after-if1 .before in
-    omega (arith, ours-length _ (sym (after-is-ours .is-ours .ensures) ∙ not-false _ (after-if1 .if1 .left)))
+    omega (arith, ours-length _ (ours (after-if1)))
 
 is-possible-requires : tie.Need-is-possible-requires
 is-possible-requires c κs = search needs
@@ -61,9 +90,9 @@ returns-2 : tie.Need-returns-2
 returns-2 c =
     let after-plate-in = c .before .before .before .before in
     let after-if1 = after-plate-in .before .before in
-    let after-is-ours = after-if1 .before in
-    let start = after-is-ours .before .before .before .before .before in
-    refused-whole (now (start .args .image)) (now (start .args .memory)) (now (start .args .room)) (sym (after-is-ours .is-ours .ensures) ∙ not-false _ (after-if1 .if1 .left)) (after-plate-in .plate-in .ensures) _ (lends-poll _) (impossible _ _ _ _ (sym (c .before .is-possible .ensures) ∙ not-true _ (c .if2 .taken))) some-refusal
+    let start = after-if1 .before .before .before .before .before .before in
+    refused-whole _ (now (start .args .memory)) (now (start .args .room)) (ours (after-if1)) (after-plate-in .plate-in .ensures) _ (lends-poll _)
+    (impossible _ _ _ _ (sym (c .before .is-possible .ensures) ∙ not-true _ (c .if2 .taken))) some-refusal
 
 sub-is-sound : tie.Need-sub-is-sound
 sub-is-sound c = search needs
@@ -74,8 +103,7 @@ part-is-sound-start c = search needs
 part-is-sound-end : tie.Need-part-is-sound-end
 part-is-sound-end c =
     let after-if1 = c .before .before .before .before .before .before .before in
-    let after-is-ours = after-if1 .before in
-    omega (arith, ours-length _ (sym (after-is-ours .is-ours .ensures) ∙ not-false _ (after-if1 .if1 .left)))
+    omega (arith, ours-length _ (ours (after-if1)))
 
 is-sound-requires : tie.Need-is-sound-requires
 is-sound-requires c κs = search needs
@@ -92,9 +120,9 @@ returns-3 c =
     let after-is-possible = after-if2 .before in
     let after-plate-in = after-is-possible .before .before .before in
     let after-if1 = after-plate-in .before .before in
-    let after-is-ours = after-if1 .before in
-    let start = after-is-ours .before .before .before .before .before in
-    refused-whole (now (start .args .image)) (now (start .args .memory)) (now (start .args .room)) (sym (after-is-ours .is-ours .ensures) ∙ not-false _ (after-if1 .if1 .left)) (after-plate-in .plate-in .ensures) _ (lends-poll _) (unsound _ _ _ _ (sym (after-is-possible .is-possible .ensures) ∙ not-false _ (after-if2 .if2 .left)) (sym (c .before .is-sound .ensures) ∙ not-true _ (c .if3 .taken))) some-refusal
+    let start = after-if1 .before .before .before .before .before .before in
+    refused-whole _ (now (start .args .memory)) (now (start .args .room)) (ours (after-if1)) (after-plate-in .plate-in .ensures) _ (lends-poll _)
+    (unsound _ _ _ _ (sym (after-is-possible .is-possible .ensures) ∙ not-false _ (after-if2 .if2 .left)) (sym (c .before .is-sound .ensures) ∙ not-true _ (c .if3 .taken))) some-refusal
 
 memory-length-requires : tie.Need-memory-length-requires
 memory-length-requires c κs = search needs
@@ -113,9 +141,10 @@ returns-4 c =
     let after-is-possible = after-if2 .before in
     let after-plate-in = after-is-possible .before .before .before in
     let after-if1 = after-plate-in .before .before in
-    let after-is-ours = after-if1 .before in
-    let start = after-is-ours .before .before .before .before .before in
-    refused-whole (now (start .args .image)) (now (start .args .memory)) (now (start .args .room)) (sym (after-is-ours .is-ours .ensures) ∙ not-false _ (after-if1 .if1 .left)) (after-plate-in .plate-in .ensures) _ (lends-poll _) (other-size _ _ _ _ (sym (after-is-possible .is-possible .ensures) ∙ not-false _ (after-if2 .if2 .left)) (sym (after-is-sound .is-sound .ensures) ∙ not-false _ (after-if3 .if3 .left)) (λ e. c .if4 .taken (e ∙ sym (c .before .memory-length .ensures)))) some-refusal
+    let start = after-if1 .before .before .before .before .before .before in
+    refused-whole _ (now (start .args .memory)) (now (start .args .room)) (ours (after-if1)) (after-plate-in .plate-in .ensures) _ (lends-poll _)
+    (other-size _ _ _ _ (sym (after-is-possible .is-possible .ensures) ∙ not-false _ (after-if2 .if2 .left)) (sym (after-is-sound .is-sound .ensures) ∙ not-false _ (after-if3 .if3 .left))
+    (λ e. c .if4 .taken (e ∙ sym (c .before .memory-length .ensures)))) some-refusal
 
 add-result-5 : tie.Need-add-result-5
 add-result-5 c = search needs
@@ -132,9 +161,10 @@ returns-5 c =
     let after-is-possible = after-if2 .before in
     let after-plate-in = after-is-possible .before .before .before in
     let after-if1 = after-plate-in .before .before in
-    let after-is-ours = after-if1 .before in
-    let start = after-is-ours .before .before .before .before .before in
-    refused-whole (now (start .args .image)) (now (start .args .memory)) (now (start .args .room)) (sym (after-is-ours .is-ours .ensures) ∙ not-false _ (after-if1 .if1 .left)) (after-plate-in .plate-in .ensures) _ (lends-poll _) (too-narrow _ _ _ _ (sym (after-is-possible .is-possible .ensures) ∙ not-false _ (after-if2 .if2 .left)) (sym (after-is-sound .is-sound .ensures) ∙ not-false _ (after-if3 .if3 .left)) (c .before .if4 .left ∙ after-memory-length .memory-length .ensures) (c .if5 .taken)) some-refusal
+    let start = after-if1 .before .before .before .before .before .before in
+    refused-whole _ (now (start .args .memory)) (now (start .args .room)) (ours (after-if1)) (after-plate-in .plate-in .ensures) _ (lends-poll _)
+    (too-narrow _ _ _ _ (sym (after-is-possible .is-possible .ensures) ∙ not-false _ (after-if2 .if2 .left)) (sym (after-is-sound .is-sound .ensures) ∙ not-false _ (after-if3 .if3 .left))
+    (c .before .if4 .left ∙ after-memory-length .memory-length .ensures) (c .if5 .taken)) some-refusal
 
 sub-is-over : tie.Need-sub-is-over
 sub-is-over c = search needs
@@ -145,8 +175,7 @@ part-is-over-start c = search needs
 part-is-over-end : tie.Need-part-is-over-end
 part-is-over-end c =
     let after-if1 = c .before .before .before .before .before .before .before .before .before .before .before .before .before .before in
-    let after-is-ours = after-if1 .before in
-    omega (arith, ours-length _ (sym (after-is-ours .is-ours .ensures) ∙ not-false _ (after-if1 .if1 .left)))
+    omega (arith, ours-length _ (ours (after-if1)))
 
 is-over-requires : tie.Need-is-over-requires
 is-over-requires c κs = search needs
@@ -154,17 +183,7 @@ is-over-requires c κs = search needs
 shut-requires : tie.Need-shut-requires
 shut-requires c κs =
     let after-if5 = c .before .before .before .before .before .before .before in
-    let after-if4 = after-if5 .before in
-    let after-memory-length = after-if4 .before in
-    let after-if3 = after-memory-length .before in
-    let after-is-sound = after-if3 .before in
-    let after-if2 = after-is-sound .before .before .before in
-    let after-is-possible = after-if2 .before in
-    let after-plate-in = after-is-possible .before .before .before in
-    let after-if1 = after-plate-in .before .before in
-    let after-is-ours = after-if1 .before in
-    let start = after-is-ours .before .before .before .before .before in
-    workable (now (start .args .image)) (now (start .args .memory)) (now (start .args .room)) (sym (after-is-ours .is-ours .ensures) ∙ not-false _ (after-if1 .if1 .left)) (after-plate-in .plate-in .ensures) (none-applies _ _ _ _ (sym (after-is-possible .is-possible .ensures) ∙ not-false _ (after-if2 .if2 .left)) (sym (after-is-sound .is-sound .ensures) ∙ not-false _ (after-if3 .if3 .left)) (after-if4 .if4 .left ∙ after-memory-length .memory-length .ensures) (after-if5 .if5 .left))
+    fine (after-if5)
 
 same-length-6 : tie.Need-same-length-6
 same-length-6 c = search needs
@@ -181,17 +200,11 @@ returns-6 c =
     let after-if6 = after-shut .before .before .before .before in
     let after-is-over = after-if6 .before in
     let after-if5 = after-is-over .before .before .before in
-    let after-if4 = after-if5 .before in
-    let after-memory-length = after-if4 .before in
-    let after-if3 = after-memory-length .before in
-    let after-is-sound = after-if3 .before in
-    let after-if2 = after-is-sound .before .before .before in
-    let after-is-possible = after-if2 .before in
-    let after-plate-in = after-is-possible .before .before .before in
+    let after-plate-in = after-if5 .before .before .before .before .before .before .before .before .before .before .before in
     let after-if1 = after-plate-in .before .before in
-    let after-is-ours = after-if1 .before in
-    let start = after-is-ours .before .before .before .before .before in
-    poll-whole (now (start .args .image)) (now (start .args .memory)) (now (start .args .room)) (workable (now (start .args .image)) (now (start .args .memory)) (now (start .args .room)) (sym (after-is-ours .is-ours .ensures) ∙ not-false _ (after-if1 .if1 .left)) (after-plate-in .plate-in .ensures) (none-applies _ _ _ _ (sym (after-is-possible .is-possible .ensures) ∙ not-false _ (after-if2 .if2 .left)) (sym (after-is-sound .is-sound .ensures) ∙ not-false _ (after-if3 .if3 .left)) (after-if4 .if4 .left ∙ after-memory-length .memory-length .ensures) (after-if5 .if5 .left))) _ (polled-over (now (start .args .image)) (now (start .args .memory)) (now (start .args .room)) (workable (now (start .args .image)) (now (start .args .memory)) (now (start .args .room)) (sym (after-is-ours .is-ours .ensures) ∙ not-false _ (after-if1 .if1 .left)) (after-plate-in .plate-in .ensures) (none-applies _ _ _ _ (sym (after-is-possible .is-possible .ensures) ∙ not-false _ (after-if2 .if2 .left)) (sym (after-is-sound .is-sound .ensures) ∙ not-false _ (after-if3 .if3 .left)) (after-if4 .if4 .left ∙ after-memory-length .memory-length .ensures) (after-if5 .if5 .left))) _ (sym (over-so (now (start .args .image)) (now (start .args .memory)) (now (start .args .room)) (sym (after-is-ours .is-ours .ensures) ∙ not-false _ (after-if1 .if1 .left)) (after-plate-in .plate-in .ensures) _ (after-is-over .is-over .ensures)) ∙ after-if6 .if6 .taken) (after-shut .shut .ensures))
+    let start = after-if1 .before .before .before .before .before .before in
+    let o = sym (over-so _ (now (start .args .memory)) (now (start .args .room)) (ours (after-if1)) (after-plate-in .plate-in .ensures) _ (after-is-over .is-over .ensures)) ∙ after-if6 .if6 .taken in
+    poll-whole _ _ _ (fine (after-if5)) _ (polled-over _ _ _ (fine (after-if5)) _ o (after-shut .shut .ensures))
 
 same-length-9 : tie.Need-same-length-9
 same-length-9 c = search needs
@@ -199,18 +212,12 @@ same-length-9 c = search needs
 returns-7 : tie.Need-returns-7
 returns-7 c =
     let after-if5 = c .before .before .before .before in
-    let after-if4 = after-if5 .before in
-    let after-memory-length = after-if4 .before in
-    let after-if3 = after-memory-length .before in
-    let after-is-sound = after-if3 .before in
-    let after-if2 = after-is-sound .before .before .before in
-    let after-is-possible = after-if2 .before in
-    let after-plate-in = after-is-possible .before .before .before in
+    let after-plate-in = after-if5 .before .before .before .before .before .before .before .before .before .before .before in
     let after-if1 = after-plate-in .before .before in
-    let after-is-ours = after-if1 .before in
-    let after-slice-known = after-is-ours .before .before .before .before in
+    let after-slice-known = after-if1 .before .before .before .before .before in
     let start = after-slice-known .before in
-    poll-whole (now (start .args .image)) (now (start .args .memory)) (now (start .args .room)) (workable (now (start .args .image)) (now (start .args .memory)) (now (start .args .room)) (sym (after-is-ours .is-ours .ensures) ∙ not-false _ (after-if1 .if1 .left)) (after-plate-in .plate-in .ensures) (none-applies _ _ _ _ (sym (after-is-possible .is-possible .ensures) ∙ not-false _ (after-if2 .if2 .left)) (sym (after-is-sound .is-sound .ensures) ∙ not-false _ (after-if3 .if3 .left)) (after-if4 .if4 .left ∙ after-memory-length .memory-length .ensures) (after-if5 .if5 .left))) _ (polled-early (now (start .args .image)) (now (start .args .memory)) (now (start .args .room)) (workable (now (start .args .image)) (now (start .args .memory)) (now (start .args .room)) (sym (after-is-ours .is-ours .ensures) ∙ not-false _ (after-if1 .if1 .left)) (after-plate-in .plate-in .ensures) (none-applies _ _ _ _ (sym (after-is-possible .is-possible .ensures) ∙ not-false _ (after-if2 .if2 .left)) (sym (after-is-sound .is-sound .ensures) ∙ not-false _ (after-if3 .if3 .left)) (after-if4 .if4 .left ∙ after-memory-length .memory-length .ensures) (after-if5 .if5 .left))) _ (λ i. (after-slice-known .slice-known .given i) .fits) (sym (over-so (now (start .args .image)) (now (start .args .memory)) (now (start .args .room)) (sym (after-is-ours .is-ours .ensures) ∙ not-false _ (after-if1 .if1 .left)) (after-plate-in .plate-in .ensures) _ (c .before .is-over .ensures)) ∙ c .if6 .left))
+    let o = sym (over-so _ (now (start .args .memory)) (now (start .args .room)) (ours (after-if1)) (after-plate-in .plate-in .ensures) _ (c .before .is-over .ensures)) ∙ c .if6 .left in
+    poll-whole _ _ _ (fine (after-if5)) _ (polled-early _ _ _ (fine (after-if5)) _ (λ i. (after-slice-known .slice-known .given i) .fits) o)
 
 pub qs-poll-spec : {M : Type 1} → statement M
 qs-poll-spec =
