@@ -1,16 +1,14 @@
 -- A sent request is closed and judged: what comes back is what the specification's answer says. Assumes nothing.
 use Prim.Native.Nat.{ℕ, _+_, _-_, _*_, _%_, _^_, _<_, _≤_}
 use mathlib.Core.Path.{_≡_, refl, sym, ap, ap₂, _∙_}
-use mathlib.Core.Bool.{Bool, true, false, false≢true}
-use mathlib.Core.List.{List, [], _∷_}
+use mathlib.Core.Bool.{Bool, true, false}
+use mathlib.Core.List.{List}
 use native.Mathlib.Omega.{arith}
 use native.Mathlib.Nat.{mul-le-mul-left}
-use lib.Dec.{T, eqb, leb, leb→le}
 use lib.ListN.{length, take, drop}
 use lib.Seq.{take-length, take-append-seam}
-use borrow.Author.Tests.{eqb-true}
-use Rattle.meaning.specs.Bytes.{pick, both, either, among, put}
-use Rattle.meaning.specs.State.{Plate, State, Line, none, withLine, plateOk, between}
+use Rattle.meaning.specs.Bytes.{pick, put}
+use Rattle.meaning.specs.State.{Plate, State, Line, none, withLine, plateOk}
 use Rattle.meaning.specs.Characters.{over}
 use Rattle.meaning.specs.Frames.{Outcome, still, resting}
 use Rattle.meaning.specs.Run.{poll, step, runFrom, closes}
@@ -18,7 +16,6 @@ use Rattle.meaning.specs.Bench.{addressFor, request, judge}
 use Rattle.meaning.specs.Demands.{meant}
 use Rattle.meaning.proofs.Puts.{length-put, put-front}
 use Rattle.meaning.proofs.Rests.{meant-rests}
-use Rattle.meaning.proofs.Steps.{both-0, both-1}
 use Rattle.meaning.proofs.Limits.{replies-fit}
 use Rattle.line.proofs.Limits.{low-address, few-ticks, short-pause}
 use Rattle.state.proofs.Answering.{put-nothing}
@@ -37,7 +34,6 @@ use Rattle.exchange.specs.Calls.{stampOf, sending, Clear, SendsRequest}
 use Rattle.exchange.specs.Passing.{reached, answerTo, verdictOn, Asks, Converses}
 use Rattle.exchange.proofs.Stepping.{kept-bytes}
 use Rattle.exchange.proofs.Closing.{over-now, poll-answers, verdict-answers}
-use Rattle.meaning.proofs.Choices.{both-left, both-right}
 
 -- the pause as a number of ticks fits 32 bits
 

@@ -12,7 +12,7 @@ use Rattle.state.specs.declared.state.State.{State}
 use Rattle.state.specs.State.{stateWith}
 use Rattle.line.specs.declared.plate.Plate.{Plate}
 use Rattle.line.specs.declared.characters.OpenFrame.{OpenFrame}
-use Rattle.line.specs.Line.{lineOf, plateOf}
+use Rattle.line.specs.Line.{lineOf}
 use Rattle.state.specs.Queue.{noFaults}
 
 -- the head: a layout number and the plate's five numbers

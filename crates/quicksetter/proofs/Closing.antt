@@ -9,7 +9,6 @@ use lib.Dec.{eqb, leb, ltb}
 use lib.ListN.{length, take, drop, length-take}
 use lib.Seq.{take-at, take-take}
 use Rattle.meaning.specs.Bytes.{pick, both, longestRequest, put, arg}
-use Rattle.meaning.specs.State as meaning
 use Rattle.meaning.specs.State.{Plate, Line, none, withLine, stateOk, ownByte}
 use Rattle.meaning.specs.Fields.{memoryLength}
 use Rattle.meaning.specs.Characters.{over, more, taken}

@@ -8,7 +8,7 @@ use borrow.Author.Tests.{eqb-true}
 use lib.Dec.{eqb}
 use lib.ListN.{length, take, drop, length-append, length-drop, drop-of-length-le, take-append-drop}
 use lib.Seq.{take-all, take-at, drop-drop, drop-at, getD-take, getD-drop, length-take-le}
-use Rattle.meaning.specs.Bytes.{pick, both, arg}
+use Rattle.meaning.specs.Bytes.{pick, arg}
 use Rattle.meaning.specs.Run.{Call, Held}
 use Rattle.meaning.proofs.Choices.{both-left, both-right}
 use Rattle.line.specs.declared.plate.Plate as line

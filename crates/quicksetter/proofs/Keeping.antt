@@ -1,18 +1,18 @@
 -- Which answers leave memory and what must last as they were, and so which calls do. Assumes nothing.
-use Prim.Native.Nat.{ℕ, _+_, _%_, _<_, _≤_}
+use Prim.Native.Nat.{ℕ, _%_, _<_}
 use native.Mathlib.Omega.{arith}
 use native.Mathlib.Nat.{mod-eq-of-lt}
 use mathlib.Core.Path.{_≡_, refl, sym, ap, _∙_}
 use mathlib.Core.Bool.{Bool, true, false, not, false≢true}
-use mathlib.Core.List.{List, [], _∷_, _++_}
+use mathlib.Core.List.{List, [], _∷_}
 use lib.Dec.{T, eqb, ltb}
 use lib.ListN.{length}
 use Rattle.meaning.specs.Bytes.{pick, among, arg}
-use Rattle.meaning.specs.State.{Plate, State, withCodes, withCounter, withOffset, withQueue, withMeasured, withLock, withLine, queued, noted, poweredOn, locks}
+use Rattle.meaning.specs.State.{Plate, State, withQueue, withMeasured, withLock, withLine, queued, noted, poweredOn, locks}
 use Rattle.meaning.specs.Commands.{Command, c42, c43, c46, c47, c49, c4A, c4B, c4C, c4D, c4E, c4F, c50, c53, unknown, commandOf}
 use Rattle.meaning.specs.Commands.{Answer, refuse, accept, quiet, error, readPosition, setPosition, readCounter, stepCounter, clearCounter, onField, readField, storeField, fieldStatus, create, modify, delete, shapeField, memoryStatus, setCode, readFault, reset, worked}
 use Rattle.meaning.specs.Characters.{Frame, over, closed, taken}
-use Rattle.meaning.specs.Frames.{commandByte, dataOf, ours, judged, short, elsewhere, answered, ending, sealed, warned, message, Outcome, still, outcome, leaves, work, resting, close, upTo}
+use Rattle.meaning.specs.Frames.{commandByte, dataOf, ours, judged, short, elsewhere, answered, ending, sealed, message, still, outcome, leaves, work, resting, close, upTo}
 use Rattle.meaning.specs.Run.{Call, character, poll, measured, fault, power-on, step}
 use Rattle.meaning.proofs.Choices.{choose-by}
 use Rattle.meaning.proofs.Replies.{reply-command}

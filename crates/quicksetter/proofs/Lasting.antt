@@ -1,16 +1,16 @@
 -- What must last does, over any call and over a restart. Assumes nothing.
 use Prim.Native.Nat.{ℕ, _<_, _≤_}
 use native.Mathlib.Omega.{arith}
-use mathlib.Core.Path.{_≡_, refl, sym, ap, subst, _∙_}
-use mathlib.Core.Bool.{Bool, true, false, not}
+use mathlib.Core.Path.{_≡_, refl, sym, ap, _∙_}
+use mathlib.Core.Bool.{Bool, true, false}
 use mathlib.Core.List.{List, _++_}
 use borrow.Author.Tests.{eq-eqb, le-leb}
 use lib.Dec.{T, eqb}
-use lib.ListN.{length, take}
+use lib.ListN.{length}
 use lib.Seq.{getD-take, length-take-le}
-use Rattle.meaning.specs.Bytes.{pick, both, zeros, arg}
+use Rattle.meaning.specs.Bytes.{pick, zeros, arg}
 use Rattle.meaning.specs.State as meaning
-use Rattle.meaning.specs.State.{Plate, plateOk, stateOk, poweredOn, withMeasured}
+use Rattle.meaning.specs.State.{Plate, stateOk, poweredOn, withMeasured}
 use Rattle.meaning.specs.Frames.{still}
 use Rattle.meaning.specs.Run.{Call, measured, power-on, step, refusedBy}
 use Rattle.meaning.proofs.Calls.{served-otherwise}
@@ -18,15 +18,15 @@ use Rattle.meaning.proofs.Choices.{told-true, true-told, both-left, both-right}
 use Rattle.meaning.proofs.Limits.{keeps-limits, replies-fit}
 use Rattle.image.specs.Image.{isOurs, isCore, headIn, coreIn, lastingIn, keptIn, stateBytes, coreOf}
 use Rattle.image.proofs.Round.{good}
-use Rattle.quicksetter.specs.Calls.{isImage, plateHeld, stateHeld, lastingOf, imageAfter, imageOf, startOk, rested, restartOk, Called, Restarts}
-use Rattle.quicksetter.specs.Lasting.{mayChange, storesBy, Lasts, QsLasts, PoweredOn, QsRestartIsPowerOn, QsRestarts}
+use Rattle.quicksetter.specs.Calls.{isImage, plateHeld, stateHeld, lastingOf, imageAfter, imageOf, startOk, rested, restartOk, Called}
+use Rattle.quicksetter.specs.Lasting.{mayChange, storesBy, Lasts, QsLasts, QsRestartIsPowerOn, QsRestarts}
 use Rattle.quicksetter.specs.Promises.{Untouched}
 use Rattle.quicksetter.proofs.Heads.{ours-length, core-of-whole, whole-as-it-was}
 use Rattle.quicksetter.proofs.Starting.{plate-again}
 use Rattle.quicksetter.proofs.Resting.{rested-as}
 use Rattle.quicksetter.proofs.Keeping.{Keeps, keeps-step}
 use Rattle.quicksetter.proofs.Theorems.{on-image, qs-steps, refused-untouched, no-image-untouched}
-use Rattle.quicksetter.proofs.Staying.{Holds, was-made, starts-so, restart-holds, reached}
+use Rattle.quicksetter.proofs.Staying.{was-made, starts-so, restart-holds, reached}
 
 -- the lasting bytes of a core are those of codes, counter and offset
 same-bytes : (s s′ : meaning.State) (m m′ places : List ℕ) → Keeps s m s′ m′ → lastingIn (coreOf s′ places) ≡ lastingIn (coreOf s places)

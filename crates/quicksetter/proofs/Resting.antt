@@ -1,13 +1,12 @@
 -- What lasted of a board that was off: the state after power-on, but for the measured position. Assumes nothing.
-use Prim.Native.Nat.{ℕ, _+_, _<_}
+use Prim.Native.Nat.{ℕ, _<_}
 use native.Mathlib.Omega.{arith}
-use mathlib.Core.Path.{_≡_, refl, ap}
+use mathlib.Core.Path.{_≡_, refl}
 use mathlib.Core.List.{List}
-use lib.ListN.{take}
 use lib.Seq.{getD-take}
 use Rattle.meaning.specs.Bytes.{arg}
 use Rattle.meaning.specs.State as meaning
-use Rattle.meaning.specs.State.{none, poweredOn, withMeasured, withQueue, withLock, withLine}
+use Rattle.meaning.specs.State.{poweredOn, withMeasured, withQueue, withLock, withLine}
 use Rattle.state.specs.Queue.{queueOf, waiting}
 use Rattle.wire.proofs.Numbers.{little-at}
 use Rattle.image.specs.Image.{coreIn, stateIn, restedIn}

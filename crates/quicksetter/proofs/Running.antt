@@ -4,17 +4,17 @@ use mathlib.Core.Path.{_≡_, refl, sym, ap, ap₂, subst, _∙_}
 use mathlib.Core.Bool.{Bool, true}
 use mathlib.Core.List.{List, [], _∷_}
 use native.Mathlib.Omega.{arith}
-use lib.Dec.{T, eqb, lit<}
+use lib.Dec.{T, lit<}
 use lib.ListN.{length, length-replicate, getD, take, drop}
 use Rattle.meaning.specs.Bytes.{pick, arg, zeros}
 use Rattle.meaning.specs.State as meaning
 use Rattle.meaning.specs.State.{Plate, fresh, ownByte, poweredOn, withMeasured}
 use Rattle.meaning.specs.Fields.{memoryLength}
-use Rattle.meaning.specs.Characters.{Frame, over, closed, whole, taken}
+use Rattle.meaning.specs.Characters.{over, closed}
 use Rattle.meaning.specs.Commands.{commandOf, Answer, refuse, accept, quiet, freeByte, readField, memoryStatus, worked}
-use Rattle.meaning.specs.Frames.{Outcome, still, outcome, warned, message, sealed, dataOf, work, resting, close, upTo}
-use Rattle.meaning.specs.Run.{Call, character, poll, measured, fault, power-on, step, refusedBy, runFrom, run, closes, Heard, heard, traffic}
-use Rattle.meaning.specs.Bench.{request, bare}
+use Rattle.meaning.specs.Frames.{Outcome, still, outcome, warned, message, dataOf, work, resting, close, upTo}
+use Rattle.meaning.specs.Run.{Call, character, poll, measured, fault, power-on, step, runFrom, run, closes, Heard, heard, traffic}
+use Rattle.meaning.specs.Bench.{bare}
 use Rattle.meaning.specs.Ledger.{fieldsOf, granted, back, byteOf, Agrees, Honest, Wanted, roomReply, BringsTold}
 use Rattle.meaning.specs.Demands.{Sent, meant}
 use Rattle.meaning.proofs.Choices.{pick-true}
@@ -27,8 +27,8 @@ use Rattle.meaning.proofs.Room.{refused-for-want-of-room, free-by-traffic}
 use Rattle.meaning.proofs.Told.{reads-by-traffic}
 use Rattle.line.proofs.Limits.{low-address}
 use Rattle.image.specs.Image.{heldIn}
-use Rattle.quicksetter.specs.Calls.{stateHeld, lastingOf, imageOf, startOk, rested, Freshens, Restarts, Called}
-use Rattle.quicksetter.specs.Promises.{Ran, began, called, restarted, AsRun, QsRuns, QsMemoryByTraffic, QsTrafficAlone, QsCarriedTheCode, ClosesNext, closes-next, QsRefusedForRoom, HoldsRequest, QsRepliesAsMeant, QsFreeByTraffic, QsReadsByTraffic}
+use Rattle.quicksetter.specs.Calls.{stateHeld, lastingOf, imageOf, startOk, rested, Called}
+use Rattle.quicksetter.specs.Promises.{Ran, began, called, restarted, QsRuns, QsMemoryByTraffic, QsTrafficAlone, QsCarriedTheCode, ClosesNext, closes-next, QsRefusedForRoom, QsRepliesAsMeant, QsFreeByTraffic, QsReadsByTraffic}
 use Rattle.quicksetter.proofs.Starting.{core-again, fresh-holds}
 use Rattle.quicksetter.proofs.Resting.{rested-as, measured-again}
 use Rattle.quicksetter.proofs.Staying.{Holds, steps-so, was-made, starts, starts-again, restart-holds, goes-on}

@@ -1,28 +1,25 @@
 -- An image that is made: of a fresh board, of a board that was off. Assumes nothing.
-use Prim.Native.Nat.{ℕ, _+_, _^_, _<_, _≤_}
+use Prim.Native.Nat.{ℕ, _+_, _≤_}
 use native.Mathlib.Omega.{arith}
-use native.Mathlib.Nat.{pow-le-pow-right}
-use mathlib.Core.Path.{_≡_, refl, sym, ap, _∙_, subst}
-use mathlib.Core.Bool.{Bool, true, false}
+use mathlib.Core.Path.{_≡_, refl, sym, ap, _∙_}
+use mathlib.Core.Bool.{true, false}
 use mathlib.Core.List.{List, _++_}
-use borrow.Author.Tests.{eq-eqb, ne-eqb, leb-true, ltb-true}
-use lib.Dec.{eqb, leb, ltb}
+use borrow.Author.Tests.{eq-eqb, ne-eqb}
+use lib.Dec.{eqb}
 use lib.ListN.{length, take, drop, length-replicate}
 use lib.Seq.{take-at, drop-at, length-take-le}
-use Rattle.meaning.specs.Bytes.{pick, both, part, put, zeros, little}
+use Rattle.meaning.specs.Bytes.{part, put, zeros, little}
 use Rattle.meaning.specs.State as meaning
 use Rattle.meaning.specs.State.{Plate, none, plateOk, stateOk, fresh}
-use Rattle.meaning.proofs.Choices.{both-left, both-right}
 use Rattle.meaning.proofs.Puts.{length-put}
 use Rattle.line.specs.declared.plate.Plate as line
 use Rattle.line.specs.declared.characters.OpenFrame.{OpenFrame}
 use Rattle.line.specs.Line.{plateOf, lineOf, noFrame, Fits}
-use Rattle.line.proofs.Limits.{few-bits}
 use Rattle.state.specs.declared.state.State.{State}
 use Rattle.state.specs.State.{stateWith}
 use Rattle.state.specs.Queue.{queueOf, waiting}
 use Rattle.state.proofs.Answering.{put-nothing}
-use Rattle.image.specs.Image.{flagByte, stateIn, frameIn, keptIn, heldIn, stateBytes, lineBytes, frameRow, frameBytes, headOf, headIn, coreIn, plateIn, restedIn, coreOf, PutsBoard}
+use Rattle.image.specs.Image.{flagByte, stateIn, frameIn, keptIn, heldIn, stateBytes, lineBytes, frameRow, frameBytes, headOf, coreIn, plateIn, coreOf, PutsBoard}
 use Rattle.image.proofs.Standing.{put-whole, Typed}
 use Rattle.image.proofs.Parts.{kept-length}
 use Rattle.image.proofs.Round.{state-round-trip, frame-round-trip, kept-round-trip}

@@ -16,7 +16,7 @@ use Rattle.meaning.specs.Run.{Call, step, lends, refusedBy}
 use Rattle.meaning.specs.Demands.{Served}
 use Rattle.meaning.proofs.Calls.{served-otherwise}
 use Rattle.meaning.proofs.Choices.{told-true, true-told, pick-same, both-left, both-right}
-use Rattle.meaning.proofs.Limits.{to-lim, keeps-limits, fresh-within, replies-fit}
+use Rattle.meaning.proofs.Limits.{to-lim, keeps-limits, replies-fit}
 use Rattle.meaning.proofs.Sizes.{keeps-size}
 use Rattle.meaning.proofs.Puts.{length-put}
 use Rattle.line.specs.Line.{plateOf}

@@ -1,7 +1,7 @@
 -- A character and a poll of an image: refused, or worked on its core. Assumes nothing.
 use Prim.Native.Nat.{ℕ, suc, _+_, _<_}
 use native.Mathlib.Omega.{arith}
-use mathlib.Core.Path.{_≡_, refl, sym, ap, _∙_}
+use mathlib.Core.Path.{_≡_, sym, ap, _∙_}
 use mathlib.Core.Bool.{Bool, true, false}
 use mathlib.Core.List.{List, _++_}
 use lib.ListN.{length, take, drop, length-append, take-append-drop}
@@ -15,7 +15,7 @@ use Rattle.line.specs.Line.{plateOf, lineOf}
 use Rattle.image.specs.Image.{isOurs, isCore, headIn, coreIn, plateIn, frameIn, keptIn, heldIn, Takes}
 use Rattle.image.proofs.Round.{good}
 use Rattle.quicksetter.specs.Calls.{plateHeld, stateHeld, Called}
-use Rattle.quicksetter.specs.Cores.{refusalIn, CoreCalled, Unrefused, Polls, ShutIn, Workable, Shuts, PollsIn}
+use Rattle.quicksetter.specs.Cores.{refusalIn, Unrefused, ShutIn, Workable, Shuts, PollsIn}
 use Rattle.quicksetter.proofs.Heads.{ours-length, head-length, core-of-whole, lent-core, core-back, called-of}
 use Rattle.quicksetter.proofs.Refusing.{refused-as, unrefused}
 use Rattle.quicksetter.proofs.Closing.{nothing-over, core-again, then-taken}

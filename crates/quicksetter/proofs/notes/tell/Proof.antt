@@ -1,10 +1,8 @@
 -- `quicksetter::notes::tell` meets its contract. Assumes nothing.
-use mathlib.Core.Path.{_≡_, refl, sym, _∙_}
-use mathlib.Core.Bool.{true}
+use mathlib.Core.Path.{sym, _∙_}
 use native.Mathlib.Omega.{arith}
 use denote.Ref.{now}
 use borrow.Author.Tests.{not-true, not-false}
-use Rattle.image.specs.Image.{isOurs}
 use Rattle.quicksetter.proofs.Heads.{ours-length, not-ours, called-whole}
 use borrow.Author.Needs.{needs}
 use Rattle.quicksetter.proofs.notes.tell.Statement.{statement}

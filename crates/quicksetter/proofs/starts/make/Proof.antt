@@ -1,12 +1,10 @@
 -- `quicksetter::starts::make` meets its contract. Assumes nothing.
-use mathlib.Core.Path.{_≡_, refl, sym, _∙_}
-use mathlib.Core.Bool.{true}
+use mathlib.Core.Path.{refl, sym, _∙_}
 use native.Mathlib.Omega.{arith}
 use denote.Ref.{now}
 use borrow.Author.Tests.{not-true, not-false}
-use Rattle.meaning.specs.State.{none, stateOk}
+use Rattle.meaning.specs.State.{none}
 use Rattle.line.specs.Line.{plateOf}
-use Rattle.state.specs.State.{stateWith}
 use Rattle.quicksetter.proofs.Starting.{no-plate, no-length, no-state, started, nothing-short}
 use borrow.Author.Needs.{needs}
 use Rattle.quicksetter.proofs.starts.make.Statement.{statement}
