@@ -259,8 +259,8 @@ uint64_t qs_data_part(const uint8_t *request, uint64_t request_length, const uin
 
 /* How long the reply to a request will be, once its first two bytes are here, so that a master knows its end: any reply that begins so and that qs_judge
  * takes has that length.
- * Returns the length, 3 to QS_REPLY_ROOM; 0 while fewer than two bytes are here; else, since qs_judge takes no reply that begins so, QS_B0 (not a request
- * that the bench writes), QS_B4 (another command), QS_B5 (to 53h there is none). */
+ * Returns QS_B0, whatever is here, for what is not a request that the bench writes; 0 while fewer than two bytes are here; then the length, 3 to
+ * QS_REPLY_ROOM, or, since qs_judge takes no reply that begins so, QS_B4 (another command) or QS_B5 (to 53h there is none). */
 uint64_t qs_reply_length(const uint8_t *request, uint64_t request_length, const uint8_t *reply, uint64_t reply_length);
 
 #ifdef __cplusplus

@@ -25,7 +25,7 @@ use Rattle.quicksetter.proofs.Heads.{ours-length, core-of-whole, whole-
 use Rattle.quicksetter.proofs.Starting.{plate-again}
 use Rattle.quicksetter.proofs.Resting.{rested-as}
 use Rattle.quicksetter.proofs.Keeping.{Keeps, keeps-step}
-use Rattle.quicksetter.proofs.Theorems.{on-image, qs-steps, refused-untouched, no-image-untouched}
+use Rattle.quicksetter.proofs.Theorems.{on-image, qs-steps, qs-refused-untouched, qs-no-image-untouched}
 use Rattle.quicksetter.proofs.Staying.{was-made, starts-so, restart-holds, reached}
 
 -- the lasting bytes of a core are those of codes, counter and offset
@@ -74,14 +74,14 @@ module _ (img m w : List ℕ) (g : Call) (r : ℕ) (img′ m′ w′ : List ℕ)
       where
         by : (b : Bool) → eqb (refusedBy p s m (length w) g) 0 ≡ b → Lasts img m img′ m′
         by true f = unrefused-lasts (rw f tt)
-        by false f = untouched (refused-untouched img m w g r img′ m′ w′ c e (rw f tt))
+        by false f = untouched (qs-refused-untouched img m w g r img′ m′ w′ c e (rw f tt))
 
 pub qs-lasts : QsLasts
 qs-lasts img m w g r img′ m′ w′ c small idle = by (isImage img) refl
   where
     by : (b : Bool) → isImage img ≡ b → Lasts img m img′ m′
     by true e = image-lasts img m w g r img′ m′ w′ c small idle e
-    by false e = untouched img m w g r img′ m′ w′ c (no-image-untouched img m w g r img′ m′ w′ c e)
+    by false e = untouched img m w g r img′ m′ w′ c (qs-no-image-untouched img m w g r img′ m′ w′ c e)
 
 pub qs-restart-is-power-on : QsRestartIsPowerOn
 qs-restart-is-power-on img old img′ f =

@@ -183,8 +183,8 @@ reached p img m (start old _ _ f l) = starts p old img m f l
 reached p img m (next img₀ m₀ w g r _ _ w′ h wide c) = goes-on p img₀ m₀ w g r img m w′ (reached p img₀ m₀ h) wide c
 reached p img m (off img₀ _ old _ h f) = starts-again p (lastingOf img₀) old img f m (reached p img₀ m h .size)
 
-pub never-refused : QsNeverRefused
-never-refused p img m w g r img′ m′ w′ h wide c =
+pub qs-never-refused : QsNeverRefused
+qs-never-refused p img m w g r img′ m′ w′ h wide c =
     let k = reached p img m h in
     let s = qs-steps img m w g r img′ m′ w′ c (k .image) (rw (free-so p img m w g k wide) tt) in
     rw (s .length-told) (replies-fit (plateHeld img) (stateHeld img) m g)

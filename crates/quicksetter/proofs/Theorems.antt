@@ -15,7 +15,7 @@ use Rattle.meaning.proofs.Lines.{poll-without-frame}
 use Rattle.meaning.proofs.Warning.{warns-exactly}
 use Rattle.quicksetter.specs.Calls.{isImage, plateHeld, stateHeld, calledBy, callNumber, imageAfter, Called}
 use Rattle.quicksetter.proofs.Heads.{whole-as-it-was}
-use Rattle.quicksetter.specs.Promises.{QsSteps, QsWarnsExactly, QsPollWithoutFrame, Untouched, QsRefusedUntouched, NoImageUntouched}
+use Rattle.quicksetter.specs.Promises.{QsSteps, QsWarnsExactly, QsPollWithoutFrame, Untouched, QsRefusedUntouched, QsNoImageUntouched}
 
 pub on-image : (img m w : List ℕ) (g : Call) → isImage img ≡ true → calledBy img m w g ≡ called (plateHeld img) (stateHeld img) m w g
 unfolding calledBy
@@ -76,11 +76,11 @@ is-not : (b : Bool) → T (not b) → b ≡ false
 is-not true h = absurd h
 is-not false h = refl
 
-pub refused-untouched : QsRefusedUntouched
-refused-untouched img m w g r img′ m′ w′ c e h =
+pub qs-refused-untouched : QsRefusedUntouched
+qs-refused-untouched img m w g r img′ m′ w′ c e h =
     let n = refusedBy (plateHeld img) (stateHeld img) m (length w) g in
     nothing-done img m w g c n (is-not (eqb n 0) h) (on-image img m w g e ∙ calls.refused-untouched (plateHeld img) (stateHeld img) m w g h)
 
-pub no-image-untouched : NoImageUntouched
+pub qs-no-image-untouched : QsNoImageUntouched
 unfolding calledBy
-no-image-untouched img m w g r img′ m′ w′ c e = nothing-done img m w g c 1 refl (rw e)
+qs-no-image-untouched img m w g r img′ m′ w′ c e = nothing-done img m w g c 1 refl (rw e)

@@ -37,8 +37,8 @@ QsRefusedUntouched = (img m w : List ℕ) (g : Call) (r : ℕ) (img′ m′ w′
     → isImage img ≡ true → T (not (eqb (refusedBy (plateHeld img) (stateHeld img) m (length w) g) 0)) → Untouched (refusedBy (plateHeld img) (stateHeld img) m (length w) g) img m w r img′ m′ w′
 
 -- 01, R1: what is no image, an impossible state
-abbrev pub NoImageUntouched : Type 0
-NoImageUntouched = (img m w : List ℕ) (g : Call) (r : ℕ) (img′ m′ w′ : List ℕ) → Called img m w g r img′ m′ w′
+abbrev pub QsNoImageUntouched : Type 0
+QsNoImageUntouched = (img m w : List ℕ) (g : Call) (r : ℕ) (img′ m′ w′ : List ℕ) → Called img m w g r img′ m′ w′
     → isImage img ≡ false → Untouched 1 img m w r img′ m′ w′
 
 -- Demand 1: what a host holds that starts with a fresh image and a memory of the right size, and then only calls, with room enough, or restarts from what lasted
