@@ -1,5 +1,5 @@
 /* Every entry of quicksetter.h with good, extreme and damaged input, and the states that no tape reaches. Each call's buffers stand between guard bytes.
- * Prints what failed, ends in 1 if any did. Tables say what is tried; document 01 is cited by its words. */
+ * Prints what failed, ends in 1 if any did. Tables say what is tried; document 01 is cited by its words. Long random runs are test_lasting.c's. */
 #include "quicksetter.h"
 
 #include <stdbool.h>
@@ -20,6 +20,25 @@ static void check(bool good, const char *what, unsigned long number) {
     printf("test.c: FAILED: %s (%lu)\n", what, number);
 }
 
+/* ---- dice: the same numbers in each run (splitmix64) ---------------------------------------------------------------------------------------------------- */
+
+static uint64_t dice(void) {
+    static uint64_t seed = 1;
+    seed += 0x9E3779B97F4A7C15;
+    uint64_t mixed = seed;
+    mixed = (mixed ^ mixed >> 30) * 0xBF58476D1CE4E5B9;
+    mixed = (mixed ^ mixed >> 27) * 0x94D049BB133111EB;
+    return mixed ^ mixed >> 31;
+}
+
+static uint32_t below(uint32_t end) {
+    return (uint32_t)(dice() % end);
+}
+
+static bool once_in(uint32_t times) {
+    return below(times) == 0;
+}
+
 /* ---- what one call is lent ------------------------------------------------------------------------------------------------------------------------------ */
 
 enum { GUARD = 32, SPARE = 40, GUARD_BYTE = 0xA5, ROOM_BYTE = 0xEE };
@@ -33,6 +52,8 @@ struct lent {
     uint8_t guard2[GUARD];
     uint8_t room[QS_REPLY_ROOM + SPARE];
     uint8_t guard3[GUARD];
+    uint8_t lasting[QS_LASTING_LENGTH + SPARE];
+    uint8_t guard4[GUARD];
 };
 
 struct plate {
@@ -40,7 +61,7 @@ struct plate {
 };
 
 struct lengths {
-    size_t image, memory, room;
+    uint64_t image, memory, room;
 };
 
 static const struct plate SHEET = {112, 24, 0, 4, 55};
@@ -57,41 +78,45 @@ static struct lengths right(struct plate p) {
 
 /* ---- the library's calls, all of them ------------------------------------------------------------------------------------------------------------------- */
 
-static size_t make_fresh(struct plate p, size_t image_length) {
+static uint64_t make_fresh(struct plate p, uint64_t image_length) {
     return qs_fresh(p.total, p.bits, p.address, p.ticks, p.pause, lent.image, image_length);
 }
 
-static size_t character_with(struct plate p, struct lengths n, uint32_t tick, uint8_t value, uint8_t parity) {
-    return qs_character(lent.image, n.image, tick, value, parity, p.total, p.bits, p.address, p.ticks, p.pause, lent.memory, n.memory, lent.room, n.room);
+static uint64_t make_restart(struct plate p, uint64_t lasting_length, uint64_t image_length) {
+    return qs_restart(p.total, p.bits, p.address, p.ticks, p.pause, lent.lasting, lasting_length, lent.image, image_length);
 }
 
-static size_t poll_with(struct plate p, struct lengths n, uint32_t tick) {
-    return qs_poll(lent.image, n.image, tick, p.total, p.bits, p.address, p.ticks, p.pause, lent.memory, n.memory, lent.room, n.room);
+static uint64_t character_with(struct lengths n, uint32_t tick, uint8_t value, uint8_t parity) {
+    return qs_character(lent.image, n.image, tick, value, parity, lent.memory, n.memory, lent.room, n.room);
 }
 
-static size_t measured_with(struct plate p, struct lengths n, uint32_t position) {
-    return qs_measured(lent.image, n.image, position, p.total, p.bits, p.address, p.ticks, p.pause);
+static uint64_t poll_with(struct lengths n, uint32_t tick) {
+    return qs_poll(lent.image, n.image, tick, lent.memory, n.memory, lent.room, n.room);
 }
 
-static size_t fault_with(struct plate p, struct lengths n, uint8_t code) {
-    return qs_fault(lent.image, n.image, code, p.total, p.bits, p.address, p.ticks, p.pause);
+static uint64_t measured_with(struct lengths n, uint32_t position) {
+    return qs_measured(lent.image, n.image, position);
 }
 
-static size_t power_on_with(struct plate p, struct lengths n) {
-    return qs_power_on(lent.image, n.image, p.total, p.bits, p.address, p.ticks, p.pause);
+static uint64_t fault_with(struct lengths n, uint8_t code) {
+    return qs_fault(lent.image, n.image, code);
+}
+
+static uint64_t power_on_with(struct lengths n) {
+    return qs_power_on(lent.image, n.image);
 }
 
 /* asked is the command and its data. */
-static size_t request_with(uint32_t address, const uint8_t *asked, size_t asked_length, size_t room_length) {
-    return qs_request(address, asked[0], asked + 1, asked_length - 1, lent.room, room_length);
+static uint64_t request_with(uint32_t address, const uint8_t *asked, uint64_t asked_length, uint64_t buffer_length) {
+    return qs_request(address, asked[0], asked + 1, asked_length - 1, lent.room, buffer_length);
 }
 
 struct judgement {
     uint32_t verdict;
-    struct qs_piece data;
+    uint64_t part;
 };
 
-static struct judgement judge(const uint8_t *request, size_t request_length, const uint8_t *reply, size_t reply_length) {
+static struct judgement judge(const uint8_t *request, uint64_t request_length, const uint8_t *reply, uint64_t reply_length) {
     return (struct judgement){qs_judge(request, request_length, reply, reply_length), qs_data_part(request, request_length, reply, reply_length)};
 }
 
@@ -105,33 +130,48 @@ static bool as_it_was(void) {
     return memcmp(&before, &lent, sizeof lent) == 0;
 }
 
-/* Guards, and all of the buffers that lies beyond the lengths that were handed in. */
+/* Guards, the image's head, and all of the buffers that lies beyond the lengths that were handed in. */
 static bool guards_stand(struct lengths n) {
     return memcmp(lent.guard0, before.guard0, GUARD) == 0 && memcmp(lent.guard1, before.guard1, GUARD) == 0 &&
            memcmp(lent.guard2, before.guard2, GUARD) == 0 && memcmp(lent.guard3, before.guard3, GUARD) == 0 &&
+           memcmp(lent.guard4, before.guard4, GUARD) == 0 && memcmp(lent.lasting, before.lasting, sizeof lent.lasting) == 0 &&
+           memcmp(lent.image, before.image, QS_IMAGE_LASTING) == 0 &&
            memcmp(lent.image + n.image, before.image + n.image, sizeof lent.image - n.image) == 0 &&
            memcmp(lent.memory + n.memory, before.memory + n.memory, sizeof lent.memory - n.memory) == 0 &&
            memcmp(lent.room + n.room, before.room + n.room, sizeof lent.room - n.room) == 0;
 }
 
+/* The image of a board whose plate is p and of whose state only codes, counter and offset are not 0: layout number, plate, 12 bytes, and 00h. */
+static void image_of(struct plate p, const uint8_t *lasting, uint8_t *image) {
+    const uint8_t head[] = {1, (uint8_t)p.total, (uint8_t)p.bits, (uint8_t)p.address, (uint8_t)p.ticks, (uint8_t)p.pause};
+    memset(image, 0, 171);
+    memcpy(image, head, 6);
+    memcpy(image + 6, lasting, 12);
+}
+
+static const uint8_t FRESH_LASTING[12] = {0x55, 0x55, 0x55, 0x55};
+
 /* A fresh board with blank memory and everything round it marked. */
 static void start(struct plate p) {
+    uint8_t expected[171];
+    image_of(p, FRESH_LASTING, expected);
     memset(&lent, GUARD_BYTE, sizeof lent);
     memset(lent.memory, 0, QS_MEMORY_LENGTH(p.total));
     memset(lent.room, ROOM_BYTE, sizeof lent.room);
     now = 1000;
     check(make_fresh(p, QS_IMAGE_LENGTH) == 0, "a good plate is taken", p.total);
+    check(memcmp(lent.image, expected, sizeof expected) == 0, "a fresh image tells its plate", p.total);
 }
 
 enum call { CHARACTER, POLL, MEASURED, FAULT, POWER_ON, CALLS };
 
-static size_t call_with(enum call call, struct plate p, struct lengths n) {
+static uint64_t call_with(enum call call, struct lengths n) {
     switch (call) {
-    case CHARACTER: return character_with(p, n, now, 0x40, 0);
-    case POLL: return poll_with(p, n, now);
-    case MEASURED: return measured_with(p, n, 5);
-    case FAULT: return fault_with(p, n, 0x31);
-    default: return power_on_with(p, n);
+    case CHARACTER: return character_with(n, now, 0x40, 0);
+    case POLL: return poll_with(n, now);
+    case MEASURED: return measured_with(n, 5);
+    case FAULT: return fault_with(n, 0x31);
+    default: return power_on_with(n);
     }
 }
 
@@ -140,12 +180,12 @@ static bool takes_buffers(enum call call) {
 }
 
 /* Every call refuses so; those that take no memory and no room know R1 only. */
-static void all_refuse(struct plate p, struct lengths n, size_t refusal, const char *what, unsigned long number) {
+static void all_refuse(struct lengths n, uint64_t refusal, const char *what, unsigned long number) {
     for (int call = 0; call < CALLS; call++) {
         if (refusal != QS_R1 && !takes_buffers((enum call)call))
             continue;
         remember();
-        check(call_with((enum call)call, p, n) == refusal, what, number * 10 + (unsigned long)call);
+        check(call_with((enum call)call, n) == refusal, what, number * 10 + (unsigned long)call);
         check(as_it_was(), what, number * 10 + (unsigned long)call);
     }
 }
@@ -155,7 +195,7 @@ static void all_take(struct plate p, const char *what, unsigned long number) {
     for (int call = 0; call < CALLS; call++) {
         lent = kept;
         remember();
-        check(call_with((enum call)call, p, right(p)) < QS_REFUSED, what, number * 10 + (unsigned long)call);
+        check(call_with((enum call)call, right(p)) < QS_REFUSED, what, number * 10 + (unsigned long)call);
         check(guards_stand(right(p)), what, number * 10 + (unsigned long)call);
     }
     lent = kept;
@@ -174,17 +214,33 @@ static struct plate with_number(struct plate p, int which, uint32_t value) {
     return p;
 }
 
+/* 01, "Plate", by a test of its own. */
+static bool possible(struct plate p) {
+    bool ticks = p.ticks == 1 || p.ticks == 2 || p.ticks == 4 || p.ticks == 8 || p.ticks == 16 || p.ticks == 32 || p.ticks == 64;
+    return p.total >= 1 && p.total <= 112 && p.bits >= 1 && p.bits <= 32 && p.address <= 31 && ticks && (p.pause == 22 || p.pause == 55);
+}
+
+/* Fresh and restart with this plate, each over a board that is marked all through, take it or refuse it. */
+static void plate_is_taken(struct plate p, bool taken, unsigned long number) {
+    for (int restart = 0; restart < 2; restart++) {
+        memset(&lent, restart ? ROOM_BYTE : GUARD_BYTE, sizeof lent);
+        memcpy(lent.lasting, FRESH_LASTING, QS_LASTING_LENGTH);
+        remember();
+        uint64_t result = restart ? make_restart(p, QS_LASTING_LENGTH, QS_IMAGE_LENGTH) : make_fresh(p, QS_IMAGE_LENGTH);
+        check(result == (taken ? 0 : QS_R1), restart ? "restart and a plate" : "fresh and a plate", number);
+        if (taken)
+            image_of(p, FRESH_LASTING, before.image);
+        check(as_it_was(), restart ? "what restart leaves" : "what fresh leaves", number);
+    }
+}
+
 static void test_bad_plates(void) {
     for (int which = 0; which < 5; which++) {
-        for (int i = 0; i < 6; i++) {
-            struct plate bad = with_number(EIGHT, which, BAD_NUMBERS[which][i]);
-            unsigned long number = (unsigned long)(which * 10 + i);
-            start(EIGHT);
-            remember();
-            check(make_fresh(bad, QS_IMAGE_LENGTH) == QS_R1 && as_it_was(), "fresh refuses a plate", number);
-            all_refuse(bad, right(EIGHT), QS_R1, "R1 for a plate", number);
-            all_refuse(bad, (struct lengths){QS_IMAGE_LENGTH, QS_MEMORY_LENGTH(8) - 1, QS_REPLY_ROOM - 1}, QS_R1, "R1 for a plate before R2 and R3", number);
-            all_refuse(bad, (struct lengths){0, 0, 0}, QS_R1, "R1 for a plate before R2 and R3", number);
+        for (int i = 0; i < 6; i++)
+            plate_is_taken(with_number(EIGHT, which, BAD_NUMBERS[which][i]), false, (unsigned long)(which * 10 + i));
+        for (uint32_t value = 0; value < 600; value++) {
+            struct plate p = with_number(EIGHT, which, value);
+            plate_is_taken(p, possible(p), (unsigned long)which * 1000 + value);
         }
     }
 }
@@ -198,17 +254,95 @@ static void test_good_plates(void) {
     }
 }
 
+static const uint64_t WRONG_IMAGES[] = {0, 1, 6, QS_IMAGE_KEPT, 165, QS_IMAGE_LENGTH - 1, QS_IMAGE_LENGTH + 1, QS_IMAGE_LENGTH + SPARE};
+
 static void test_fresh(void) {
-    uint8_t expected[QS_IMAGE_LENGTH] = {0x55, 0x55, 0x55, 0x55};
+    uint8_t expected[QS_IMAGE_LENGTH] = {1, 112, 24, 0, 4, 55, 0x55, 0x55, 0x55, 0x55};
     memset(&lent, GUARD_BYTE, sizeof lent);
     remember();
     check(make_fresh(SHEET, QS_IMAGE_LENGTH) == 0, "fresh returns 0", 0);
     check(memcmp(lent.image, expected, sizeof expected) == 0, "a fresh image", 0);
     memcpy(lent.image, before.image, sizeof expected);
     check(as_it_was(), "fresh leaves all behind the image as it was", 0);
-    static const size_t wrong[] = {0, 1, QS_IMAGE_KEPT, QS_IMAGE_LENGTH - 1, QS_IMAGE_LENGTH + 1, QS_IMAGE_LENGTH + SPARE};
-    for (size_t i = 0; i < COUNT(wrong); i++)
-        check(make_fresh(SHEET, wrong[i]) == QS_R1 && as_it_was(), "fresh refuses an image's length", wrong[i]);
+    for (size_t i = 0; i < COUNT(WRONG_IMAGES); i++)
+        check(make_fresh(SHEET, WRONG_IMAGES[i]) == QS_R1 && as_it_was(), "fresh refuses an image's length", WRONG_IMAGES[i]);
+}
+
+/* ---- restart -------------------------------------------------------------------------------------------------------------------------------------------- */
+
+/* Restart from these bytes, over an image that is marked all through: every byte of it is written, or none. */
+static void restarts(struct plate p, const uint8_t *lasting, bool taken, const char *what, unsigned long number) {
+    memset(&lent, number % 2 ? GUARD_BYTE : ROOM_BYTE, sizeof lent);
+    memcpy(lent.lasting, lasting, QS_LASTING_LENGTH);
+    remember();
+    check(make_restart(p, QS_LASTING_LENGTH, QS_IMAGE_LENGTH) == (taken ? 0 : QS_R1), what, number);
+    if (taken)
+        image_of(p, lasting, before.image);
+    check(as_it_was(), what, number);
+}
+
+/* Codes A1h to A4h, counter and offset as the image keeps them. */
+static void lasting_of(uint32_t counter, uint32_t offset, uint8_t *lasting) {
+    for (uint32_t i = 0; i < 4; i++) {
+        lasting[i] = (uint8_t)(0xA1 + i);
+        lasting[4 + i] = (uint8_t)(counter >> 8 * i);
+        lasting[8 + i] = (uint8_t)(offset >> 8 * i);
+    }
+}
+
+static void test_restart_lengths(void) {
+    for (uint64_t n = 0; n <= QS_LASTING_LENGTH + SPARE; n++) {
+        start(SHEET);
+        lasting_of(3, 4, lent.lasting);
+        remember();
+        if (n != QS_LASTING_LENGTH)
+            check(make_restart(SHEET, n, QS_IMAGE_LENGTH) == QS_R1 && as_it_was(), "restart refuses a length of lasting bytes", n);
+    }
+    for (size_t i = 0; i < COUNT(WRONG_IMAGES); i++) {
+        check(make_restart(SHEET, QS_LASTING_LENGTH, WRONG_IMAGES[i]) == QS_R1 && as_it_was(), "restart refuses an image's length", WRONG_IMAGES[i]);
+        check(make_restart(SHEET, 0, WRONG_IMAGES[i]) == QS_R1 && as_it_was(), "restart refuses both lengths", WRONG_IMAGES[i]);
+    }
+    check(make_restart(SHEET, QS_LASTING_LENGTH, QS_IMAGE_LENGTH) == 0 && !as_it_was(), "restart takes the right lengths", 0);
+}
+
+static void test_restart_numbers(void) {
+    static const uint32_t counters[] = {0, 1, 0xFFFFFE, 0xFFFFFF, 0x1000000, 0x1000001, 0x2000000, 0x80000000, UINT32_MAX};
+    uint8_t lasting[QS_LASTING_LENGTH];
+    for (size_t i = 0; i < COUNT(counters); i++) {
+        lasting_of(counters[i], 5, lasting);
+        restarts(SHEET, lasting, counters[i] < 0x1000000, "restart and a counter", counters[i]);
+    }
+    for (uint32_t high = 0; high < 256; high++) {
+        lasting_of(high << 24, 5, lasting);
+        restarts(SHEET, lasting, high == 0, "restart and the counter's high byte", high);
+    }
+    for (uint32_t bits = 1; bits <= 32; bits++) {
+        uint64_t end = (uint64_t)1 << bits;
+        const uint64_t offsets[] = {0, end / 2, end - 1, end, end + 1, end * 3 / 2, 2 * end - 1, 0x80000000, UINT32_MAX};
+        for (size_t i = 0; i < COUNT(offsets); i++) {
+            if (offsets[i] > UINT32_MAX)
+                continue;
+            lasting_of(0xFFFFFF, (uint32_t)offsets[i], lasting);
+            restarts(with_number(SHEET, 1, bits), lasting, offsets[i] < end, "restart and an offset", bits * 10 + i);
+        }
+    }
+}
+
+/* Any bytes with any plate near the limits: taken exactly if all of them are within theirs. */
+static void test_restart_dice(void) {
+    unsigned long taken = 0;
+    for (unsigned long i = 0; i < 20000; i++) {
+        struct plate p = {below(114), below(34), below(33), (1u << below(8)) - once_in(30), once_in(2) ? 22 : 55};
+        uint32_t counter = (uint32_t)dice() >> below(10), offset = (uint32_t)((dice() & UINT32_MAX) >> below(33));
+        uint8_t lasting[QS_LASTING_LENGTH];
+        lasting_of(counter, offset, lasting);
+        for (size_t j = 0; j < 4; j++)
+            lasting[j] = (uint8_t)dice();
+        bool good = possible(p) && counter <= 0xFFFFFF && offset < (uint64_t)1 << p.bits;
+        restarts(p, lasting, good, "restart from any bytes", i);
+        taken += good;
+    }
+    check(taken > 2000 && taken < 18000, "restarts of both kinds", taken);
 }
 
 /* ---- damaged images, wrong sizes ------------------------------------------------------------------------------------------------------------------------ */
@@ -295,12 +429,54 @@ static void test_damaged_images(void) {
     struct lengths none = {QS_IMAGE_LENGTH, 0, 0};
     for (unsigned long i = 0; i < 2 * COUNT(DAMAGED); i++) {
         start_with(EIGHT, DAMAGED[i / 2].image, i % 2);
-        all_refuse(EIGHT, right(EIGHT), QS_R1, DAMAGED[i / 2].name, i);
-        all_refuse(EIGHT, none, QS_R1, DAMAGED[i / 2].name, i);
+        all_refuse(right(EIGHT), QS_R1, DAMAGED[i / 2].name, i);
+        all_refuse(none, QS_R1, DAMAGED[i / 2].name, i);
     }
     for (unsigned long i = 0; i < 2 * COUNT(EXTREME); i++) {
         start_with(EIGHT, EXTREME[i / 2].image, i % 2);
         all_take(EIGHT, EXTREME[i / 2].name, i);
+    }
+}
+
+/* The image's head: another layout number, or a plate number that is not possible, is R1 for every call, whatever else is lent. */
+static void test_heads(void) {
+    for (uint32_t i = 0; i < 6 * 256; i++) {
+        uint32_t place = i / 256, value = i % 256;
+        struct plate p = place == 0 ? EIGHT : with_number(EIGHT, (int)place - 1, value);
+        bool taken = place == 0 ? value == 1 : possible(p);
+        start(EIGHT);
+        lent.image[place] = (uint8_t)value;
+        if (taken) {
+            memset(lent.memory, 0, QS_MEMORY_LENGTH(p.total));
+            all_take(p, "a possible head", i);
+            continue;
+        }
+        all_refuse(right(EIGHT), QS_R1, "R1 for a head", i);
+        if (p.total <= 112)
+            all_refuse(right(p), QS_R1, "R1 for a head with its memory", i);
+        all_refuse((struct lengths){QS_IMAGE_LENGTH, QS_MEMORY_LENGTH(8) - 1, QS_REPLY_ROOM - 1}, QS_R1, "R1 for a head before R2 and R3", i);
+        all_refuse((struct lengths){QS_IMAGE_LENGTH, QS_MEMORY_LENGTH(8), 0}, QS_R1, "R1 for a head before R3", i);
+        all_refuse((struct lengths){QS_IMAGE_LENGTH, 0, 0}, QS_R1, "R1 for a head before R2 and R3", i);
+        all_refuse((struct lengths){0, 0, 0}, QS_R1, "R1 for a head and no image", i);
+    }
+}
+
+/* The memory's length is by the plate that the image holds: every other number of blocks is R2. */
+static void test_memory_by_plate(void) {
+    for (uint32_t total = 1; total <= 112; total++) {
+        struct plate p = with_number(EIGHT, 0, total);
+        start(p);
+        for (uint32_t blocks = 0; blocks <= 112; blocks++) {
+            struct lengths n = {QS_IMAGE_LENGTH, QS_MEMORY_LENGTH(blocks), QS_REPLY_ROOM};
+            if (blocks != total)
+                all_refuse(n, QS_R2, "memory of another plate", total * 1000 + blocks);
+        }
+        for (uint32_t more = 1; more <= 17; more += 16) {
+            all_refuse((struct lengths){QS_IMAGE_LENGTH, QS_MEMORY_LENGTH(total) + more, QS_REPLY_ROOM}, QS_R2, "memory too long", total);
+            all_refuse((struct lengths){QS_IMAGE_LENGTH, QS_MEMORY_LENGTH(total) - more, 0}, QS_R2, "memory too short", total);
+        }
+        all_refuse((struct lengths){QS_IMAGE_LENGTH, QS_MEMORY_LENGTH(total), QS_REPLY_ROOM - 1}, QS_R3, "a room too short", total);
+        all_take(p, "the plate's memory", total);
     }
 }
 
@@ -318,7 +494,7 @@ static void test_offset_limits(void) {
         if (bits == 32)
             continue;
         start_with(p, offset_of(last + 1), 0);
-        all_refuse(p, right(p), QS_R1, "an offset over the largest", bits);
+        all_refuse(right(p), QS_R1, "an offset over the largest", bits);
     }
 }
 
@@ -328,10 +504,11 @@ enum { NONE = -10000 };
 static const struct {
     const char *name;
     int image, memory, room;
-    size_t refusal;
+    uint64_t refusal;
 } SIZES[] = {
     {"image a byte short: 134 places for kept bytes", -1, 0, 0, QS_R1},
     {"image a byte too long: 136 places for kept bytes", 1, 0, 0, QS_R1},
+    {"image without a head", -6, 0, 0, QS_R1},
     {"image without the kept bytes", -QS_KEPT_BYTES, 0, 0, QS_R1},
     {"image much too long", SPARE, 0, 0, QS_R1},
     {"no image", NONE, 0, 0, QS_R1},
@@ -355,8 +532,8 @@ static const struct {
     {"room much larger", 0, 0, SPARE, 0},
 };
 
-static size_t sized(size_t right_size, int more) {
-    return more == NONE ? 0 : right_size + (size_t)more;
+static uint64_t sized(uint64_t right_size, int more) {
+    return more == NONE ? 0 : right_size + (uint64_t)(int64_t)more;
 }
 
 /* A board whose every number is as large as it may be, so that no refusal is for want of a frame; with none open and with one. */
@@ -379,11 +556,11 @@ static void test_sizes(void) {
         struct lengths r = right(EIGHT), n = {sized(r.image, SIZES[row].image), sized(r.memory, SIZES[row].memory), sized(r.room, SIZES[row].room)};
         start_full(EIGHT, i % 2);
         if (SIZES[row].refusal != 0) {
-            all_refuse(EIGHT, n, SIZES[row].refusal, SIZES[row].name, i);
+            all_refuse(n, SIZES[row].refusal, SIZES[row].name, i);
             continue;
         }
         remember();
-        check(poll_with(EIGHT, n, now) < QS_REFUSED && guards_stand(n), SIZES[row].name, i);
+        check(poll_with(n, now) < QS_REFUSED && guards_stand(n), SIZES[row].name, i);
     }
 }
 
@@ -413,19 +590,19 @@ static size_t sealed(const char *hex, uint8_t *bytes) {
 }
 
 /* Sends the characters one tick apart, which never closes, then polls one tick early and in time. The reply's length; it stands in lent.room. */
-static size_t send_characters(struct plate p, const uint8_t *bytes, size_t n, size_t faulty) {
+static uint64_t send_characters(struct plate p, const uint8_t *bytes, size_t n, size_t faulty) {
     memset(lent.room, ROOM_BYTE, sizeof lent.room);
     for (size_t i = 0; i < n; i++) {
         remember();
-        size_t result = character_with(p, right(p), ++now, bytes[i], i == faulty ? 255 : 0);
+        uint64_t result = character_with(right(p), ++now, bytes[i], i == faulty ? 255 : 0);
         check(result == 0 && guards_stand(right(p)), "a character that closes nothing is silent", i);
         check(memcmp(lent.memory, before.memory, sizeof lent.memory) == 0 && memcmp(lent.room, before.room, sizeof lent.room) == 0,
               "a character that closes nothing leaves memory and room", i);
     }
     now += p.pause * p.ticks - 1;
     remember();
-    check(poll_with(p, right(p), now) == 0 && as_it_was(), "a poll that comes early does nothing", n);
-    size_t length = poll_with(p, right(p), ++now);
+    check(poll_with(right(p), now) == 0 && as_it_was(), "a poll that comes early does nothing", n);
+    uint64_t length = poll_with(right(p), ++now);
     check(length < QS_REFUSED && guards_stand(right(p)), "the poll in time is not refused", n);
     for (size_t i = length; i < sizeof lent.room; i++)
         check(lent.room[i] == ROOM_BYTE, "the room behind the reply is as it was", i);
@@ -537,11 +714,11 @@ static const struct trial TRIALS[] = {
 static void works(struct plate p, struct line l, const char *name) {
     unsigned number;
     if (sscanf(l.said, "fault %x", &number) == 1)
-        check(fault_with(p, right(p), (uint8_t)number) == 0, name, number);
+        check(fault_with(right(p), (uint8_t)number) == 0, name, number);
     else if (sscanf(l.said, "measured %x", &number) == 1)
-        check(measured_with(p, right(p), number) == 0, name, number);
+        check(measured_with(right(p), number) == 0, name, number);
     else if (strcmp(l.said, "power-on") == 0)
-        check(power_on_with(p, right(p)) == 0, name, 0);
+        check(power_on_with(right(p)) == 0, name, 0);
     else
         asks(p, l.said, l.reply, name);
 }
@@ -605,16 +782,16 @@ static void open_frame(struct plate p, uint32_t first_tick) {
     static const uint8_t request[] = {0x40, 0x4E, 0x0E};
     start(p);
     for (uint32_t i = 0; i < 3; i++)
-        check(character_with(p, right(p), first_tick + i, request[i], 0) == 0, "a frame is opened", i);
+        check(character_with(right(p), first_tick + i, request[i], 0) == 0, "a frame is opened", i);
 }
 
 /* Whether the frame that ended at `last` is closed by a call at `tick`, and by the character the next one opened. */
 static void closes_at(uint32_t last, uint32_t tick, bool closes) {
     open_frame(SHEET, last - 2);
-    check(poll_with(SHEET, right(SHEET), tick) == (closes ? 5u : 0u), "a poll closes or not", tick);
+    check(poll_with(right(SHEET), tick) == (closes ? 5u : 0u), "a poll closes or not", tick);
     check(lent.image[QS_IMAGE_OPEN] == (closes ? 0 : 1), "the frame is open or not", tick);
     open_frame(SHEET, last - 2);
-    check(character_with(SHEET, right(SHEET), tick, 0x77, 1) == (closes ? 5u : 0u), "a character closes or not", tick);
+    check(character_with(right(SHEET), tick, 0x77, 1) == (closes ? 5u : 0u), "a character closes or not", tick);
     check(lent.image[QS_IMAGE_KEPT_NUMBER] == (closes ? 1 : 4), "the character is kept in its frame", tick);
     check(lent.image[QS_IMAGE_SUM] == 0x77, "the sum is the frame's", tick);
     check(lent.image[QS_IMAGE_PARITY] == 1, "the parity fault is the new character's", tick);
@@ -637,21 +814,21 @@ static void test_gaps(void) {
 static void test_image_changes(void) {
     open_frame(SHEET, 500);
     remember();
-    check(measured_with(SHEET, right(SHEET), 0x04030201) == 0, "measured returns 0", 0);
+    check(measured_with(right(SHEET), 0x04030201) == 0, "measured returns 0", 0);
     memcpy(before.image + QS_IMAGE_MEASURED, "\x01\x02\x03\x04", 4);
     check(as_it_was(), "measured changes its four bytes", 0);
-    check(fault_with(SHEET, right(SHEET), 0x99) == 0, "fault returns 0", 0);
+    check(fault_with(right(SHEET), 0x99) == 0, "fault returns 0", 0);
     before.image[QS_IMAGE_WAITING] = 0x99;
     check(as_it_was(), "a fault changes one place", 0);
-    check(fault_with(SHEET, right(SHEET), 0x99) == 0 && fault_with(SHEET, right(SHEET), 0) == 0 && as_it_was(), "a waiting code and 00h change nothing", 0);
-    check(fault_with(SHEET, right(SHEET), 0x24) == 0, "24h is taken", 0);
+    check(fault_with(right(SHEET), 0x99) == 0 && fault_with(right(SHEET), 0) == 0 && as_it_was(), "a waiting code and 00h change nothing", 0);
+    check(fault_with(right(SHEET), 0x24) == 0, "24h is taken", 0);
     before.image[QS_IMAGE_LOCKED] = 1;
     check(as_it_was(), "24h locks and does not wait", 0);
-    check(character_with(SHEET, right(SHEET), 0x01020304, 0x5A, 0) == 5, "the frame is closed by the next character", 0);
+    check(character_with(right(SHEET), 0x01020304, 0x5A, 0) == 5, "the frame is closed by the next character", 0);
     memcpy(before.room, lent.room, 5);
     memcpy(before.image + QS_IMAGE_LAST, "\x04\x03\x02\x01\x5A\x01\x5A", 7);
     check(as_it_was(), "kept bytes beyond their number are left as they were", 0);
-    check(power_on_with(SHEET, right(SHEET)) == 0, "power-on returns 0", 0);
+    check(power_on_with(right(SHEET)) == 0, "power-on returns 0", 0);
     memset(before.image + QS_IMAGE_WAITING, 0, QS_IMAGE_KEPT - QS_IMAGE_WAITING);
     check(as_it_was(), "power-on clears queue, lock and the frame's numbers", 0);
 }
@@ -662,14 +839,14 @@ static void test_closed_frame_numbers(void) {
     start(SHEET);
     memcpy(lent.image + QS_IMAGE_OPEN, junk, sizeof junk);
     remember();
-    check(poll_with(SHEET, right(SHEET), 5000) == 0 && as_it_was(), "a poll with no frame open does nothing", 0);
-    check(fault_with(SHEET, right(SHEET), 0) == 0 && as_it_was(), "nor does a fault 00h", 0);
-    check(character_with(SHEET, right(SHEET), 0x10, 0xAB, 0) == 0, "a character opens a frame", 0);
+    check(poll_with(right(SHEET), 5000) == 0 && as_it_was(), "a poll with no frame open does nothing", 0);
+    check(fault_with(right(SHEET), 0) == 0 && as_it_was(), "nor does a fault 00h", 0);
+    check(character_with(right(SHEET), 0x10, 0xAB, 0) == 0, "a character opens a frame", 0);
     memcpy(before.image + QS_IMAGE_OPEN, "\x01\x00\x00\x10\x00\x00\x00\xAB\x01\xAB", 10);
     check(as_it_was(), "and starts its numbers anew", 0);
     memcpy(lent.image + QS_IMAGE_OPEN, junk, sizeof junk);
     remember();
-    check(power_on_with(SHEET, right(SHEET)) == 0, "power-on", 0);
+    check(power_on_with(right(SHEET)) == 0, "power-on", 0);
     memset(before.image + QS_IMAGE_OPEN, 0, QS_IMAGE_KEPT - QS_IMAGE_OPEN);
     check(as_it_was(), "power-on clears them", 0);
 }
@@ -690,7 +867,7 @@ static void test_states_that_never_arise(void) {
         lent.image[QS_IMAGE_SUM] = cases[i].sum;
         lent.image[QS_IMAGE_KEPT_NUMBER] = cases[i].kept;
         remember();
-        check(poll_with(SHEET, right(SHEET), 220) == n && memcmp(lent.room, expected, n) == 0, "a state that never arises", i);
+        check(poll_with(right(SHEET), 220) == n && memcmp(lent.room, expected, n) == 0, "a state that never arises", i);
         memcpy(before.room, expected, n);
         memset(before.image + QS_IMAGE_OPEN, 0, QS_IMAGE_KEPT - QS_IMAGE_OPEN);
         check(as_it_was(), "its frame's numbers are 0 afterwards", i);
@@ -792,13 +969,13 @@ static void test_largest(void) {
 
 /* ---- the bench ------------------------------------------------------------------------------------------------------------------------------------------ */
 
-static void request_is(uint32_t address, const char *command_and_data, size_t room_length, const char *expected_text, size_t refusal) {
+static void request_is(uint32_t address, const char *command_and_data, uint64_t buffer_length, const char *expected_text, uint64_t refusal) {
     uint8_t given[QS_REQUEST_BUFFER + 1], expected[QS_REQUEST_BUFFER + 1];
     size_t n = sealed(command_and_data, given) - 1;
     size_t expected_length = sealed(expected_text, expected);
     memset(&lent, GUARD_BYTE, sizeof lent);
     remember();
-    size_t result = request_with(address, given, n, room_length);
+    uint64_t result = request_with(address, given, n, buffer_length);
     check(result == (refusal != 0 ? refusal : expected_length), command_and_data, address);
     memcpy(before.room, expected, expected_length);
     check(as_it_was(), command_and_data, address);
@@ -833,11 +1010,11 @@ static void test_long_requests(void) {
     memset(&lent, GUARD_BYTE, sizeof lent);
     remember();
     for (size_t n = 1; n < sizeof asked; n++) {
-        size_t result = request_with(0, asked, n, sizeof lent.room);
+        uint64_t result = request_with(0, asked, n, sizeof lent.room);
         check(result == (n == 133 ? 135 : QS_R5), "4Bh wants 4 + count bytes", n);
         if (n == 133)
             lent = before;
-        check(as_it_was(), "a refused request leaves the room", n);
+        check(as_it_was(), "a refused request leaves the buffer", n);
     }
 }
 
@@ -885,8 +1062,15 @@ static void judged_as(const uint8_t *request, size_t request_length, const uint8
     struct judgement found = judge(request, request_length, reply, reply_length);
     bool taken = verdict < QS_VERDICT_REFUSED;
     check(found.verdict == verdict, "verdict", number);
-    check(found.data.place == (taken ? 2u : 0u), "the piece's place", number);
-    check(found.data.length == (taken ? reply_length - 3 : 0u), "the piece's length", number);
+    check(found.part == (taken ? ((uint64_t)2 << 32) + reply_length - 3 : 0u), "the data part", number);
+    check(QS_DATA_PLACE(found.part) == (taken ? 2u : 0u), "the data part's place", number);
+    check(QS_DATA_LENGTH(found.part) == (taken ? reply_length - 3 : 0u), "the data part's length", number);
+    if (!taken)
+        return;
+    bool error = (reply[1] & 0x7F) == 0x50 && request[1] != 0x50;
+    check(QS_VERDICT_IS_ERROR(found.verdict) == error, "the verdict tells an error", number);
+    check(!error || QS_VERDICT_CODE(found.verdict) == reply[2], "the verdict tells its code", number);
+    check(QS_VERDICT_WARNS(found.verdict) == (reply[1] >= 0x80), "the verdict tells a warning", number);
 }
 
 static void test_verdicts(void) {
@@ -911,7 +1095,12 @@ int main(void) {
     test_fresh();
     test_bad_plates();
     test_good_plates();
+    test_restart_lengths();
+    test_restart_numbers();
+    test_restart_dice();
     test_damaged_images();
+    test_heads();
+    test_memory_by_plate();
     test_offset_limits();
     test_sizes();
     test_trials();
