@@ -981,27 +981,51 @@ static void request_is(uint32_t address, const char *command_and_data, uint64_t 
     check(as_it_was(), command_and_data, address);
 }
 
+/* Commands and data that the bench writes, with the length of the reply to each; no reply to 53h. Then those that it does not write. */
+static const struct {
+    const char *asked;
+    uint64_t reply_length;
+} GOOD[] = {
+    {"42", 7},
+    {"43 00 00 00 02 55", 3},
+    {"46", 6},
+    {"47", 3},
+    {"49 55", 3},
+    {"4A 00 00 01 55", 7},
+    {"4A 00 00 30 55", 54},
+    {"4A FF FF 7F 55", 133},
+    {"4A FF FF 80 55", 134},
+    {"4B 00 00 01 55 AA", 6},
+    {"4B 01 00 03 55 AA BB CC", 6},
+    {"4C FF", 5},
+    {"4D FF FF FF", 5},
+    {"4E", 5},
+    {"4F 03 55 66", 4},
+    {"50", 4},
+    {"53", QS_B5},
+};
+
+static const char *const BAD[] = {"44", "C2", "00", "FF", "42 00", "43", "43 00 00 00 02", "49", "4A 00 00 00 55", "4A 00 00 81 55", "4A 00 00 01",
+                                  "4B", "4B 00 00 00 55", "4B 00 00 02 55 AA", "4B 00 00 01 55", "4C", "4D 00 C0", "4F 04 55 66", "50 00", "53 00"};
+
 static void test_requests(void) {
-    static const char *const good[] = {"42", "43 00 00 00 02 55", "46", "47", "49 55", "4A 00 00 01 55", "4A FF FF 80 55", "4B 00 00 01 55 AA",
-                                       "4C FF", "4D FF FF FF", "4E", "4F 03 55 66", "50", "53"};
-    static const char *const bad[] = {"44", "C2", "00", "FF", "42 00", "43", "43 00 00 00 02", "49", "4A 00 00 00 55", "4A 00 00 81 55", "4A 00 00 01",
-                                      "4B", "4B 00 00 00 55", "4B 00 00 02 55 AA", "4B 00 00 01 55", "4C", "4D 00 C0", "4F 04 55 66", "50 00", "53 00"};
-    for (size_t i = 0; i < COUNT(good); i++) {
+    for (size_t i = 0; i < COUNT(GOOD); i++) {
         char expected[64];
-        snprintf(expected, sizeof expected, "40 %s", good[i]);
-        request_is(0, good[i], QS_REQUEST_BUFFER, expected, 0);
-        snprintf(expected, sizeof expected, "5F %s", good[i]);
-        request_is(31, good[i], QS_REQUEST_BUFFER + 1, expected, 0);
-        snprintf(expected, sizeof expected, "FF %s", good[i]);
-        request_is(QS_BROADCAST, good[i], QS_REQUEST_BUFFER, expected, 0);
-        request_is(0, good[i], QS_REQUEST_BUFFER - 1, "", QS_R4);
-        request_is(32, good[i], QS_REQUEST_BUFFER, "", QS_R5);
-        request_is(256, good[i], QS_REQUEST_BUFFER, "", QS_R5);
-        request_is(UINT32_MAX, good[i], 0, "", QS_R4);
+        const char *good = GOOD[i].asked;
+        snprintf(expected, sizeof expected, "40 %s", good);
+        request_is(0, good, QS_REQUEST_BUFFER, expected, 0);
+        snprintf(expected, sizeof expected, "5F %s", good);
+        request_is(31, good, QS_REQUEST_BUFFER + 1, expected, 0);
+        snprintf(expected, sizeof expected, "FF %s", good);
+        request_is(QS_BROADCAST, good, QS_REQUEST_BUFFER, expected, 0);
+        request_is(0, good, QS_REQUEST_BUFFER - 1, "", QS_R4);
+        request_is(32, good, QS_REQUEST_BUFFER, "", QS_R5);
+        request_is(256, good, QS_REQUEST_BUFFER, "", QS_R5);
+        request_is(UINT32_MAX, good, 0, "", QS_R4);
     }
-    for (size_t i = 0; i < COUNT(bad); i++) {
-        request_is(0, bad[i], QS_REQUEST_BUFFER, "", QS_R5);
-        request_is(0, bad[i], 3, "", QS_R4);
+    for (size_t i = 0; i < COUNT(BAD); i++) {
+        request_is(0, BAD[i], QS_REQUEST_BUFFER, "", QS_R5);
+        request_is(0, BAD[i], 3, "", QS_R4);
     }
 }
 
@@ -1091,6 +1115,140 @@ static void test_verdicts(void) {
     }
 }
 
+/* ---- the length of a reply ------------------------------------------------------------------------------------------------------------------------------ */
+
+/* The request to a board, or to all, sealed. */
+static size_t request_of(const char *address, const char *asked, uint8_t *request) {
+    char hex[64];
+    snprintf(hex, sizeof hex, "%s %s", address, asked);
+    return sealed(hex, request);
+}
+
+/* What is told of a reply of n bytes that begins so, as far as it is here; nothing before its second byte, and neither its address nor its rest is read. */
+static void length_is(const uint8_t *request, size_t asked, uint8_t command, uint64_t expected, unsigned long number) {
+    static const uint8_t addresses[] = {0x40, 0x5F, 0x00, 0xFF};
+    static const uint64_t here[] = {2, 3, 4, 5, QS_REPLY_ROOM, QS_REPLY_ROOM + 1, 300};
+    uint8_t reply[300];
+    memset(reply, (int)number, sizeof reply);
+    reply[1] = command;
+    for (size_t i = 0; i < COUNT(addresses); i++) {
+        reply[0] = addresses[i];
+        check(qs_reply_length(request, asked, reply, 0) == 0, "no length yet of no byte", number);
+        check(qs_reply_length(request, asked, reply, 1) == 0, "no length yet of one byte", number);
+        for (size_t j = 0; j < COUNT(here); j++)
+            check(qs_reply_length(request, asked, reply, here[j]) == expected, "a reply's length", number * 1000 + command);
+    }
+}
+
+/* Every command byte in the reply to every request: the request's own and 50h, each with and without bit 7, else B4. */
+static void test_reply_lengths(void) {
+    static const char *const addresses[] = {"40", "47", "5F", "FF"};
+    uint8_t request[QS_REQUEST_BUFFER];
+    for (size_t i = 0; i < COUNT(GOOD) * COUNT(addresses); i++) {
+        size_t asked = request_of(addresses[i % COUNT(addresses)], GOOD[i / COUNT(addresses)].asked, request);
+        uint64_t own = GOOD[i / COUNT(addresses)].reply_length;
+        for (unsigned command = 0; command < 256; command++) {
+            unsigned bare = command % 128;
+            length_is(request, asked, (uint8_t)command, bare == 0x50 ? 4 : bare == request[1] ? own : QS_B4, i);
+        }
+    }
+}
+
+/* B0 before B4 and B5: requests that the bench does not write, a wrong checksum, another address, cut and too long. */
+static void test_reply_lengths_of_none(void) {
+    uint8_t request[QS_REQUEST_BUFFER + 2];
+    static const uint8_t commands[] = {0x42, 0x4E, 0x50, 0x53, 0xD0, 0x00, 0xFF};
+    for (size_t i = 0; i < COUNT(BAD) * COUNT(commands); i++) {
+        size_t asked = request_of("40", BAD[i / COUNT(commands)], request);
+        length_is(request, asked, commands[i % COUNT(commands)], QS_B0, i);
+        length_is(request, asked, request[1], QS_B0, i);
+    }
+    for (size_t i = 0; i < COUNT(GOOD); i++) {
+        size_t asked = request_of("40", GOOD[i].asked, request);
+        for (size_t n = 0; n < asked; n++)
+            if (n < 3 || xor_of(request, n) != 0)
+                length_is(request, n, request[1], QS_B0, i);
+        for (size_t place = 0; place < asked; place++) {
+            request[place] ^= 0x10;
+            length_is(request, asked, request[1], QS_B0, i);
+            request[place] ^= 0x10;
+        }
+        request[asked] = 0;
+        length_is(request, asked + 1, request[1], QS_B0, i);
+        asked = request_of("60", GOOD[i].asked, request);
+        length_is(request, asked, request[1], QS_B0, i);
+    }
+}
+
+/* A reply that is judged has the length that was told from its second byte on; of one that is not, nothing else is told than the judge's own reason. */
+static void test_reply_lengths_as_judged(void) {
+    for (size_t i = 0; i < COUNT(JUDGED); i++) {
+        uint8_t request[QS_REQUEST_BUFFER], reply[QS_REPLY_ROOM];
+        size_t asked = sealed(JUDGED[i].request, request), replied = sealed(JUDGED[i].reply, reply);
+        uint32_t verdict = JUDGED[i].verdict;
+        for (size_t here = 0; here <= replied; here++) {
+            uint64_t told = qs_reply_length(request, asked, reply, here);
+            if (here < 2)
+                check(told == 0, "no length yet", i);
+            else if (verdict < QS_VERDICT_REFUSED)
+                check(told == replied, "the length of a reply that is judged", i);
+            else if (verdict == QS_B0 || verdict == QS_B4)
+                check(told == verdict, "the judge's reason", i);
+            else if (verdict == QS_B5)
+                check(told == QS_B5 || (told >= 3 && told <= QS_REPLY_ROOM && told != replied), "another length", i);
+        }
+    }
+}
+
+/* ---- macros --------------------------------------------------------------------------------------------------------------------------------------------- */
+
+static void test_verdict_macros(void) {
+    static const uint32_t plain[] = {QS_VERDICT_DONE, QS_B0, QS_B1, QS_B2, QS_B3, QS_B4, QS_B5, QS_B6};
+    for (uint32_t code = 0; code < 256; code++) {
+        uint32_t error = 256 + code, warned = 512 + code;
+        check(QS_VERDICT_IS_ERROR(error) && QS_VERDICT_IS_ERROR(warned), "an error", code);
+        check(QS_VERDICT_CODE(error) == code && QS_VERDICT_CODE(warned) == code, "its code", code);
+        check(!QS_VERDICT_WARNS(error) && QS_VERDICT_WARNS(warned), "its warning", code);
+        check(QS_VERDICT_WARNS((int)warned) && !QS_VERDICT_WARNS((int)error) && QS_VERDICT_IS_ERROR((uint64_t)warned), "in other types", code);
+    }
+    for (size_t i = 0; i < COUNT(plain); i++)
+        check(!QS_VERDICT_IS_ERROR(plain[i]) && !QS_VERDICT_WARNS(plain[i]), "neither error nor warning", plain[i]);
+    check(!QS_VERDICT_IS_ERROR(1) && QS_VERDICT_WARNS(1) && QS_VERDICT_DONE_WITH_WARNING == 1, "done with warning", 0);
+    check(QS_B0 == 1024 && QS_B6 == 1030, "the judge's refusals", 0);
+}
+
+/* Which commands store: 43h the offset, 47h and 49h the counter, 4Bh and 4Dh memory, 4Fh a code. */
+static void test_other_macros(void) {
+    for (uint32_t command = 0; command < 256; command++) {
+        uint32_t bare = command >= 128 ? command - 128 : command;
+        bool stores = bare == 0x43 || bare == 0x47 || bare == 0x49 || bare == 0x4B || bare == 0x4D || bare == 0x4F;
+        check(QS_MAY_CHANGE((uint8_t)command) == stores && QS_MAY_CHANGE(command) == stores, "a command that stores", command);
+    }
+    for (uint64_t result = 0; result <= 261; result++)
+        check(QS_IS_REFUSED(result) == (result == QS_R1 || result == QS_R2 || result == QS_R3 || result == QS_R4 || result == QS_R5), "a refusal", result);
+    check(QS_R1 == 257 && QS_R5 == 261, "the refusals", 0);
+    check(QS_DATA_PLACE((uint64_t)2 << 32 | 131) == 2 && QS_DATA_LENGTH((uint64_t)2 << 32 | 131) == 131, "the two numbers of a data part", 0);
+    for (uint64_t total = 1; total <= 112; total++)
+        check(QS_MEMORY_LENGTH(total) == 16 * total + total && QS_MEMORY_LENGTH((uint8_t)total) == 17 * total, "the memory's length", total);
+}
+
+/* Place and size of each part of the image, with no gap between them. */
+static void test_layout(void) {
+    static const unsigned parts[][2] = {
+        {QS_IMAGE_LAYOUT, QS_IMAGE_LAYOUT_SIZE},   {QS_IMAGE_TOTAL, QS_IMAGE_TOTAL_SIZE},     {QS_IMAGE_BITS, QS_IMAGE_BITS_SIZE},
+        {QS_IMAGE_ADDRESS, QS_IMAGE_ADDRESS_SIZE}, {QS_IMAGE_TICKS, QS_IMAGE_TICKS_SIZE},     {QS_IMAGE_PAUSE, QS_IMAGE_PAUSE_SIZE},
+        {QS_IMAGE_CODES, QS_IMAGE_CODES_SIZE},     {QS_IMAGE_COUNTER, QS_IMAGE_COUNTER_SIZE}, {QS_IMAGE_OFFSET, QS_IMAGE_OFFSET_SIZE},
+        {QS_IMAGE_MEASURED, QS_IMAGE_MEASURED_SIZE}, {QS_IMAGE_WAITING, QS_IMAGE_WAITING_SIZE}, {QS_IMAGE_LOCKED, QS_IMAGE_LOCKED_SIZE},
+        {QS_IMAGE_OPEN, QS_IMAGE_OPEN_SIZE},       {QS_IMAGE_LONGER, QS_IMAGE_LONGER_SIZE},   {QS_IMAGE_PARITY, QS_IMAGE_PARITY_SIZE},
+        {QS_IMAGE_LAST, QS_IMAGE_LAST_SIZE},       {QS_IMAGE_SUM, QS_IMAGE_SUM_SIZE},         {QS_IMAGE_KEPT_NUMBER, QS_IMAGE_KEPT_NUMBER_SIZE},
+        {QS_IMAGE_KEPT, QS_IMAGE_KEPT_SIZE},       {QS_IMAGE_LENGTH, 0},
+    };
+    for (size_t i = 1; i < COUNT(parts); i++)
+        check(parts[i][0] == parts[i - 1][0] + parts[i - 1][1], "a part begins where the last one ends", i);
+    check(QS_IMAGE_LASTING == QS_IMAGE_CODES && QS_IMAGE_LASTING + QS_IMAGE_LASTING_SIZE == QS_IMAGE_MEASURED, "the lasting bytes", 0);
+    check(QS_IMAGE_LENGTH == 171 && QS_LASTING_LENGTH == 12 && QS_LAYOUT_NUMBER == 1, "lengths and layout number", 0);
+}
+
 int main(void) {
     test_fresh();
     test_bad_plates();
@@ -1116,6 +1274,12 @@ int main(void) {
     test_requests();
     test_long_requests();
     test_verdicts();
+    test_reply_lengths();
+    test_reply_lengths_of_none();
+    test_reply_lengths_as_judged();
+    test_verdict_macros();
+    test_other_macros();
+    test_layout();
     printf("test.c: %lu checks, %lu failed\n", checks, failures);
     return failures == 0 ? 0 : 1;
 }
