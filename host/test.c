@@ -1,43 +1,11 @@
 /* Every entry of quicksetter.h with good, extreme and damaged input, and the states that no tape reaches. Each call's buffers stand between guard bytes.
- * Prints what failed, ends in 1 if any did. Tables say what is tried; document 01 is cited by its words. Long random runs are test_lasting.c's. */
-#include "quicksetter.h"
+ * Prints what failed, ends in 1 if any did. Tables say what is tried; document 01 is cited by its words. The bytes that last,
+ * and long random runs, are test_lasting.c's. */
+#define _DEFAULT_SOURCE /* mmap */
+#define PROGRAM "test.c"
+#include "testing.h"
 
-#include <stdbool.h>
-#include <stdio.h>
-#include <string.h>
-
-#define COUNT(table) (sizeof(table) / sizeof *(table))
-
-/* ---- checking ------------------------------------------------------------------------------------------------------------------------------------------- */
-
-static unsigned long checks, failures;
-
-static void check(bool good, const char *what, unsigned long number) {
-    checks++;
-    if (good)
-        return;
-    failures++;
-    printf("test.c: FAILED: %s (%lu)\n", what, number);
-}
-
-/* ---- dice: the same numbers in each run (splitmix64) ---------------------------------------------------------------------------------------------------- */
-
-static uint64_t dice(void) {
-    static uint64_t seed = 1;
-    seed += 0x9E3779B97F4A7C15;
-    uint64_t mixed = seed;
-    mixed = (mixed ^ mixed >> 30) * 0xBF58476D1CE4E5B9;
-    mixed = (mixed ^ mixed >> 27) * 0x94D049BB133111EB;
-    return mixed ^ mixed >> 31;
-}
-
-static uint32_t below(uint32_t end) {
-    return (uint32_t)(dice() % end);
-}
-
-static bool once_in(uint32_t times) {
-    return below(times) == 0;
-}
+#include <sys/mman.h>
 
 /* ---- what one call is lent ------------------------------------------------------------------------------------------------------------------------------ */
 
@@ -54,10 +22,6 @@ struct lent {
     uint8_t guard3[GUARD];
     uint8_t lasting[QS_LASTING_LENGTH + SPARE];
     uint8_t guard4[GUARD];
-};
-
-struct plate {
-    uint32_t total, bits, address, ticks, pause;
 };
 
 struct lengths {
@@ -141,14 +105,6 @@ static bool guards_stand(struct lengths n) {
            memcmp(lent.room + n.room, before.room + n.room, sizeof lent.room - n.room) == 0;
 }
 
-/* The image of a board whose plate is p and of whose state only codes, counter and offset are not 0: layout number, plate, 12 bytes, and 00h. */
-static void image_of(struct plate p, const uint8_t *lasting, uint8_t *image) {
-    const uint8_t head[] = {1, (uint8_t)p.total, (uint8_t)p.bits, (uint8_t)p.address, (uint8_t)p.ticks, (uint8_t)p.pause};
-    memset(image, 0, 171);
-    memcpy(image, head, 6);
-    memcpy(image + 6, lasting, 12);
-}
-
 static const uint8_t FRESH_LASTING[12] = {0x55, 0x55, 0x55, 0x55};
 
 /* A fresh board with blank memory and everything round it marked. */
@@ -214,12 +170,6 @@ static struct plate with_number(struct plate p, int which, uint32_t value) {
     return p;
 }
 
-/* 01, "Plate", by a test of its own. */
-static bool possible(struct plate p) {
-    bool ticks = p.ticks == 1 || p.ticks == 2 || p.ticks == 4 || p.ticks == 8 || p.ticks == 16 || p.ticks == 32 || p.ticks == 64;
-    return p.total >= 1 && p.total <= 112 && p.bits >= 1 && p.bits <= 32 && p.address <= 31 && ticks && (p.pause == 22 || p.pause == 55);
-}
-
 /* Fresh and restart with this plate, each over a board that is marked all through, take it or refuse it. */
 static void plate_is_taken(struct plate p, bool taken, unsigned long number) {
     for (int restart = 0; restart < 2; restart++) {
@@ -266,83 +216,6 @@ static void test_fresh(void) {
     check(as_it_was(), "fresh leaves all behind the image as it was", 0);
     for (size_t i = 0; i < COUNT(WRONG_IMAGES); i++)
         check(make_fresh(SHEET, WRONG_IMAGES[i]) == QS_R1 && as_it_was(), "fresh refuses an image's length", WRONG_IMAGES[i]);
-}
-
-/* ---- restart -------------------------------------------------------------------------------------------------------------------------------------------- */
-
-/* Restart from these bytes, over an image that is marked all through: every byte of it is written, or none. */
-static void restarts(struct plate p, const uint8_t *lasting, bool taken, const char *what, unsigned long number) {
-    memset(&lent, number % 2 ? GUARD_BYTE : ROOM_BYTE, sizeof lent);
-    memcpy(lent.lasting, lasting, QS_LASTING_LENGTH);
-    remember();
-    check(make_restart(p, QS_LASTING_LENGTH, QS_IMAGE_LENGTH) == (taken ? 0 : QS_R1), what, number);
-    if (taken)
-        image_of(p, lasting, before.image);
-    check(as_it_was(), what, number);
-}
-
-/* Codes A1h to A4h, counter and offset as the image keeps them. */
-static void lasting_of(uint32_t counter, uint32_t offset, uint8_t *lasting) {
-    for (uint32_t i = 0; i < 4; i++) {
-        lasting[i] = (uint8_t)(0xA1 + i);
-        lasting[4 + i] = (uint8_t)(counter >> 8 * i);
-        lasting[8 + i] = (uint8_t)(offset >> 8 * i);
-    }
-}
-
-static void test_restart_lengths(void) {
-    for (uint64_t n = 0; n <= QS_LASTING_LENGTH + SPARE; n++) {
-        start(SHEET);
-        lasting_of(3, 4, lent.lasting);
-        remember();
-        if (n != QS_LASTING_LENGTH)
-            check(make_restart(SHEET, n, QS_IMAGE_LENGTH) == QS_R1 && as_it_was(), "restart refuses a length of lasting bytes", n);
-    }
-    for (size_t i = 0; i < COUNT(WRONG_IMAGES); i++) {
-        check(make_restart(SHEET, QS_LASTING_LENGTH, WRONG_IMAGES[i]) == QS_R1 && as_it_was(), "restart refuses an image's length", WRONG_IMAGES[i]);
-        check(make_restart(SHEET, 0, WRONG_IMAGES[i]) == QS_R1 && as_it_was(), "restart refuses both lengths", WRONG_IMAGES[i]);
-    }
-    check(make_restart(SHEET, QS_LASTING_LENGTH, QS_IMAGE_LENGTH) == 0 && !as_it_was(), "restart takes the right lengths", 0);
-}
-
-static void test_restart_numbers(void) {
-    static const uint32_t counters[] = {0, 1, 0xFFFFFE, 0xFFFFFF, 0x1000000, 0x1000001, 0x2000000, 0x80000000, UINT32_MAX};
-    uint8_t lasting[QS_LASTING_LENGTH];
-    for (size_t i = 0; i < COUNT(counters); i++) {
-        lasting_of(counters[i], 5, lasting);
-        restarts(SHEET, lasting, counters[i] < 0x1000000, "restart and a counter", counters[i]);
-    }
-    for (uint32_t high = 0; high < 256; high++) {
-        lasting_of(high << 24, 5, lasting);
-        restarts(SHEET, lasting, high == 0, "restart and the counter's high byte", high);
-    }
-    for (uint32_t bits = 1; bits <= 32; bits++) {
-        uint64_t end = (uint64_t)1 << bits;
-        const uint64_t offsets[] = {0, end / 2, end - 1, end, end + 1, end * 3 / 2, 2 * end - 1, 0x80000000, UINT32_MAX};
-        for (size_t i = 0; i < COUNT(offsets); i++) {
-            if (offsets[i] > UINT32_MAX)
-                continue;
-            lasting_of(0xFFFFFF, (uint32_t)offsets[i], lasting);
-            restarts(with_number(SHEET, 1, bits), lasting, offsets[i] < end, "restart and an offset", bits * 10 + i);
-        }
-    }
-}
-
-/* Any bytes with any plate near the limits: taken exactly if all of them are within theirs. */
-static void test_restart_dice(void) {
-    unsigned long taken = 0;
-    for (unsigned long i = 0; i < 20000; i++) {
-        struct plate p = {below(114), below(34), below(33), (1u << below(8)) - once_in(30), once_in(2) ? 22 : 55};
-        uint32_t counter = (uint32_t)dice() >> below(10), offset = (uint32_t)((dice() & UINT32_MAX) >> below(33));
-        uint8_t lasting[QS_LASTING_LENGTH];
-        lasting_of(counter, offset, lasting);
-        for (size_t j = 0; j < 4; j++)
-            lasting[j] = (uint8_t)dice();
-        bool good = possible(p) && counter <= 0xFFFFFF && offset < (uint64_t)1 << p.bits;
-        restarts(p, lasting, good, "restart from any bytes", i);
-        taken += good;
-    }
-    check(taken > 2000 && taken < 18000, "restarts of both kinds", taken);
 }
 
 /* ---- damaged images, wrong sizes ------------------------------------------------------------------------------------------------------------------------ */
@@ -566,13 +439,6 @@ static void test_sizes(void) {
 
 /* ---- frames --------------------------------------------------------------------------------------------------------------------------------------------- */
 
-static uint8_t xor_of(const uint8_t *bytes, size_t n) {
-    uint8_t sum = 0;
-    for (size_t i = 0; i < n; i++)
-        sum ^= bytes[i];
-    return sum;
-}
-
 /* Bytes from hex pairs, with their checksum behind. */
 static size_t sealed(const char *hex, uint8_t *bytes) {
     size_t n = 0;
@@ -625,7 +491,7 @@ static void asks(struct plate p, const char *request, const char *reply, const c
     if (replies(p, bytes, n, NONE_FAULTY, reply))
         return;
     failures++;
-    printf("test.c: FAILED: %s: %s is not answered with %s\n", name, request, reply[0] ? reply : "silence");
+    printf(PROGRAM ": FAILED: %s: %s is not answered with %s\n", name, request, reply[0] ? reply : "silence");
 }
 
 /* What is done with a board, line by line: a request and its reply, or a call of the host that returns 0: "fault 22", "measured FF000005", "power-on". */
@@ -1200,6 +1066,55 @@ static void test_reply_lengths_as_judged(void) {
     }
 }
 
+/* ---- lengths of more than 32 bits ----------------------------------------------------------------------------------------------------------------------- */
+
+/* 2^32 bytes and a page that nobody else has; what is not touched costs nothing. */
+static const uint64_t FAR = (uint64_t)1 << 32;
+static uint8_t *wide;
+
+/* A length that is right but for 2^32 is a wrong one, and a room of more than 2^32 bytes is room enough. */
+static void long_lengths_of_the_board(void) {
+    uint8_t lasting[QS_LASTING_LENGTH] = {0}, image[QS_IMAGE_LENGTH];
+    struct lengths n = right(EIGHT);
+    check(qs_fresh(8, 24, 0, 4, 55, wide, FAR + n.image) == QS_R1, "fresh and a long image", 0);
+    check(qs_restart(8, 24, 0, 4, 55, lasting, sizeof lasting, wide, FAR + n.image) == QS_R1, "restart and a long image", 0);
+    check(qs_restart(8, 24, 0, 4, 55, wide, FAR + QS_LASTING_LENGTH, image, n.image) == QS_R1, "restart and long lasting bytes", 0);
+    open_frame(EIGHT, 1000);
+    memcpy(wide, lent.image, QS_IMAGE_LENGTH);
+    remember();
+    check(qs_character(wide, FAR + n.image, 2000, 0, 0, lent.memory, n.memory, lent.room, n.room) == QS_R1, "a character and a long image", 0);
+    check(qs_poll(wide, FAR + n.image, 2000, lent.memory, n.memory, lent.room, n.room) == QS_R1, "a poll and a long image", 0);
+    check(qs_measured(wide, FAR + n.image, 2) == QS_R1, "measured and a long image", 0);
+    check(qs_fault(wide, FAR + n.image, 2) == QS_R1 && qs_power_on(wide, FAR + n.image) == QS_R1, "fault, power-on and a long image", 0);
+    check(memcmp(wide, before.image, QS_IMAGE_LENGTH) == 0, "a long image is as it was", 0);
+    check(qs_character(lent.image, n.image, 2000, 0, 0, wide, FAR + n.memory, lent.room, n.room) == QS_R2, "a character and a long memory", 0);
+    check(qs_poll(lent.image, n.image, 2000, wide, FAR + n.memory, lent.room, n.room) == QS_R2 && as_it_was(), "a poll and a long memory", 0);
+    check(qs_poll(lent.image, n.image, 2000, lent.memory, n.memory, wide, FAR + 3) == 5, "a poll and a long room", 0);
+    check(memcmp(wide, "\x40\x4E\x08\x00\x06", 5) == 0, "the reply is in it", 0);
+}
+
+/* Not requests and judged replies of that length: the library reads them to their end, which takes seconds. */
+static void long_lengths_of_the_bench(void) {
+    static const uint8_t request[] = {0x40, 0x4E, 0x0E}, reply[] = {0x40, 0x4E, 0x08, 0x00, 0x06};
+    memcpy(wide, reply, sizeof reply);
+    check(qs_request(0, 0x4E, wide, FAR, lent.room, QS_REQUEST_BUFFER) == QS_R5, "long data", 0);
+    check(qs_reply_length(request, 3, wide, FAR) == 5 && qs_reply_length(request, 3, wide, FAR + 1) == 5, "a long reply's length", 0);
+    check(qs_request(0, 0x4E, request, 0, wide, FAR + 3) == 3 && memcmp(wide, request, 3) == 0, "a long buffer", 0);
+}
+
+static void test_long_lengths(void) {
+    if (sizeof(size_t) < sizeof FAR)
+        return;
+    wide = mmap(NULL, (size_t)FAR + 4096, PROT_READ | PROT_WRITE, MAP_PRIVATE | MAP_ANONYMOUS | MAP_NORESERVE, -1, 0);
+    check(wide != MAP_FAILED, "2^32 bytes to lend", 0);
+    if (wide == MAP_FAILED)
+        return;
+    long_lengths_of_the_board();
+    memset(wide, 0, 4096);
+    long_lengths_of_the_bench();
+    munmap(wide, (size_t)FAR + 4096);
+}
+
 /* ---- macros --------------------------------------------------------------------------------------------------------------------------------------------- */
 
 static void test_verdict_macros(void) {
@@ -1253,9 +1168,6 @@ int main(void) {
     test_fresh();
     test_bad_plates();
     test_good_plates();
-    test_restart_lengths();
-    test_restart_numbers();
-    test_restart_dice();
     test_damaged_images();
     test_heads();
     test_memory_by_plate();
@@ -1277,9 +1189,9 @@ int main(void) {
     test_reply_lengths();
     test_reply_lengths_of_none();
     test_reply_lengths_as_judged();
+    test_long_lengths();
     test_verdict_macros();
     test_other_macros();
     test_layout();
-    printf("test.c: %lu checks, %lu failed\n", checks, failures);
-    return failures == 0 ? 0 : 1;
+    return ended();
 }
