@@ -1,2 +1,3 @@
 -- The definitions of `bench`, file by file.
 pub mod Outcomes
+pub mod Lengths

@@ -1,8 +1,11 @@
-// The bench: it writes requests and judges replies (01, "The bench").
+// The bench: it writes requests, tells how long a reply will be, and judges it (01, "The bench").
 mod bytes;
+mod length;
 mod reply;
 mod request;
 
+pub use length::Expected;
+pub use length::reply_length;
 pub use reply::Piece;
 pub use reply::Refusal;
 pub use reply::Verdict;

@@ -80,7 +80,7 @@ fn is_address(address: u8) -> bool
 }
 
 // B0: the request is one that the bench writes.
-fn is_written(request: &[u8]) -> bool
+pub(crate) fn is_written(request: &[u8]) -> bool
     ensures { λ r. ⌜ r ≡ written (now (request .entry)) ⌝ }
 {
     if request.len() < 3 {
@@ -106,7 +106,7 @@ fn from_asked(asked: u8, answering: u8) -> bool
 }
 
 // B4: the command without bit 7 is the request's or 50h.
-fn command_fits(asked: u8, answering: u8) -> bool
+pub(crate) fn command_fits(asked: u8, answering: u8) -> bool
     ensures { λ r. ⌜ r ≡ either (eqb (answering % 128) asked) (eqb (answering % 128) 0x50) ⌝ }
 {
     let low = answering % 128;
@@ -117,7 +117,7 @@ fn command_fits(asked: u8, answering: u8) -> bool
 }
 
 // 01, "A reply whose command is 50h or D0h is error code, except to a request 50h".
-fn is_error(asked: u8, answering: u8) -> bool
+pub(crate) fn is_error(asked: u8, answering: u8) -> bool
     ensures { λ r. ⌜ r ≡ both (eqb (answering % 128) 0x50) (not (eqb asked 0x50)) ⌝ }
 {
     if answering % 128 == ERROR_REPLY {

@@ -1,15 +1,20 @@
 -- The bench's answers as numbers. Assumes nothing.
-use Prim.Native.Nat.{ℕ}
-use mathlib.Core.Path.{_≡_, refl, sym, ap, _∙_}
+use Prim.Native.Nat.{ℕ, _+_, _*_, _≤_}
+use mathlib.Core.Path.{_≡_, refl, sym, ap, subst, _∙_}
 use mathlib.Core.Bool.{true, false}
 use mathlib.Core.List.{List}
+use lib.ListN.{length}
 use Rattle.meaning.specs.Bench as meaning
+use Rattle.meaning.specs.Bench.{judge}
 use Rattle.bench.specs.declared.request.Written.{Written}
 use Rattle.bench.specs.declared.request.Written.the-variants.{Request, R4, R5}
+use Rattle.bench.specs.declared.reply.Piece.{Piece}
 use Rattle.bench.specs.declared.reply.Verdict.{Verdict}
 use Rattle.bench.specs.declared.reply.Verdict.the-variants.{Done, DoneWithWarning, Error, ErrorWithWarning, Refused}
-use Rattle.bench.specs.Outcomes.{writtenOf, verdictOf, withoutData}
-use Rattle.quicksetter.specs.Verdicts.{requestNumber, writtenNumber, verdictNumber, verdictCode, Writes}
+use Rattle.bench.proofs.Lengths.{piece-fits}
+use Rattle.bench.specs.Outcomes.{writtenOf, verdictOf, withoutData, pieceFrom, pieceBy}
+use Rattle.bench.proofs.Verdicts.{handed-by}
+use Rattle.quicksetter.specs.Verdicts.{requestNumber, writtenNumber, verdictNumber, verdictCode, pieceNumber, Writes}
 
 -- the code's number is the meaning's
 written-is : (w : Written) (buffer : List ℕ) → requestNumber (writtenOf w buffer) ≡ writtenNumber w
@@ -49,3 +54,15 @@ without-data (meaning.failed false e) = refl
 
 pub judged : (v : meaning.Verdict) (x : Verdict) {r : ℕ} → verdictOf x ≡ withoutData v → r ≡ verdictCode x → r ≡ verdictNumber v
 judged v x e q = q ∙ sym (verdict-is x) ∙ ap verdictNumber e ∙ without-data v
+
+-- the data part's place and length, from the contracts of the judge and of the piece: neither is large
+module _ (q r : List ℕ) (p : Piece) (v : Verdict) (e : verdictOf v ≡ withoutData (judge q r)) (h : pieceFrom p ≡ pieceBy (length r) v) where
+  piece-handed : pieceFrom p ≡ meaning.handed q r
+  piece-handed = h ∙ sym (handed-by q r v e)
+
+  pub piece-small : (p .from ≤ 2) × (p .count ≤ 131)
+  piece-small = subst (λ (x : meaning.Piece). (x .from ≤ 2) × (x .count ≤ 131)) (sym piece-handed) (piece-fits q r)
+
+  pub piece-number : p .from * 0x100000000 + p .count ≡ pieceNumber (meaning.handed q r)
+  unfolding pieceNumber
+  piece-number = ap pieceNumber piece-handed

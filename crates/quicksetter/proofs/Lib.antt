@@ -7,6 +7,7 @@ mod Heads
 mod Starting
 mod Resting
 mod Judging
+pub mod Lengths
 pub mod Tight
 pub mod Theorems
 pub mod Staying

@@ -5,10 +5,10 @@ use Prim.Native.Nat.{ℕ}
 use Rattle.meaning.specs.State.{Plate}
 use Rattle.meaning.specs.Run.{Call}
 use Rattle.meaning.specs.Bench as meaning
+use Rattle.bench.specs.Lengths.{replyLength}
 use Rattle.wire.proofs.Tight.{same-outcome}
-use Rattle.quicksetter.specs.declared.replies.Piece.{Piece}
 use Rattle.quicksetter.specs.Calls.{Called, Freshens, Restarts}
-use Rattle.quicksetter.specs.Verdicts.{Writes, verdictNumber, pieceForC}
+use Rattle.quicksetter.specs.Verdicts.{Writes, verdictNumber, expectedNumber, pieceNumber}
 
 -- what a call's outcome is made of
 pub record Alike (r t : ℕ) (img′ img″ m′ m″ w′ w″ : List ℕ) : Type 0 where
@@ -45,5 +45,8 @@ request-tight w x y = (x .answer ∙ sym (y .answer), x .buffer ∙ sym (y .buff
 pub judge-tight : (q a : List ℕ) (r t : ℕ) → r ≡ verdictNumber (meaning.judge q a) → t ≡ verdictNumber (meaning.judge q a) → r ≡ t
 judge-tight q a = same-outcome (verdictNumber (meaning.judge q a))
 
-pub data-part-tight : (q a : List ℕ) (r t : Piece) → r ≡ pieceForC (meaning.handed q a) → t ≡ pieceForC (meaning.handed q a) → r ≡ t
-data-part-tight q a = same-outcome (pieceForC (meaning.handed q a))
+pub data-part-tight : (q a : List ℕ) (r t : ℕ) → r ≡ pieceNumber (meaning.handed q a) → t ≡ pieceNumber (meaning.handed q a) → r ≡ t
+data-part-tight q a = same-outcome (pieceNumber (meaning.handed q a))
+
+pub reply-length-tight : (q s : List ℕ) (r t : ℕ) → r ≡ expectedNumber (replyLength q s) → t ≡ expectedNumber (replyLength q s) → r ≡ t
+reply-length-tight q s = same-outcome (expectedNumber (replyLength q s))

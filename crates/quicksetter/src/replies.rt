@@ -1,21 +1,16 @@
-// The bench: requests written, replies judged, and the data part of a reply (01, "The bench").
+// The bench: requests written, the length of a reply, replies judged, and the data part of a reply (01, "The bench").
 ghost use mathlib.Core.Path.{_≡_};
 ghost use Prim.Native.Nat.{_<_};
 ghost use lib.ListN.{length};
 ghost use Rattle.meaning.specs.Bench as meaning;
 ghost use Rattle.bench.specs.Outcomes.{checkNumber};
-ghost use Rattle.quicksetter.specs.Verdicts.{writtenNumber, verdictNumber, verdictCode, pieceForC, Writes};
+ghost use Rattle.bench.specs.Lengths.{replyLength};
+ghost use Rattle.quicksetter.specs.Verdicts.{writtenNumber, verdictNumber, verdictCode, expectedNumber, pieceNumber, Writes};
 use crate::answer::REFUSED;
+use bench::Expected;
 use bench::Refusal;
 use bench::Verdict;
 use bench::Written;
-
-// Where a reply's data part starts, and its length.
-#[repr(C)]
-pub struct Piece {
-    pub place: usize,
-    pub length: usize,
-}
 
 fn written_number(written: Written) -> usize
     ensures { λ r. ⌜ r ≡ writtenNumber written ⌝ }
@@ -74,15 +69,32 @@ pub extern "C" fn qs_judge(request: &[u8], reply: &[u8]) -> u32
     verdict_code(bench::judge(request, reply))
 }
 
-// 01, "the data part is handed back as a piece of the reply itself, and on refusal as the empty piece at its front".
+// 01, "the data part is handed back as a piece of the reply itself, and on refusal as the empty piece at its front": its place in the high 32 bits, its length in the low.
 #[no_mangle]
-pub extern "C" fn qs_data_part(request: &[u8], reply: &[u8]) -> Piece
-    ensures { λ r. ⌜ r ≡ pieceForC (meaning.handed (now (request .entry)) (now (reply .entry))) ⌝ }
+pub extern "C" fn qs_data_part(request: &[u8], reply: &[u8]) -> u64
+    ensures { λ r. ⌜ r ≡ pieceNumber (meaning.handed (now (request .entry)) (now (reply .entry))) ⌝ }
 {
     let verdict = bench::judge(request, reply);
     let piece = verdict.piece(reply.len());
-    Piece {
-        place: piece.from,
-        length: piece.count,
+    let place = piece.from as u64;
+    let length = piece.count as u64;
+    place * 0x100000000 + length
+}
+
+fn expected_number(expected: Expected) -> u64
+    ensures { λ r. ⌜ r ≡ expectedNumber expected ⌝ }
+{
+    match expected {
+        Expected::Unknown => 0,
+        Expected::Bytes(n) => n as u64,
+        Expected::Refused(refusal) => 1024 + refusal_number(refusal) as u64,
     }
+}
+
+// How long the reply will be that begins so, 0 while that is not known, or B0, B4, B5.
+#[no_mangle]
+pub extern "C" fn qs_reply_length(request: &[u8], reply: &[u8]) -> u64
+    ensures { λ r. ⌜ r ≡ expectedNumber (replyLength (now (request .entry)) (now (reply .entry))) ⌝ }
+{
+    expected_number(bench::reply_length(request, reply))
 }
