@@ -990,7 +990,7 @@ static size_t request_of(const char *address, const char *asked, uint8_t *reques
     return sealed(hex, request);
 }
 
-/* What is told of a reply of n bytes that begins so, as far as it is here; nothing before its second byte, and neither its address nor its rest is read. */
+/* What is told of a reply that begins so, as far as it is here: nothing before its second byte, and neither its address nor its rest is read. */
 static void length_is(const uint8_t *request, size_t asked, uint8_t command, uint64_t expected, unsigned long number) {
     static const uint8_t addresses[] = {0x40, 0x5F, 0x00, 0xFF};
     static const uint64_t here[] = {2, 3, 4, 5, QS_REPLY_ROOM, QS_REPLY_ROOM + 1, 300};
@@ -999,8 +999,8 @@ static void length_is(const uint8_t *request, size_t asked, uint8_t command, uin
     reply[1] = command;
     for (size_t i = 0; i < COUNT(addresses); i++) {
         reply[0] = addresses[i];
-        check(qs_reply_length(request, asked, reply, 0) == 0, "no length yet of no byte", number);
-        check(qs_reply_length(request, asked, reply, 1) == 0, "no length yet of one byte", number);
+        for (uint64_t none = 0; none < 2 && expected != QS_B0; none++)
+            check(qs_reply_length(request, asked, reply, none) == 0, "no length yet", number);
         for (size_t j = 0; j < COUNT(here); j++)
             check(qs_reply_length(request, asked, reply, here[j]) == expected, "a reply's length", number * 1000 + command);
     }
@@ -1046,6 +1046,18 @@ static void test_reply_lengths_of_none(void) {
     }
 }
 
+/* The header: "0 while fewer than two bytes are here; else .. QS_B0". So no request is refused that early. */
+static void test_reply_lengths_too_early(void) {
+    static const uint8_t reply[] = {0x40, 0x4E};
+    uint8_t request[QS_REQUEST_BUFFER];
+    for (size_t i = 0; i < COUNT(BAD); i++)
+        for (uint64_t here = 0; here < 2; here++) {
+            size_t asked = request_of("40", BAD[i], request);
+            check(qs_reply_length(request, asked, reply, here) == 0, "no request is refused before two bytes are here", i);
+            check(qs_reply_length(request, 0, reply, here) == 0, "nor none", i);
+        }
+}
+
 /* A reply that is judged has the length that was told from its second byte on; of one that is not, nothing else is told than the judge's own reason. */
 static void test_reply_lengths_as_judged(void) {
     for (size_t i = 0; i < COUNT(JUDGED); i++) {
@@ -1054,8 +1066,10 @@ static void test_reply_lengths_as_judged(void) {
         uint32_t verdict = JUDGED[i].verdict;
         for (size_t here = 0; here <= replied; here++) {
             uint64_t told = qs_reply_length(request, asked, reply, here);
-            if (here < 2)
+            if (here < 2 && verdict != QS_B0)
                 check(told == 0, "no length yet", i);
+            else if (here < 2)
+                continue; /* test_reply_lengths_too_early */
             else if (verdict < QS_VERDICT_REFUSED)
                 check(told == replied, "the length of a reply that is judged", i);
             else if (verdict == QS_B0 || verdict == QS_B4)
@@ -1188,6 +1202,7 @@ int main(void) {
     test_verdicts();
     test_reply_lengths();
     test_reply_lengths_of_none();
+    test_reply_lengths_too_early();
     test_reply_lengths_as_judged();
     test_long_lengths();
     test_verdict_macros();
