@@ -1,19 +1,49 @@
 # What a person calls by name; the gate itself is .ci/run.
-.PHONY: test demo bench clean
+.PHONY: help demo lib test bench clean always
 
 ANSWER = target/bin/answer
+ARCHIVE = target/staticlib/libquicksetter.a
+SHARED = target/libquicksetter.so
+LIB = target/lib
+
+help:
+	@echo 'make demo    a first session at the bench: the pallet night, run and told in words'
+	@echo 'make test    the whole gate: layout, proofs, must-fail edits, programs, tapes, C and Rust hosts, tools'
+	@echo 'make lib     the library for a C host, with header and example, in $(LIB)'
+	@echo 'make bench   measures, and writes docs/PERFORMANCE.md'
+	@echo 'make clean   removes target/'
+	@echo 'make $(ANSWER)'
+	@echo '             the answer program, brought up to date'
+	@echo 'make $(SHARED)'
+	@echo '             the proved library as a shared object, from which tools/explain.py has its judge'
+
+# The pallet night, run through the answer program and told in words.
+demo: $(ANSWER) $(SHARED)
+	@python3 tools/explain.py --run $(ANSWER) tools/sessions/pallet-night.txt
+
+# rt looks itself whether anything changed, which takes it a moment: the program is never older than the crates.
+$(ANSWER): always
+	@mkdir -p target
+	@test -e $@ || echo 'The answer program is proved from nothing, which takes some minutes.'
+	@rt check answer >target/answer.log 2>&1 || { cat target/answer.log; exit 1; }
+
+# rt staticlib proves anew each time, so make looks whether a file of the crates, or a folder where one went away, is newer.
+$(ARCHIVE): crates.txt $(shell find crates -name '*.rt' -o -name '*.antt' -o -type d)
+	rt staticlib quicksetter
+	@touch $@
+
+$(SHARED): $(ARCHIVE)
+	bash tools/shared.sh
+
+lib: $(ARCHIVE)
+	@mkdir -p $(LIB)/include
+	@cp host/quicksetter.h $(LIB)/include/
+	@cp $(ARCHIVE) host/example.c $(LIB)/
+	@echo 'gcc -std=c11 -O2 -I include example.c -L . -lquicksetter -o example' >$(LIB)/README
+	@echo 'In $(LIB): include/quicksetter.h, libquicksetter.a, example.c; README has the line that compiles the example.'
 
 test:
 	bash .ci/run
-
-# The pallet night, run through the answer program and told in words.
-demo: $(ANSWER)
-	@mkdir -p target
-	@python3 tools/tape.py write <tools/sessions/pallet-night.txt >target/pallet-night.tape
-	@python3 tools/explain.py --run $(ANSWER) target/pallet-night.tape
-
-$(ANSWER):
-	rt check answer
 
 bench:
 	python3 perf/run.py

@@ -1,14 +1,49 @@
-/* A small firmware host for one board, to be copied: a receive queue, a tick counter, the lent buffers. main plays the drive: it sends the frames of the
- * bench sheet, prints them with their replies, and ends in 1 if a reply is not the sheet's. */
+/* A small firmware host for one board, to be copied: a receive queue, a clock, the lent buffers, and a flash that keeps what must last. main plays the drive
+ * and the supply: it sends the frames of the bench sheet, lets the line echo, takes the supply away, prints all with the replies, and ends in 1 if a reply is
+ * not the one that belongs there. */
 #include "quicksetter.h"
 
+#include <inttypes.h>
 #include <stdbool.h>
+#include <stddef.h>
 #include <stdio.h>
 #include <string.h>
 
-/* ---- the host: what goes into a firmware ---------------------------------------------------------------------------------------------------------------- */
+/* ---- the clock ------------------------------------------------------------------------------------------------------------------------------------------ */
+
+/* A tick is 1/38400 s, 24 ticks in 625 microseconds. From 64 bits of microseconds the ticks wrap around at exactly 2^32; from 32 bits they would jump back
+ * every 71 minutes, and a frame that is open then would never end. */
+static uint32_t ticks_of_microseconds(uint64_t microseconds) {
+    return (uint32_t)(microseconds * 24 / 625);
+}
+
+/* A 32-bit timer widened to 64 bits: right as long as it is read once in 71 minutes, which polling does. */
+static uint64_t widened(uint64_t before, uint32_t timer) {
+    return before + (uint32_t)(timer - (uint32_t)before);
+}
+
+/* ---- the flash: what is there when the supply comes back ------------------------------------------------------------------------------------------------ */
 
 enum { LARGEST_TOTAL = 112, QUEUE_PLACES = 64 };
+
+/* A driver would keep two of these and write them in turn, so that a supply that goes during a write leaves the older one whole. */
+struct flash {
+    bool written;
+    uint8_t lasting[QS_LASTING_LENGTH];
+    uint32_t lasting_sum;
+    uint8_t memory[QS_MEMORY_LENGTH(LARGEST_TOTAL)];
+    uint32_t memory_sum;
+};
+
+/* qs_restart cannot tell wrong bytes from right ones, so the flash has sums (FNV-1a). */
+static uint32_t sum_of(const uint8_t *bytes, uint64_t length) {
+    uint32_t sum = 2166136261u;
+    for (uint64_t i = 0; i < length; i++)
+        sum = (sum ^ bytes[i]) * 16777619u;
+    return sum;
+}
+
+/* ---- the host: what goes into a firmware ---------------------------------------------------------------------------------------------------------------- */
 
 struct plate {
     uint32_t total, bits, address, ticks, pause;
@@ -27,89 +62,168 @@ struct queue {
 };
 
 struct host {
-    struct plate plate;
     uint8_t image[QS_IMAGE_LENGTH];
     uint8_t memory[QS_MEMORY_LENGTH(LARGEST_TOTAL)];
     uint8_t room[QS_REPLY_ROOM];
+    uint64_t memory_length;
     struct queue queue;
-    volatile uint32_t now; /* the tick counter, one tick in 1/38400 s; it may wrap around */
+    struct flash *flash;
+    uint64_t microseconds;
+    volatile bool sending; /* while the host's own reply is on the line */
 };
 
-/* Called once, with memory as the flash driver read it; `memory` NULL for a new board. False for a plate that the board refuses. */
-static bool host_start(struct host *host, struct plate plate, const uint8_t *memory) {
-    memset(host, 0, sizeof *host);
-    host->plate = plate;
-    if (qs_fresh(plate.total, plate.bits, plate.address, plate.ticks, plate.pause, host->image, sizeof host->image) != 0)
-        return false;
-    if (memory != NULL)
-        memcpy(host->memory, memory, QS_MEMORY_LENGTH(plate.total));
-    return true;
+static uint32_t host_now(struct host *host, uint32_t timer) {
+    host->microseconds = widened(host->microseconds, timer);
+    return ticks_of_microseconds(host->microseconds);
 }
 
-/* The receive interrupt: a character has ended. A full queue loses it, as a full receive register would. */
-static void host_received(struct host *host, uint8_t value, bool parity_fault) {
+/* What the last call changed goes to the flash. */
+static void host_keep(struct host *host) {
+    struct flash *flash = host->flash;
+    memcpy(flash->lasting, host->image + QS_IMAGE_LASTING, QS_LASTING_LENGTH);
+    flash->lasting_sum = sum_of(flash->lasting, QS_LASTING_LENGTH);
+    memcpy(flash->memory, host->memory, host->memory_length);
+    flash->memory_sum = sum_of(flash->memory, host->memory_length);
+    flash->written = true;
+}
+
+static bool lasting_is_whole(const struct flash *flash) {
+    return flash->lasting_sum == sum_of(flash->lasting, QS_LASTING_LENGTH);
+}
+
+static bool memory_is_whole(const struct host *host) {
+    return host->flash->memory_sum == sum_of(host->flash->memory, host->memory_length);
+}
+
+enum start { NEW_BOARD, RESTARTED, DAMAGED, NO_PLATE };
+
+static uint64_t fresh_image(struct host *host, struct plate p) {
+    return qs_fresh(p.total, p.bits, p.address, p.ticks, p.pause, host->image, sizeof host->image);
+}
+
+static uint64_t restarted_image(struct host *host, struct plate p) {
+    return qs_restart(p.total, p.bits, p.address, p.ticks, p.pause, host->flash->lasting, QS_LASTING_LENGTH, host->image, sizeof host->image);
+}
+
+/* 000's internal checksum error. A drive must not trust the position of a board whose offset is lost; a host that can tell no other way locks it too, by
+ * QS_FAULT_LOCKS_A. */
+enum { INTERNAL_CHECKSUM_ERROR = 0x06 };
+
+/* What was damaged starts fresh, what is whole stays, and the drive is told by a fault code. */
+static enum start damaged_start(struct host *host, struct plate plate) {
+    if (memory_is_whole(host))
+        memcpy(host->memory, host->flash->memory, host->memory_length);
+    if (!lasting_is_whole(host->flash) || restarted_image(host, plate) != 0)
+        (void)fresh_image(host, plate);
+    (void)qs_fault(host->image, sizeof host->image, INTERNAL_CHECKSUM_ERROR);
+    return DAMAGED;
+}
+
+static enum start image_and_memory(struct host *host, struct plate plate) {
+    if (fresh_image(host, plate) != 0)
+        return NO_PLATE;
+    if (!host->flash->written)
+        return NEW_BOARD;
+    if (!lasting_is_whole(host->flash) || !memory_is_whole(host) || restarted_image(host, plate) != 0)
+        return damaged_start(host, plate);
+    memcpy(host->memory, host->flash->memory, host->memory_length);
+    return RESTARTED;
+}
+
+/* Called when the supply comes on, with the position that is measured then. */
+static enum start host_start(struct host *host, struct plate plate, struct flash *flash, uint32_t position) {
+    memset(host, 0, sizeof *host);
+    host->flash = flash;
+    host->memory_length = plate.total <= LARGEST_TOTAL ? QS_MEMORY_LENGTH(plate.total) : 0;
+    enum start start = image_and_memory(host, plate);
+    if (start != NO_PLATE)
+        (void)qs_measured(host->image, sizeof host->image, position);
+    return start;
+}
+
+/* The receive interrupt: a character has ended. On a half-duplex line the receiver hears the host's own reply: that is not handed in. A full queue loses a
+ * character, as a full receive register would. */
+static void host_received(struct host *host, uint32_t timer, uint8_t value, bool parity_fault) {
     struct queue *queue = &host->queue;
-    if (queue->written - queue->taken == QUEUE_PLACES)
+    if (host->sending || queue->written - queue->taken == QUEUE_PLACES)
         return;
-    queue->places[queue->written % QUEUE_PLACES] = (struct received){host->now, value, parity_fault};
+    queue->places[queue->written % QUEUE_PLACES] = (struct received){host_now(host, timer), value, parity_fault};
     queue->written++;
 }
 
 /* One turn of the main loop: takes the oldest character, or polls if none waits. Returns the length of the reply in host->room that is now to be sent, 0 for
- * none. The state image and the lengths are the host's own, so no refusal can come; if one does, the board keeps silent. */
-static size_t host_turn(struct host *host) {
+ * none. What the reply acknowledges is in the flash before it is sent. A reply to a frame that the next character closed is not sent: the master is sending
+ * already. The lengths are the host's own and the image is what the last call left, so no refusal can come; if one does, the board keeps silent. */
+static uint64_t host_turn(struct host *host, uint32_t timer) {
     struct queue *queue = &host->queue;
-    const struct plate *p = &host->plate;
-    size_t memory_length = QS_MEMORY_LENGTH(p->total);
-    size_t length;
+    uint64_t length;
     /* The clock is read before the queue: a character that ends in between is then never older than the poll. */
-    uint32_t now = host->now;
-    if (queue->taken != queue->written) {
+    uint32_t now = host_now(host, timer);
+    bool line_is_busy = queue->taken != queue->written;
+    if (line_is_busy) {
         struct received r = queue->places[queue->taken % QUEUE_PLACES];
         queue->taken++;
-        length = qs_character(host->image, sizeof host->image, r.tick, r.value, r.parity, p->total, p->bits, p->address, p->ticks, p->pause, host->memory,
-                              memory_length, host->room, sizeof host->room);
+        length = qs_character(host->image, sizeof host->image, r.tick, r.value, r.parity, host->memory, host->memory_length, host->room, sizeof host->room);
     } else {
-        length = qs_poll(host->image, sizeof host->image, now, p->total, p->bits, p->address, p->ticks, p->pause, host->memory, memory_length, host->room,
-                         sizeof host->room);
+        length = qs_poll(host->image, sizeof host->image, now, host->memory, host->memory_length, host->room, sizeof host->room);
     }
-    return QS_IS_REFUSED(length) ? 0 : length;
+    if (length == 0 || QS_IS_REFUSED(length))
+        return 0;
+    if (QS_MAY_CHANGE(host->room[1]))
+        host_keep(host);
+    return line_is_busy ? 0 : length;
 }
 
-static void host_measured(struct host *host, uint32_t position) {
-    const struct plate *p = &host->plate;
-    (void)qs_measured(host->image, sizeof host->image, position, p->total, p->bits, p->address, p->ticks, p->pause);
+/* ---- the line and the drive at its other end ------------------------------------------------------------------------------------------------------------ */
+
+static const struct plate SHEET = {.total = 112, .bits = 24, .address = 0, .ticks = 4, .pause = 55};
+static const struct plate EIGHT_BLOCKS = {.total = 8, .bits = 24, .address = 0, .ticks = 4, .pause = 55};
+
+enum { BIT_MICROSECONDS = 105, CHARACTER_BITS = 11, PAUSE_BITS = 55, PATIENCE_BITS = 60 };
+
+/* The host's 32-bit microsecond timer. */
+static uint32_t timer;
+
+/* How often the host wanted to send while the drive did. */
+static unsigned collisions;
+
+static void pass(unsigned bits) {
+    timer += bits * BIT_MICROSECONDS;
 }
 
-static void host_fault(struct host *host, uint8_t code) {
-    const struct plate *p = &host->plate;
-    (void)qs_fault(host->image, sizeof host->image, code, p->total, p->bits, p->address, p->ticks, p->pause);
-}
-
-static void host_power_on(struct host *host) {
-    const struct plate *p = &host->plate;
-    (void)qs_power_on(host->image, sizeof host->image, p->total, p->bits, p->address, p->ticks, p->pause);
-}
-
-/* ---- the drive at the other end of the wire ------------------------------------------------------------------------------------------------------------- */
-
-/* Sends a frame at the line's full speed and waits for the pause: a character is eleven bits. Returns the reply's length. */
-static size_t exchange(struct host *host, const uint8_t *frame, size_t length) {
-    size_t replied = 0;
-    for (size_t i = 0; i < length; i++) {
-        host->now += 11 * host->plate.ticks;
-        host_received(host, frame[i], false);
-        replied = host_turn(host);
+/* The host sends its reply, and the half-duplex line brings each character back to it. */
+static void send_reply(struct host *host, uint64_t length) {
+    host->sending = true;
+    for (uint64_t i = 0; i < length; i++) {
+        pass(CHARACTER_BITS);
+        host_received(host, timer, host->room[i], false);
     }
-    for (uint32_t waited = 0; replied == 0 && waited < host->plate.pause * host->plate.ticks; waited++) {
-        host->now++;
-        replied = host_turn(host);
+    host->sending = false;
+}
+
+static void send_frame(struct host *host, const uint8_t *frame, uint64_t length) {
+    for (uint64_t i = 0; i < length; i++) {
+        pass(CHARACTER_BITS);
+        host_received(host, timer, frame[i], false);
+        collisions += host_turn(host, timer) != 0;
     }
+}
+
+/* Sends a frame at the line's full speed and waits for the reply. Returns its length, 0 for silence. */
+static uint64_t exchange(struct host *host, const uint8_t *frame, uint64_t length) {
+    uint64_t replied = 0;
+    send_frame(host, frame, length);
+    for (unsigned waited = 0; replied == 0 && waited < PATIENCE_BITS; waited++) {
+        pass(1);
+        replied = host_turn(host, timer);
+    }
+    if (replied != 0)
+        send_reply(host, replied);
     return replied;
 }
 
-static size_t bytes_of(const char *hex, uint8_t *bytes) {
-    size_t n = 0;
+static uint64_t bytes_of(const char *hex, uint8_t *bytes) {
+    uint64_t n = 0;
     unsigned value;
     int used;
     while (sscanf(hex, "%2x%n", &value, &used) == 1) {
@@ -119,17 +233,17 @@ static size_t bytes_of(const char *hex, uint8_t *bytes) {
     return n;
 }
 
-static void print_bytes(const uint8_t *bytes, size_t n) {
-    for (size_t i = 0; i < n; i++)
+static void print_bytes(const uint8_t *bytes, uint64_t n) {
+    for (uint64_t i = 0; i < n; i++)
         printf(" %02X", bytes[i]);
 }
 
-/* One line of the sheet: what is sent, and what is to come back. True if it does. */
-static bool sheet_line(struct host *host, const char *request, const char *reply) {
+/* What is sent, and what is to come back. True if it does. */
+static bool asked(struct host *host, const char *request, const char *reply) {
     uint8_t sent[QS_REQUEST_BUFFER], expected[QS_REPLY_ROOM];
-    size_t sent_length = bytes_of(request, sent);
-    size_t expected_length = bytes_of(reply, expected);
-    size_t length = exchange(host, sent, sent_length);
+    uint64_t sent_length = bytes_of(request, sent);
+    uint64_t expected_length = bytes_of(reply, expected);
+    uint64_t length = exchange(host, sent, sent_length);
     bool same = length == expected_length && memcmp(host->room, expected, length) == 0;
     printf(" ");
     print_bytes(sent, sent_length);
@@ -137,80 +251,154 @@ static bool sheet_line(struct host *host, const char *request, const char *reply
     if (length == 0)
         printf(" silence");
     print_bytes(host->room, length);
-    printf("%s\n", same ? "" : "   NOT THE SHEET'S");
+    printf("%s\n", same ? "" : "   NOT WHAT BELONGS THERE");
     return same;
 }
 
-static bool start_sheet(struct host *host, const char *title, uint32_t total) {
+static bool started(struct host *host, struct plate plate, struct flash *flash, uint32_t position, enum start wanted, const char *title) {
+    enum start start = host_start(host, plate, flash, position);
     printf("%s\n", title);
-    return host_start(host, (struct plate){.total = total, .bits = 24, .address = 0, .ticks = 4, .pause = 55}, NULL);
+    if (start == DAMAGED)
+        printf("  what must last is damaged: fault %02Xh is noted, and the damaged part starts fresh\n", INTERNAL_CHECKSUM_ERROR);
+    if (start != wanted)
+        printf("  NOT THE START THAT BELONGS THERE\n");
+    return start == wanted;
 }
 
-static bool fields_of_the_sheet(struct host *host) {
-    bool good = start_sheet(host, "112 blocks: 000's own example, 002's fields", 112);
-    good &= sheet_line(host, "40 4E 0E", "40 4E 70 00 7E");
-    good &= sheet_line(host, "FF 4E B1", "40 4E 70 00 7E");
-    good &= sheet_line(host, "41 4E 0F", "");
-    good &= sheet_line(host, "40 4D 00 C9 55 91", "40 4D 00 C9 C4");
-    good &= sheet_line(host, "40 4D 01 E0 55 B9", "40 4D 01 E0 EC");
+/* ---- the bench sheet ------------------------------------------------------------------------------------------------------------------------------------ */
+
+static bool fields_of_the_sheet(struct host *host, struct flash *flash) {
+    bool good = started(host, SHEET, flash, 0, NEW_BOARD, "112 blocks: 000's own example, 002's fields");
+    good &= asked(host, "40 4E 0E", "40 4E 70 00 7E");
+    good &= asked(host, "FF 4E B1", "40 4E 70 00 7E");
+    good &= asked(host, "41 4E 0F", "");
+    good &= asked(host, "40 4D 00 C9 55 91", "40 4D 00 C9 C4");
+    good &= asked(host, "40 4D 01 E0 55 B9", "40 4D 01 E0 EC");
     return good;
 }
 
-static bool pallet_of_the_sheet(struct host *host) {
-    bool good = start_sheet(host, "8 blocks: a field cut from eight to two", 8);
-    good &= sheet_line(host, "40 4D 00 C7 55 9F", "40 4D 00 C7 CA");
-    good &= sheet_line(host, "40 4E 0E", "40 4E 00 01 0F");
-    good &= sheet_line(host, "40 4D 00 C1 55 99", "40 4D 00 C1 CC");
-    good &= sheet_line(host, "40 4E 0E", "40 4E 06 01 09");
-    good &= sheet_line(host, "40 4D 01 C6 55 9F", "40 50 10 00");
-    good &= sheet_line(host, "40 4D 01 C5 55 9C", "40 4D 01 C5 C9");
+static bool pallet_of_the_sheet(struct host *host, struct flash *flash) {
+    bool good = started(host, EIGHT_BLOCKS, flash, 0, NEW_BOARD, "8 blocks: a field cut from eight to two");
+    good &= asked(host, "40 4D 00 C7 55 9F", "40 4D 00 C7 CA");
+    good &= asked(host, "40 4E 0E", "40 4E 00 01 0F");
+    good &= asked(host, "40 4D 00 C1 55 99", "40 4D 00 C1 CC");
+    good &= asked(host, "40 4E 0E", "40 4E 06 01 09");
+    good &= asked(host, "40 4D 01 C6 55 9F", "40 50 10 00");
+    good &= asked(host, "40 4D 01 C5 55 9C", "40 4D 01 C5 C9");
     return good;
 }
 
-static bool faults_of_the_sheet(struct host *host) {
-    bool good = start_sheet(host, "Faulty frames, the counter's end, the position", 112);
-    good &= sheet_line(host, "40 4E 0F", "40 50 0A 1A");
-    good &= sheet_line(host, "40 44 04", "40 50 0B 1B");
+static bool faults_of_the_sheet(struct host *host, struct flash *flash) {
+    bool good = started(host, SHEET, flash, 0, NEW_BOARD, "Faulty frames, the counter's end, the position, the reset without a reply");
+    good &= asked(host, "40 4E 0F", "40 50 0A 1A");
+    good &= asked(host, "40 44 04", "40 50 0B 1B");
     memset(host->image + QS_IMAGE_COUNTER, 0xFF, 3);
-    good &= sheet_line(host, "40 47 07", "40 C7 87");
-    good &= sheet_line(host, "40 50 10", "40 50 08 18");
-    host_measured(host, 5);
-    good &= sheet_line(host, "40 43 00 00 00 02 55 54", "40 43 03");
-    host_measured(host, 9);
-    good &= sheet_line(host, "40 42 02", "40 42 00 00 00 06 04");
-    host_fault(host, QS_FAULT_LOCKS_A);
-    good &= sheet_line(host, "40 42 02", "40 50 02 12");
-    host_power_on(host);
-    good &= sheet_line(host, "40 42 02", "40 42 00 00 00 06 04");
+    good &= asked(host, "40 47 07", "40 C7 87");
+    good &= asked(host, "40 50 10", "40 50 08 18");
+    (void)qs_measured(host->image, sizeof host->image, 5);
+    good &= asked(host, "40 43 00 00 00 02 55 54", "40 43 03");
+    (void)qs_measured(host->image, sizeof host->image, 9);
+    good &= asked(host, "40 42 02", "40 42 00 00 00 06 04");
+    (void)qs_fault(host->image, sizeof host->image, QS_FAULT_LOCKS_A);
+    good &= asked(host, "40 42 02", "40 50 02 12");
+    (void)qs_power_on(host->image, sizeof host->image);
+    good &= asked(host, "40 42 02", "40 42 00 00 00 06 04");
+    good &= asked(host, "40 53 13", "");
     return good;
 }
 
-/* The bench's side: a request written, sent and judged. */
-static bool bench_side(struct host *host) {
+/* The timer wraps around between two characters of a frame; the tick does not. */
+static bool wrap_inside_a_frame(struct host *host) {
+    printf("The microsecond timer wraps around inside a frame\n");
+    timer = UINT32_MAX - 2 * CHARACTER_BITS * BIT_MICROSECONDS;
+    return asked(host, "40 42 02", "40 42 00 00 00 06 04");
+}
+
+/* ---- what must last ------------------------------------------------------------------------------------------------------------------------------------- */
+
+/* A position is set, the counter counts, a code is changed, a field is made and filled. */
+static bool things_to_keep(struct host *host, struct flash *flash) {
+    bool good = started(host, EIGHT_BLOCKS, flash, 5, NEW_BOARD, "What must last: it is stored and acknowledged");
+    good &= asked(host, "40 43 00 00 00 02 55 54", "40 43 03");
+    good &= asked(host, "40 47 07", "40 47 07");
+    good &= asked(host, "40 47 07", "40 47 07");
+    good &= asked(host, "40 4F 01 55 A7 FC", "40 4F 01 0E");
+    good &= asked(host, "40 4D 00 D8 A7 72", "40 4D 00 D8 D5");
+    good &= asked(host, "40 4B 00 02 03 A7 11 22 33 AD", "40 4B 00 02 03 0A");
+    return good;
+}
+
+/* The supply goes: what stood in the host's RAM is gone, and the shaft is turned before it comes back. */
+static bool kept_over_a_restart(struct host *host, struct flash *flash) {
+    (void)qs_fault(host->image, sizeof host->image, 0x1E);
+    memset(host, 0xA5, sizeof *host);
+    bool good = started(host, EIGHT_BLOCKS, flash, 9, RESTARTED, "The supply was off: all of it is there, the waiting fault code is not");
+    good &= asked(host, "40 50 10", "40 50 00 10");
+    good &= asked(host, "40 42 02", "40 42 00 00 00 06 04");
+    good &= asked(host, "40 46 06", "40 46 00 00 02 04");
+    good &= asked(host, "40 4A 00 02 03 A7 AC", "40 4A 00 02 03 11 22 33 0B");
+    good &= asked(host, "40 4A 00 02 03 55 5E", "40 50 0F 1F");
+    return good;
+}
+
+/* The next request comes before the host has polled: its first character closes the 47h, whose reply is not sent. It counts all the same, and lasts. */
+static bool late_reply_is_kept(struct host *host, struct flash *flash) {
+    static const uint8_t count_up[] = {0x40, 0x47, 0x07};
+    printf("A reply that comes too late is not sent; what it acknowledged is kept\n");
+    send_frame(host, count_up, sizeof count_up);
+    pass(PAUSE_BITS);
+    bool good = asked(host, "40 46 06", "40 46 00 00 03 05");
+    good &= collisions == 0;
+    good &= host_start(host, EIGHT_BLOCKS, flash, 9) == RESTARTED;
+    good &= asked(host, "40 46 06", "40 46 00 00 03 05");
+    return good;
+}
+
+static bool damage_is_told(struct host *host, struct flash *flash) {
+    flash->lasting[QS_IMAGE_OFFSET - QS_IMAGE_LASTING] ^= 1;
+    bool good = started(host, EIGHT_BLOCKS, flash, 9, DAMAGED, "A bit of the lasting bytes has flipped; the fields are whole");
+    good &= asked(host, "40 46 06", "40 C6 00 00 00 86");
+    good &= asked(host, "40 50 10", "40 50 06 16");
+    good &= asked(host, "40 4C 00 0C", "40 4C 00 D8 D4");
+    return good;
+}
+
+/* ---- the bench's side ----------------------------------------------------------------------------------------------------------------------------------- */
+
+/* A request written, sent and judged. The master knows the reply's end once two bytes are here. */
+static bool bench_side(struct host *host, struct flash *flash) {
     uint8_t request[QS_REQUEST_BUFFER];
     const uint8_t field[] = {0};
-    size_t length = qs_request(QS_BROADCAST, QS_FIELD_STATUS, field, sizeof field, request, sizeof request);
+    bool good = started(host, SHEET, flash, 0, NEW_BOARD, "The bench asks every board for field 0; the one that answers has none");
+    uint64_t length = qs_request(QS_BROADCAST, QS_FIELD_STATUS, field, sizeof field, request, sizeof request);
     if (QS_IS_REFUSED(length))
         return false;
-    size_t replied = exchange(host, request, length);
+    uint64_t replied = exchange(host, request, length);
+    uint64_t told = qs_reply_length(request, length, host->room, 2);
     uint32_t verdict = qs_judge(request, length, host->room, replied);
-    struct qs_piece data = qs_data_part(request, length, host->room, replied);
-    printf("The bench asks for field 0 of a board that has none\n ");
+    uint64_t data = qs_data_part(request, length, host->room, replied);
+    printf(" ");
     print_bytes(request, length);
     printf(" ->");
     print_bytes(host->room, replied);
-    printf("   verdict %u, data at place %zu:", (unsigned)verdict, data.place);
-    print_bytes(host->room + data.place, data.length);
+    printf("   after two bytes: %" PRIu64 " to come in all; error %02Xh, data at place %" PRIu64 ":", told, QS_VERDICT_CODE(verdict), QS_DATA_PLACE(data));
+    print_bytes(host->room + QS_DATA_PLACE(data), QS_DATA_LENGTH(data));
     printf("\n");
-    return verdict == QS_VERDICT_ERROR + QS_ERROR_NO_FIELD;
+    return good && told == replied && QS_VERDICT_IS_ERROR(verdict) && QS_VERDICT_CODE(verdict) == QS_ERROR_NO_FIELD && !QS_VERDICT_WARNS(verdict);
 }
 
 int main(void) {
     static struct host host;
-    bool good = fields_of_the_sheet(&host);
-    good &= pallet_of_the_sheet(&host);
-    good &= faults_of_the_sheet(&host);
-    good &= bench_side(&host);
-    printf("%s\n", good ? "example: every reply is the sheet's" : "example: a reply is not the sheet's");
+    static struct flash sheet, pallet, faults, kept, bench;
+    bool good = fields_of_the_sheet(&host, &sheet);
+    good &= pallet_of_the_sheet(&host, &pallet);
+    good &= faults_of_the_sheet(&host, &faults);
+    good &= wrap_inside_a_frame(&host);
+    good &= things_to_keep(&host, &kept);
+    good &= kept_over_a_restart(&host, &kept);
+    good &= late_reply_is_kept(&host, &kept);
+    good &= damage_is_told(&host, &kept);
+    good &= bench_side(&host, &bench);
+    printf("%s\n", good ? "example: every reply is the one that belongs there" : "example: a reply is not the one that belongs there");
     return good ? 0 : 1;
 }

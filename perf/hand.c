@@ -2,6 +2,7 @@
 #include "hand.h"
 
 #include <stdbool.h>
+#include <stddef.h>
 #include <string.h>
 
 /* ---- the image ------------------------------------------------------------------------------------------------------------------------------------------ */
@@ -42,14 +43,16 @@ static bool queue_is_good(const uint8_t *q) {
     return q[3] == 0 || (may_wait(q[3]) && q[3] != q[0] && q[3] != q[1] && q[3] != q[2]);
 }
 
-static bool image_is_good(const uint8_t *image, uint32_t bits) {
+static bool state_is_good(const uint8_t *image) {
     const uint8_t *flags = image + QS_IMAGE_LOCKED;
-    return image[QS_IMAGE_COUNTER + 3] == 0 && (uint64_t)load(image + QS_IMAGE_OFFSET) >> bits == 0 && (flags[0] | flags[1] | flags[2] | flags[3]) <= 1 &&
+    return image[QS_IMAGE_COUNTER + 3] == 0 && (uint64_t)load(image + QS_IMAGE_OFFSET) >> image[QS_IMAGE_BITS] == 0 && (flags[0] | flags[1] | flags[2] | flags[3]) <= 1 &&
            image[QS_IMAGE_KEPT_NUMBER] <= QS_KEPT_BYTES && queue_is_good(image + QS_IMAGE_WAITING);
 }
 
-static bool numbers_are_good(const uint8_t *image, size_t image_length, uint32_t total, uint32_t bits, uint32_t address, uint32_t ticks, uint32_t pause) {
-    return image_length == QS_IMAGE_LENGTH && plate_is_good(total, bits, address, ticks, pause) && image_is_good(image, bits);
+static bool image_is_good(const uint8_t *image, uint64_t image_length) {
+    return image_length == QS_IMAGE_LENGTH && image[QS_IMAGE_LAYOUT] == QS_LAYOUT_NUMBER &&
+           plate_is_good(image[QS_IMAGE_TOTAL], image[QS_IMAGE_BITS], image[QS_IMAGE_ADDRESS], image[QS_IMAGE_TICKS], image[QS_IMAGE_PAUSE]) &&
+           state_is_good(image);
 }
 
 static void clear_frame(uint8_t *image) {
@@ -321,12 +324,13 @@ static unsigned judged(const struct work *w, uint8_t number) {
 }
 
 /* The open frame is over: its reply's length. */
-static size_t closed(uint8_t *image, uint32_t total, uint32_t bits, uint8_t own, uint8_t *memory, uint8_t *room) {
+static uint64_t closed(uint8_t *image, uint8_t *memory, uint8_t *room) {
     const uint8_t *kept = image + QS_IMAGE_KEPT;
     size_t n = image[QS_IMAGE_KEPT_NUMBER];
+    uint8_t own = (uint8_t)(0x40 + image[QS_IMAGE_ADDRESS]);
     if (n < 3 || (kept[0] != own && kept[0] != 0xFF))
         return 0;
-    struct work w = {image, memory, room + 2, kept + 2, n - 3, total, UINT32_MAX >> (32 - bits)};
+    struct work w = {image, memory, room + 2, kept + 2, n - 3, image[QS_IMAGE_TOTAL], UINT32_MAX >> (32 - image[QS_IMAGE_BITS])};
     uint8_t number = kept[1];
     unsigned outcome = judged(&w, number);
     if (outcome == QUIET)
@@ -346,35 +350,44 @@ static size_t closed(uint8_t *image, uint32_t total, uint32_t bits, uint8_t own,
     return length + 3;
 }
 
-static size_t refusal(const uint8_t *image, size_t image_length, uint32_t total, uint32_t bits, uint32_t address, uint32_t ticks, uint32_t pause,
-                      size_t memory_length, size_t room_length) {
-    if (!numbers_are_good(image, image_length, total, bits, address, ticks, pause))
+static uint64_t refusal(const uint8_t *image, uint64_t image_length, uint64_t memory_length, uint64_t room_length) {
+    if (!image_is_good(image, image_length))
         return QS_R1;
-    if (memory_length != QS_MEMORY_LENGTH(total))
+    if (memory_length != QS_MEMORY_LENGTH(image[QS_IMAGE_TOTAL]))
         return QS_R2;
     return room_length < QS_REPLY_ROOM ? QS_R3 : 0;
 }
 
+static bool is_over(const uint8_t *image, uint32_t tick) {
+    return tick - load(image + QS_IMAGE_LAST) >= (uint32_t)image[QS_IMAGE_PAUSE] * image[QS_IMAGE_TICKS];
+}
+
 /* ---- the calls ------------------------------------------------------------------------------------------------------------------------------------------ */
 
-size_t hand_fresh(uint32_t total, uint32_t bits, uint32_t address, uint32_t ticks, uint32_t pause, uint8_t *image, size_t image_length) {
+uint64_t hand_fresh(uint32_t total, uint32_t bits, uint32_t address, uint32_t ticks, uint32_t pause, uint8_t *image, uint64_t image_length) {
     if (image_length != QS_IMAGE_LENGTH || !plate_is_good(total, bits, address, ticks, pause))
         return QS_R1;
     memset(image, 0, QS_IMAGE_LENGTH);
+    image[QS_IMAGE_LAYOUT] = QS_LAYOUT_NUMBER;
+    image[QS_IMAGE_TOTAL] = (uint8_t)total;
+    image[QS_IMAGE_BITS] = (uint8_t)bits;
+    image[QS_IMAGE_ADDRESS] = (uint8_t)address;
+    image[QS_IMAGE_TICKS] = (uint8_t)ticks;
+    image[QS_IMAGE_PAUSE] = (uint8_t)pause;
     memset(image + QS_IMAGE_CODES, 0x55, 4);
     return 0;
 }
 
-size_t hand_character(uint8_t *image, size_t image_length, uint32_t tick, uint8_t value, uint8_t parity, uint32_t total, uint32_t bits, uint32_t address,
-                      uint32_t ticks, uint32_t pause, uint8_t *memory, size_t memory_length, uint8_t *room, size_t room_length) {
-    size_t refused = refusal(image, image_length, total, bits, address, ticks, pause, memory_length, room_length);
+uint64_t hand_character(uint8_t *image, uint64_t image_length, uint32_t tick, uint8_t value, uint8_t parity, uint8_t *memory, uint64_t memory_length,
+                        uint8_t *room, uint64_t room_length) {
+    uint64_t refused = refusal(image, image_length, memory_length, room_length);
     if (refused != 0)
         return refused;
-    size_t length = 0;
+    uint64_t length = 0;
     if (!image[QS_IMAGE_OPEN]) {
         clear_frame(image);
-    } else if (tick - load(image + QS_IMAGE_LAST) >= pause * ticks) {
-        length = closed(image, total, bits, (uint8_t)(0x40 + address), memory, room);
+    } else if (is_over(image, tick)) {
+        length = closed(image, memory, room);
         clear_frame(image);
     }
     uint8_t n = image[QS_IMAGE_KEPT_NUMBER];
@@ -391,34 +404,33 @@ size_t hand_character(uint8_t *image, size_t image_length, uint32_t tick, uint8_
     return length;
 }
 
-size_t hand_poll(uint8_t *image, size_t image_length, uint32_t tick, uint32_t total, uint32_t bits, uint32_t address, uint32_t ticks, uint32_t pause,
-                 uint8_t *memory, size_t memory_length, uint8_t *room, size_t room_length) {
-    size_t refused = refusal(image, image_length, total, bits, address, ticks, pause, memory_length, room_length);
+uint64_t hand_poll(uint8_t *image, uint64_t image_length, uint32_t tick, uint8_t *memory, uint64_t memory_length, uint8_t *room, uint64_t room_length) {
+    uint64_t refused = refusal(image, image_length, memory_length, room_length);
     if (refused != 0)
         return refused;
-    if (!image[QS_IMAGE_OPEN] || tick - load(image + QS_IMAGE_LAST) < pause * ticks)
+    if (!image[QS_IMAGE_OPEN] || !is_over(image, tick))
         return 0;
-    size_t length = closed(image, total, bits, (uint8_t)(0x40 + address), memory, room);
+    uint64_t length = closed(image, memory, room);
     clear_frame(image);
     return length;
 }
 
-size_t hand_measured(uint8_t *image, size_t image_length, uint32_t position, uint32_t total, uint32_t bits, uint32_t address, uint32_t ticks, uint32_t pause) {
-    if (!numbers_are_good(image, image_length, total, bits, address, ticks, pause))
+uint64_t hand_measured(uint8_t *image, uint64_t image_length, uint32_t position) {
+    if (!image_is_good(image, image_length))
         return QS_R1;
     store(image + QS_IMAGE_MEASURED, position);
     return 0;
 }
 
-size_t hand_fault(uint8_t *image, size_t image_length, uint8_t code, uint32_t total, uint32_t bits, uint32_t address, uint32_t ticks, uint32_t pause) {
-    if (!numbers_are_good(image, image_length, total, bits, address, ticks, pause))
+uint64_t hand_fault(uint8_t *image, uint64_t image_length, uint8_t code) {
+    if (!image_is_good(image, image_length))
         return QS_R1;
     note(image, code);
     return 0;
 }
 
-size_t hand_power_on(uint8_t *image, size_t image_length, uint32_t total, uint32_t bits, uint32_t address, uint32_t ticks, uint32_t pause) {
-    if (!numbers_are_good(image, image_length, total, bits, address, ticks, pause))
+uint64_t hand_power_on(uint8_t *image, uint64_t image_length) {
+    if (!image_is_good(image, image_length))
         return QS_R1;
     memset(image + QS_IMAGE_WAITING, 0, QS_IMAGE_KEPT - QS_IMAGE_WAITING);
     return 0;

@@ -1,16 +1,15 @@
-/* The board of hand.c: the calls of host/quicksetter.h with the same parameters, results, refusals and state image. */
+/* The board of hand.c: the calls of host/quicksetter.h with the same parameters, results, refusals and image. */
 #ifndef HAND_H
 #define HAND_H
 
 #include "../host/quicksetter.h"
 
-size_t hand_fresh(uint32_t total, uint32_t bits, uint32_t address, uint32_t ticks, uint32_t pause, uint8_t *image, size_t image_length);
-size_t hand_character(uint8_t *image, size_t image_length, uint32_t tick, uint8_t value, uint8_t parity, uint32_t total, uint32_t bits, uint32_t address,
-                      uint32_t ticks, uint32_t pause, uint8_t *memory, size_t memory_length, uint8_t *room, size_t room_length);
-size_t hand_poll(uint8_t *image, size_t image_length, uint32_t tick, uint32_t total, uint32_t bits, uint32_t address, uint32_t ticks, uint32_t pause,
-                 uint8_t *memory, size_t memory_length, uint8_t *room, size_t room_length);
-size_t hand_measured(uint8_t *image, size_t image_length, uint32_t position, uint32_t total, uint32_t bits, uint32_t address, uint32_t ticks, uint32_t pause);
-size_t hand_fault(uint8_t *image, size_t image_length, uint8_t code, uint32_t total, uint32_t bits, uint32_t address, uint32_t ticks, uint32_t pause);
-size_t hand_power_on(uint8_t *image, size_t image_length, uint32_t total, uint32_t bits, uint32_t address, uint32_t ticks, uint32_t pause);
+uint64_t hand_fresh(uint32_t total, uint32_t bits, uint32_t address, uint32_t ticks, uint32_t pause, uint8_t *image, uint64_t image_length);
+uint64_t hand_character(uint8_t *image, uint64_t image_length, uint32_t tick, uint8_t value, uint8_t parity, uint8_t *memory, uint64_t memory_length,
+                        uint8_t *room, uint64_t room_length);
+uint64_t hand_poll(uint8_t *image, uint64_t image_length, uint32_t tick, uint8_t *memory, uint64_t memory_length, uint8_t *room, uint64_t room_length);
+uint64_t hand_measured(uint8_t *image, uint64_t image_length, uint32_t position);
+uint64_t hand_fault(uint8_t *image, uint64_t image_length, uint8_t code);
+uint64_t hand_power_on(uint8_t *image, uint64_t image_length);
 
 #endif

@@ -7,14 +7,14 @@
 enum { LARGEST_RECORD = 8 };
 
 static uint8_t image[QS_IMAGE_LENGTH], memory[QS_MEMORY_LENGTH(112)], room[QS_REPLY_ROOM];
-static uint32_t total, bits, address, ticks, pause;
+static uint64_t memory_length;
 
 static uint32_t number_at(const uint8_t *at) {
     return (uint32_t)at[0] | (uint32_t)at[1] << 8 | (uint32_t)at[2] << 16 | (uint32_t)at[3] << 24;
 }
 
 /* The reply's line: tick in decimal, bytes in hex. */
-static void print_reply(uint32_t tick, size_t length) {
+static void print_reply(uint32_t tick, uint64_t length) {
     static const char digits[] = "0123456789ABCDEF";
     char line[12 + 3 * QS_REPLY_ROOM];
     char number[10];
@@ -25,7 +25,7 @@ static void print_reply(uint32_t tick, size_t length) {
     } while (tick != 0);
     while (first < sizeof number)
         line[n++] = number[first++];
-    for (size_t i = 0; i < length; i++) {
+    for (uint64_t i = 0; i < length; i++) {
         line[n++] = ' ';
         line[n++] = digits[room[i] >> 4];
         line[n++] = digits[room[i] & 15];
@@ -34,22 +34,20 @@ static void print_reply(uint32_t tick, size_t length) {
     fwrite(line, 1, n, stdout);
 }
 
-static size_t start(const uint8_t *body) {
-    total = body[0], bits = body[1], address = body[2], ticks = body[3], pause = body[4];
-    return CALL(fresh)(total, bits, address, ticks, pause, image, sizeof image);
+static uint64_t start(const uint8_t *body) {
+    memory_length = QS_MEMORY_LENGTH(body[0]);
+    return CALL(fresh)(body[0], body[1], body[2], body[3], body[4], image, sizeof image);
 }
 
 /* One record worked on the board: its reply's length, or a refusal. */
-static size_t work(unsigned kind, const uint8_t *body) {
+static uint64_t work(unsigned kind, const uint8_t *body) {
     switch (kind) {
     case 1: return start(body);
-    case 2:
-        return CALL(character)(image, sizeof image, number_at(body), body[4], body[5], total, bits, address, ticks, pause, memory, QS_MEMORY_LENGTH(total), room,
-                               sizeof room);
-    case 3: return CALL(poll)(image, sizeof image, number_at(body), total, bits, address, ticks, pause, memory, QS_MEMORY_LENGTH(total), room, sizeof room);
-    case 4: return CALL(measured)(image, sizeof image, number_at(body), total, bits, address, ticks, pause);
-    case 5: return CALL(fault)(image, sizeof image, body[0], total, bits, address, ticks, pause);
-    case 6: return CALL(power_on)(image, sizeof image, total, bits, address, ticks, pause);
+    case 2: return CALL(character)(image, sizeof image, number_at(body), body[4], body[5], memory, memory_length, room, sizeof room);
+    case 3: return CALL(poll)(image, sizeof image, number_at(body), memory, memory_length, room, sizeof room);
+    case 4: return CALL(measured)(image, sizeof image, number_at(body));
+    case 5: return CALL(fault)(image, sizeof image, body[0]);
+    case 6: return CALL(power_on)(image, sizeof image);
     default: return QS_R1;
     }
 }
@@ -86,7 +84,7 @@ int main(void) {
         if (follows < 2 || follows > LARGEST_RECORD || follows + 2 > left)
             return 1;
         const uint8_t *body = tape + place + 4;
-        size_t replied = work(tape[place + 2], body);
+        uint64_t replied = work(tape[place + 2], body);
         if (QS_IS_REFUSED(replied))
             return 1;
         if (replied != 0)

@@ -1,78 +1,49 @@
 #!/usr/bin/env python3
 """A session as a person reads it: what was asked, what came back, what the bench says of it.
 
-    explain.py TAPE ANSWERS         ANSWERS is what the answer program printed for TAPE
-    explain.py --run PROGRAM TAPE   runs the answer program on TAPE itself
+    explain.py FILE                 runs target/bin/answer on FILE, a session text or a tape
+    explain.py --run PROGRAM FILE   runs this answer program on FILE
+    explain.py FILE ANSWERS         ANSWERS is what an answer program printed for FILE
+    explain.py --log LOG            tells a log of both directions of a real line
+    --library OBJECT in front       takes the judge from there, not from target/libquicksetter.so
 
-A file named - is standard input. The number in front of a request is the tick of its first
-character, in front of a reply that of the character or poll that closed the request.
-Polls that close nothing are left out.
+A file named - is standard input. The time in front of a request is that of its first character,
+in front of a reply that of the character or poll that closed the request, in ticks of 1/38400 s and
+in milliseconds. Polls that close nothing are left out. Verdicts are those of the proved library.
+
+A session text is what tape.py takes (tape.py --help). Its `expect` lines are held to the replies.
+
+A log has one frame a line, its time, its direction and its bytes; what follows # is a comment:
+
+    0 > 40 4E 0E                    > from the master; the time is in milliseconds
+    12.4 ms < 40 4E 70 00 7E        < from a board: the reply to the request before it
+    480 ticks > FF4EB1              or in ticks; bytes as in a session: 404E, 0x40, commas
+
+Only a request to all boards (FFh) may have several replies.
+
+The last line sums up. Exit status: 0 if all is well; 1 for a bad line, log or tape, a failed
+expectation, a reply that the bench refuses (B1 to B6), that is missing or out of place, and where a
+file or program cannot be used; 2 for a command line that is none of these.
 """
 
+import os
 import subprocess
 import sys
-from typing import Iterator, List, NamedTuple, Optional, Tuple
+from collections import Counter
+from typing import Callable, Dict, List, NamedTuple, Optional, Tuple
 
-from tape import Bad, Character, Fault, Measured, Plate, Poll, PowerOn, Record, gap, hex_of, split, xor_of
+import bench
+from asking import Wanted
+from bench import Judge, Verdict
+from commands import WARNING, fault_words
+from frames import Frame, frame_at, frames_of, happenings, silence_due
+from records import Bad, Fault, Measured, Plate, milliseconds, split
+from tape import Expectation, Session, read_session
+from traffic import explain_log
+from words import Summary, entry, error_code, hex_lines, page_of, reply_words, request_words
+from written import WrittenError, complain, is_text, put_out, read_file, text_of_bytes
 
-KEPT_BYTES = 135
-BYTES_A_LINE = 24
-WARNING = 0x80
-ERROR = 0x50
-BROADCAST = 0xFF
-
-# Name, data of the request, data of the reply (None: no reply), how many of its bytes repeat the request's.
-# docs/COMMANDS.md is this table in full; a name with a number takes that many bytes, high first.
-COMMANDS = {
-    0x42: ("Read Position", [], ["position 4"], 0),
-    0x43: ("Set Position", ["position 4", "code"], [], 0),
-    0x46: ("Read Counter", [], ["counter 3"], 0),
-    0x47: ("Increment Counter", [], [], 0),
-    0x49: ("Reset Counter", ["code"], [], 0),
-    0x4A: ("Read Data", ["field", "offset", "count", "code"], ["field", "offset", "count", "data"], 3),
-    0x4B: ("Store Data", ["field", "offset", "count", "code", "data"], ["field", "offset", "count"], 3),
-    0x4C: ("Data Field Status", ["field"], ["field", "status"], 1),
-    0x4D: ("Create Data Field", ["field", "status", "code"], ["field", "status"], 2),
-    0x4E: ("Memory Status", [], ["free blocks", "fields"], 0),
-    0x4F: ("Set Access Code", ["code number", "old code", "new code"], ["code number"], 1),
-    0x50: ("Read Encoder Status", [], ["waiting"], 0),
-    0x53: ("Encoder Reset", [], None, 0),
-}
-
-ERRORS = {
-    0x02: "the position is locked",
-    0x03: "the status table is unsound",
-    0x08: "the counter went from FFFFFFh to 0",
-    0x09: "parity fault",
-    0x0A: "checksum wrong",
-    0x0B: "command unknown",
-    0x0C: "frame or data of the wrong length",
-    0x0D: "an argument out of range",
-    0x0E: "the field is read-only",
-    0x0F: "wrong access code",
-    0x10: "the blocks are not there, or the field is not the last",
-    0x11: "offset + count exceeds the field",
-    0x12: "no such field",
-}
-
-REFUSALS = {
-    "B0": "the request is not one the bench writes",
-    "B1": "reply under 3 bytes",
-    "B2": "checksum wrong",
-    "B3": "address not the asked one",
-    "B4": "command neither the request's nor 50h",
-    "B5": "data length not the command's",
-    "B6": "a number that the reply repeats differs from the request's",
-}
-
-
-class Frame(NamedTuple):
-    """A frame with the tick of the event that closed it; `closed` is None where none did."""
-
-    start: int
-    values: bytes
-    parity: bool
-    closed: Optional[int]
+ANSWER = os.path.join("target", "bin", "answer")
 
 
 class Reply(NamedTuple):
@@ -80,269 +51,153 @@ class Reply(NamedTuple):
     values: bytes
 
 
-# --- the bench's judge, B0 to B6 in order ---------------------------------------------------
+# --- which reply answers which frame --------------------------------------------------------
 
 
-def request_length(command: int, data: bytes) -> bool:
-    """Whether the data's length is the command's (01, step 6)."""
-    if command == 0x4B:
-        return 5 <= len(data) <= 132 and len(data) == 4 + data[2]
-    return len(data) == sum(size_of(part) for part in COMMANDS[command][1])
+def in_order(frames: int, replies: int, score: Callable[[int, int], int]) -> List[int]:
+    """The frame of each reply, rising, so that the scores add up to the most; there are at least as many frames as replies."""
+    never = -1
+    rows = [[0] * (frames + 1)]
+    for reply in range(replies):
+        row = [never] * (frames + 1)
+        for frame in range(reply, frames):
+            row[frame + 1] = max(row[frame], rows[reply][frame] + score(frame, reply))
+        rows.append(row)
+    chosen, frame = [], frames
+    for reply in range(replies, 0, -1):
+        while rows[reply][frame] == rows[reply][frame - 1]:
+            frame -= 1
+        frame -= 1
+        chosen.append(frame)
+    return chosen[::-1]
 
 
-def size_of(part: str) -> int:
-    last = part.split()[-1]
-    return int(last) if last.isdigit() else 1
-
-
-def bench_writes(request: bytes) -> bool:
-    """Whether these are the bytes of one request that the bench would write (B0)."""
-    if len(request) < 3 or xor_of(request) != 0:
-        return False
-    if request[0] not in range(0x40, 0x60) and request[0] != BROADCAST:
-        return False
-    command, data = request[1], request[2:-1]
-    if command not in COMMANDS or not request_length(command, data):
-        return False
-    if command == 0x4A:
-        return 1 <= data[2] <= 128
-    return command != 0x4F or data[0] <= 3
-
-
-def reply_fits(request: bytes, data: bytes) -> bool:
-    """Whether the data of an accepted reply has the command's length (B5)."""
-    command = request[1]
-    if command == 0x53:
-        return False
-    if command == 0x4A:
-        return len(data) == 3 + request[4]
-    return len(data) == sum(size_of(part) for part in COMMANDS[command][2])
-
-
-def judge(request: bytes, reply: bytes) -> str:
-    """The bench's verdict on a reply: `done`, `error 10h`, either with a warning, or B0 to B6."""
-    if not bench_writes(request):
-        return "B0"
-    if len(reply) < 3:
-        return "B1"
-    if xor_of(reply) != 0:
-        return "B2"
-    if reply[0] != request[0] and not (request[0] == BROADCAST and reply[0] in range(0x40, 0x60)):
-        return "B3"
-    command, data = reply[1] % WARNING, reply[2:-1]
-    if command not in (request[1], ERROR):
-        return "B4"
-    error = command == ERROR and request[1] != ERROR
-    if not (len(data) == 1 if error else reply_fits(request, data)):
-        return "B5"
-    repeated = 0 if error else COMMANDS[request[1]][3]
-    if data[:repeated] != request[2 : 2 + repeated]:
-        return "B6"
-    verdict = f"error {data[0]:02X}h" if error else "done"
-    return verdict + (" with warning" if reply[1] >= WARNING else "")
-
-
-# --- the tape cut into frames ---------------------------------------------------------------
-
-
-class Cutter:
-    """The frame that is open, by the plate's closing gap."""
-
-    def __init__(self, plate: Plate):
-        self.closing_gap = plate.closing_gap()
-        self.open: Optional[Frame] = None
-        self.last = 0
-
-    def close(self, tick: int) -> Optional[Frame]:
-        if self.open is None or gap(self.last, tick) < self.closing_gap:
-            return None
-        return self.drop()._replace(closed=tick)
-
-    def drop(self) -> Optional[Frame]:
-        frame, self.open = self.open, None
-        return frame
-
-    def add(self, character: Character):
-        frame = self.open or Frame(character.tick, b"", False, None)
-        parity = frame.parity or character.parity
-        self.open = frame._replace(values=frame.values + bytes([character.value]), parity=parity)
-        self.last = character.tick
-
-
-def happenings(records: List[Record]) -> Iterator[object]:
-    """What a person wants to see, in order: frames where they close, and the host's other calls."""
-    cutter = Cutter(records[0])
-    for record in records[1:]:
-        if isinstance(record, (Character, Poll)):
-            frame = cutter.close(record.tick)
-            if frame:
-                yield frame
-            if isinstance(record, Character):
-                cutter.add(record)
+def runs_of(frames: List[Frame]) -> List[List[Frame]]:
+    """Closed frames, those together that close one after the other at one tick."""
+    runs: List[List[Frame]] = []
+    for frame in frames:
+        if frame.closed is None:
             continue
-        yield record
-        if isinstance(record, PowerOn):
-            dropped = cutter.drop()
-            if dropped:
-                yield dropped
-    left = cutter.drop()
-    if left:
-        yield left
+        if runs and runs[-1][0].closed == frame.closed:
+            runs[-1].append(frame)
+        else:
+            runs.append([frame])
+    return runs
 
 
-# --- words ----------------------------------------------------------------------------------
+def shared_out(plate: Plate, run: List[Frame], replies: List[Reply], judge: Judge) -> List[int]:
+    """Which of the frames that close at one tick each reply answers: rather one that is to be answered, and rather one that it fits."""
+
+    def score(frame: int, reply: int) -> int:
+        fits = judge(run[frame].values, replies[reply].values).kind != "refused"
+        return 2 * (not silence_due(plate, run[frame])) + fits
+
+    return in_order(len(run), len(replies), score)
 
 
-def status_words(status: int) -> str:
-    """A status byte taken apart (01, "Status byte")."""
-    blocks = status % 8 + 1
-    parts = [
-        "exists" if status & 0x80 else "does not exist",
-        "write-enabled" if status & 0x40 else "read-only",
-        "code wanted" if status & 0x08 else "no code wanted",
-        f"code number {status >> 4 & 3}",
-        f"{blocks} block" + "s" * (blocks > 1),
-    ]
-    return f"status {status:02X}h ({', '.join(parts)})"
+def matched(plate: Plate, frames: List[Frame], replies: List[Reply], judge: Judge) -> Tuple[Dict[int, Reply], List[Reply]]:
+    """As `paired`, where replies are missing or too many: tick by tick, and a reply at a tick at which no frame closes hides none behind it."""
+    found: Dict[int, Reply] = {}
+    strays: List[Reply] = []
+    waiting = list(reversed(replies))
+    to_close = Counter(frame.closed for frame in frames)
+    for run in runs_of(frames):
+        while waiting and not to_close[waiting[-1].tick]:
+            strays.append(waiting.pop())
+        here: List[Reply] = []
+        while waiting and waiting[-1].tick == run[0].closed and len(here) < len(run):
+            here.append(waiting.pop())
+        for reply, frame in zip(here, shared_out(plate, run, here, judge)):
+            found[run[frame].first] = reply
+        to_close[run[0].closed] -= len(run)
+    return found, strays + waiting[::-1]
 
 
-def part_words(part: str, data: bytes) -> str:
-    """One part of a request's or reply's data in words."""
-    if part == "data":
-        return "data " + data_words(data)
-    if part == "status":
-        return status_words(data[0])
-    if part == "waiting":
-        return f"oldest waiting code {code_words(data[0])}" if data[0] else "no code waits"
-    if "code" in part and part != "code number":
-        return f"{part} {data[0]:02X}h"
-    name = part.rstrip(" 34")
-    return f"{name} {int.from_bytes(data, 'big')}"
+def paired(plate: Plate, frames: List[Frame], replies: List[Reply], judge: Judge) -> Tuple[Dict[int, Reply], List[Reply]]:
+    """The reply to each frame, by the place of its first character, and the replies that answer none.
 
-
-def data_words(data: bytes) -> str:
-    text = "".join(chr(byte) if 32 <= byte < 127 else "." for byte in data)
-    return f'{hex_of(data)} "{text}"'
-
-
-def code_words(code: int) -> str:
-    return f"{code:02X}h, {ERRORS[code]}" if code in ERRORS else f"{code:02X}h"
-
-
-def parts_words(parts: List[str], data: bytes) -> str:
-    words = []
-    for part in parts:
-        size = len(data) if part == "data" else size_of(part)
-        words.append(part_words(part, data[:size]))
-        data = data[size:]
-    return ", ".join(words)
-
-
-def change_words(data: bytes) -> str:
-    """What 4Dh is for, as far as the request alone tells."""
-    return "create or modify: " if data[1] & 0x80 else "delete: "
-
-
-def request_words(plate: Plate, frame: Frame) -> Tuple[str, bool]:
-    """A frame in words, and whether the board is to be silent on it."""
-    values = frame.values
-    own = 0x40 + plate.address
-    if len(values) < 3:
-        return f"too short: {len(values)} of at least 3 bytes", True
-    if values[0] not in (own, BROADCAST):
-        return f"for address byte {values[0]:02X}h, not ours ({own:02X}h)", True
-    if frame.parity:
-        return "a character had a parity fault", False
-    if xor_of(values) != 0:
-        return f"checksum wrong: {xor_of(values[:-1]):02X} would be right", False
-    if len(values) > KEPT_BYTES:
-        return f"{len(values)} bytes, longer than {KEPT_BYTES}", False
-    return command_words(values[1], values[2:-1])
-
-
-def command_words(command: int, data: bytes) -> Tuple[str, bool]:
-    if command not in COMMANDS:
-        return f"command {command:02X}h is unknown", False
-    name, parts, reply, _ = COMMANDS[command]
-    title = f"{command:02X}h {name}"
-    if not request_length(command, data):
-        return f"{title}: {len(data)} bytes of data are not its length", False
-    words = parts_words(parts, data)
-    if command == 0x4D:
-        words = change_words(data) + words
-    return title + (f": {words}" if words else ""), reply is None
-
-
-def reply_words(frame: Frame, reply: bytes) -> List[str]:
-    """A reply in words, then its warning, then the bench's verdict."""
-    lines = []
-    verdict = judge(frame.values, reply)
-    if len(reply) >= 3 and xor_of(reply) == 0:
-        lines.append(answer_words(frame.values, reply))
-        if reply[1] >= WARNING:
-            lines.append("warning bit: a fault code waits")
-    refused = REFUSALS.get(verdict)
-    lines.append(f"bench: refused {verdict}, {refused}" if refused else f"bench: {verdict}")
-    return [line for line in lines if line]
-
-
-def answer_words(request: bytes, reply: bytes) -> str:
-    """What a reply with a right checksum says, whether or not the bench takes it."""
-    command, data = reply[1] % WARNING, reply[2:-1]
-    asked = request[1] if len(request) > 1 else None
-    if command == ERROR and asked != ERROR and len(data) == 1:
-        return f"error {code_words(data[0])}"
-    if command != asked or not bench_writes(request) or not reply_fits(request, data):
-        return ""
-    return parts_words(COMMANDS[command][2], data)
+    A board answers each frame that is to be answered, at the tick at which it closes, and no other: then the replies are theirs, one by one.
+    """
+    due = [frame for frame in frames if frame.closed is not None and not silence_due(plate, frame)]
+    if [frame.closed for frame in due] == [reply.tick for reply in replies]:
+        return {frame.first: reply for frame, reply in zip(due, replies)}, []
+    return matched(plate, frames, replies, judge)
 
 
 # --- the page -------------------------------------------------------------------------------
 
 
-def entry(tick: Optional[int], what: str, lines: List[str]) -> List[str]:
-    """Lines with the tick and a word in front of the first."""
-    front = ["" if tick is None else str(tick)] + [""] * (len(lines) - 1)
-    words = [what] + [""] * (len(lines) - 1)
-    return [f"{a:>10}  {b:<8}  {line}".rstrip() for a, b, line in zip(front, words, lines)]
+def holds(wanted: Wanted, reply: Optional[Reply], verdict: Optional[Verdict]) -> bool:
+    """Whether what came is what was expected."""
+    if wanted is None or reply is None:
+        return wanted is None and reply is None
+    if isinstance(wanted, bytes):
+        return reply.values == wanted
+    if wanted.kind == "error":
+        return error_code(verdict, reply.values) == wanted.number and (reply.values[1] >= WARNING) == wanted.warning
+    return verdict == wanted
 
 
-def hex_lines(values: bytes) -> List[str]:
-    shown = values[: KEPT_BYTES + 1]
-    lines = [hex_of(shown[i : i + BYTES_A_LINE]) for i in range(0, len(shown), BYTES_A_LINE)]
-    if len(values) > len(shown):
-        lines.append(f".. {len(values)} bytes in all")
-    return lines
+class Teller:
+    """What tells a tape: its plate, which reply answers which frame, what is expected, the judge, and the sums so far."""
 
+    def __init__(self, plate: Plate, replies: Dict[int, Reply], expectations: Dict[int, List[Expectation]], judge: Judge):
+        self.plate = plate
+        self.replies = replies
+        self.expectations = expectations
+        self.judge = judge
+        self.summary = Summary()
 
-def frame_page(plate: Plate, frame: Frame, replies: List[Reply]) -> List[str]:
-    """A frame and its reply; the reply is taken off the front of `replies`."""
-    words, silent = request_words(plate, frame)
-    page = entry(frame.start, "request", hex_lines(frame.values) + [words])
-    if frame.closed is None:
-        return page + entry(None, "", ["never closed: no reply"])
-    if not replies or replies[0].tick != frame.closed:
-        silence = "silence" if silent else "silence, though a reply was due"
-        return page + entry(frame.closed, silence, [""])
-    reply = replies.pop(0).values
-    page += entry(frame.closed, "reply", hex_lines(reply) + reply_words(frame, reply))
-    return page + (entry(None, "", ["a reply, though silence was due"]) if silent else [])
+    def expected(self, frame: Frame, verdict: Optional[Verdict]) -> List[str]:
+        """The expectations of a frame, each with whether it holds."""
+        lines = []
+        for expectation in self.expectations.get(frame.first, []):
+            held = holds(expectation.wanted, self.replies.get(frame.first), verdict)
+            lines.append(f"line {expectation.line}: expect {expectation.text}: " + ("holds" if held else "FAILED"))
+            self.summary = self.summary.plus(Summary(failed=int(not held)))
+        return entry(None, "", lines) if lines else []
 
+    def silence(self, frame: Frame) -> List[str]:
+        """A frame that got no reply."""
+        if frame.closed is None:
+            self.summary = self.summary.plus(Summary(frames=1))
+            return entry(None, "", ["never closed: no reply"])
+        due = silence_due(self.plate, frame)
+        self.summary = self.summary.plus(Summary(frames=1, silences=1, wrong=int(not due)))
+        return entry(frame.closed, "silence", ["" if due else "though a reply was due"])
 
-def happening_page(plate: Plate, happening: object, replies: List[Reply]) -> List[str]:
-    if isinstance(happening, Frame):
-        return frame_page(plate, happening, replies)
-    if isinstance(happening, Measured):
-        return entry(None, "host", [f"measured position {happening.position}"])
-    if isinstance(happening, Fault):
-        return entry(None, "host", [f"notes fault {code_words(happening.code)}"])
-    return entry(None, "host", ["power-on"])
+    def reply(self, frame: Frame, reply: Reply, verdict: Verdict) -> List[str]:
+        """A frame's reply, with the verdict."""
+        undue = silence_due(self.plate, frame)
+        is_error = error_code(verdict, reply.values) is not None
+        self.summary = self.summary.plus(Summary(frames=1, replies=1, errors=int(is_error), wrong=int(undue or verdict.is_wrong())))
+        lines = hex_lines(reply.values) + reply_words(frame.values, reply.values, verdict)
+        return entry(reply.tick, "reply", lines + ["a reply, though silence was due"] * undue)
+
+    def frame(self, frame: Frame) -> List[str]:
+        """A frame, what came to it, and whether that was expected."""
+        words = request_words(frame.values, frame.parity, self.plate.own_byte())
+        page = entry(frame.start, "request", hex_lines(frame.values) + [words])
+        reply = self.replies.get(frame.first)
+        if reply is None:
+            return page + self.silence(frame) + self.expected(frame, None)
+        verdict = self.judge(frame.values, reply.values)
+        return page + self.reply(frame, reply, verdict) + self.expected(frame, verdict)
+
+    def happening(self, happening: object) -> List[str]:
+        if isinstance(happening, Frame):
+            return self.frame(happening)
+        if isinstance(happening, Measured):
+            return entry(None, "host", [f"measured position {happening.position}"])
+        if isinstance(happening, Fault):
+            return entry(None, "host", [f"notes fault {fault_words(happening.code)}"])
+        return entry(None, "host", ["power-on"])
 
 
 def plate_line(plate: Plate) -> str:
     return (
-        f"Board of {plate.total} blocks, {plate.bits} position bits, address {plate.address} ({0x40 + plate.address:02X}h), "
-        f"{plate.ticks} ticks a bit; a gap of {plate.closing_gap()} ticks closes a frame."
+        f"Board of {plate.total} blocks, {plate.bits} position bits, address {plate.address} ({plate.own_byte():02X}h), "
+        f"{plate.ticks} ticks a bit; a gap of {plate.closing_gap()} ticks ({milliseconds(plate.closing_gap())}) closes a frame."
     )
 
 
@@ -350,16 +205,16 @@ def read_answers(text: str) -> Tuple[List[Reply], Optional[int]]:
     """The answer program's lines: its replies and the place after `bad`, if it says so."""
     lines = text.splitlines()
     if not lines or lines[0] != "tick reply":
-        raise ValueError("the answers do not start with the line `tick reply`")
+        raise WrittenError("the answers do not start with the line `tick reply`")
     replies = []
     for number, line in enumerate(lines[1:], start=2):
         words = line.split(" ")
-        if words[0] == "bad" and len(words) == 2 and number == len(lines):
-            return replies, int(words[1])
         try:
+            if words[0] == "bad" and len(words) == 2 and number == len(lines):
+                return replies, int(words[1])
             replies.append(Reply(int(words[0]), bytes.fromhex("".join(words[1:]))))
         except ValueError:
-            raise ValueError(f"line {number} of the answers is no reply: {line}") from None
+            raise WrittenError(f"line {number} of the answers is no reply: {line}") from None
     return replies, None
 
 
@@ -375,50 +230,119 @@ def bad_lines(bad: Optional[Bad], told: Optional[int]) -> List[str]:
     return lines
 
 
-def explain(tape: bytes, answers: str) -> str:
-    """The whole session as text."""
-    records, bad = split(tape)
+def by_frame(frames: List[Frame], expectations: List[Expectation]) -> Tuple[Dict[int, List[Expectation]], List[str]]:
+    """Expectations by the place of their frame's first character, and a line for each whose frame is not on the tape."""
+    found: Dict[int, List[Expectation]] = {}
+    lost = []
+    for expectation in expectations:
+        frame = frame_at(frames, expectation.place)
+        if frame is None:
+            lost.append(f"line {expectation.line}: expect {expectation.text}: FAILED, its frame is not on the tape")
+        else:
+            found.setdefault(frame.first, []).append(expectation)
+    return found, lost
+
+
+def explain_tape(session: Session, answers: str, judge: Judge) -> Tuple[str, Summary]:
+    """The whole session as a page, and what there was."""
+    records, bad = split(session.tape)
     replies, told = read_answers(answers)
-    pages = []
+    frames = frames_of(records)
+    expectations, lost = by_frame(frames, session.expectations)
+    parts: List[List[str]] = []
+    summary = Summary(failed=len(lost))
+    strays = replies
     if records:
-        plate = records[0]
-        pages.append([plate_line(plate)])
-        pages += [happening_page(plate, happening, replies) for happening in happenings(records)]
-    left = [line for reply in replies for line in entry(reply.tick, "reply", hex_lines(reply.values) + ["to no frame of the tape"])]
-    pages += [left, bad_lines(bad, told)]
-    return "\n".join("".join(line + "\n" for line in page) for page in pages if page)
+        pairs, strays = paired(records[0], frames, replies, judge)
+        teller = Teller(records[0], pairs, expectations, judge)
+        parts = [[plate_line(records[0])]] + [teller.happening(happening) for happening in happenings(records)]
+        summary = summary.plus(teller.summary)
+    parts.append([line for reply in strays for line in entry(reply.tick, "reply", hex_lines(reply.values) + ["to no frame of the tape"])])
+    troubles = bad_lines(bad, told)
+    summary = summary.plus(Summary(replies=len(strays), wrong=len(strays), bad=int(bool(troubles))))
+    return page_of(parts + [lost, troubles, [summary.line()]]), summary
 
 
-def read_file(name: str) -> bytes:
-    if name == "-":
-        return sys.stdin.buffer.read()
-    with open(name, "rb") as file:
-        return file.read()
+# --- the command line -----------------------------------------------------------------------
 
 
 def answers_of(program: str, tape: bytes) -> str:
-    return subprocess.run([program], input=tape, stdout=subprocess.PIPE, check=True).stdout.decode("ascii")
+    """What an answer program prints of a tape."""
+    found = subprocess.run([program], input=tape, stdout=subprocess.PIPE, check=False)
+    if found.returncode != 0:
+        raise WrittenError(f"the answer program ended with status {found.returncode}")
+    return found.stdout.decode("ascii", "replace")
+
+
+def built_program() -> str:
+    program = os.path.join(bench.ROOT, ANSWER)
+    if not os.path.isfile(program):
+        raise WrittenError(f"the answer program is not there ({ANSWER}); make it: make {ANSWER}")
+    return program
+
+
+def text_in(name: str, data: bytes) -> str:
+    """The text that a file has."""
+    try:
+        return text_of_bytes(data)
+    except WrittenError as error:
+        raise WrittenError(f"{name}: {error}") from None
+
+
+def session_of(name: str, data: bytes) -> Session:
+    """A file that is a session text or a tape."""
+    return read_session(text_in(name, data)) if is_text(data) else Session(data, [], [], [])
+
+
+def tell_session(name: str, answers: Callable[[bytes], str], judge: Judge) -> int:
+    """Tells a session or tape; of a text with bad lines only these."""
+    session = session_of(name, read_file(name))
+    for error in session.bad:
+        complain(f"explain.py: {name}: {error}")
+    if session.bad:
+        summary = Summary(bad=len(session.bad))
+        put_out((summary.line() + "\n").encode())
+        return summary.status()
+    page, summary = explain_tape(session, answers(session.tape), judge)
+    put_out(page.encode("ascii", "backslashreplace"))
+    return summary.status()
+
+
+def tell_log(name: str, judge: Judge) -> int:
+    data = read_file(name)
+    if not is_text(data):
+        raise WrittenError(f"{name}: a log is text, and this is not")
+    page, summary = explain_log(text_in(name, data), judge)
+    put_out(page.encode("ascii", "backslashreplace"))
+    return summary.status()
+
+
+def run(arguments: List[str]) -> int:
+    if arguments in (["help"], ["-h"], ["--help"]):
+        put_out(__doc__.encode())
+        return 0
+    library = ""
+    if arguments[:1] == ["--library"] and len(arguments) > 1:
+        library, arguments = arguments[1], arguments[2:]
+    option, names = (arguments[0], arguments[1:]) if arguments and arguments[0].startswith("--") else ("", arguments)
+    if option == "--log" and len(names) == 1:
+        return tell_log(names[0], bench.load(library))
+    if option == "--run" and len(names) == 2:
+        return tell_session(names[1], lambda tape: answers_of(names[0], tape), bench.load(library))
+    if not option and len(names) == 1:
+        return tell_session(names[0], lambda tape: answers_of(built_program(), tape), bench.load(library))
+    if not option and len(names) == 2:
+        return tell_session(names[0], lambda _: read_file(names[1]).decode("ascii", "replace"), bench.load(library))
+    complain(__doc__)
+    return 2
 
 
 def main(arguments: List[str]) -> int:
-    if arguments in (["help"], ["-h"], ["--help"]):
-        sys.stdout.write(__doc__)
-        return 0
     try:
-        if len(arguments) == 3 and arguments[0] == "--run":
-            tape = read_file(arguments[2])
-            answers = answers_of(arguments[1], tape)
-        elif len(arguments) == 2 and not arguments[0].startswith("--"):
-            tape = read_file(arguments[0])
-            answers = read_file(arguments[1]).decode("ascii", "replace")
-        else:
-            sys.stderr.write(__doc__)
-            return 2
-        sys.stdout.write(explain(tape, answers))
-    except (OSError, ValueError, subprocess.CalledProcessError) as error:
-        sys.stderr.write(f"explain.py: {error}\n")
+        return run(arguments)
+    except (OSError, WrittenError, bench.Missing) as error:
+        complain(f"explain.py: {error}")
         return 1
-    return 0
 
 
 if __name__ == "__main__":

@@ -1,2 +1,3 @@
 -- The definitions of `answer`, file by file.
 pub mod Program
+pub mod Streams

@@ -1,20 +1,27 @@
 -- What the program's functions ask of its buffers and leave of them. Assumes nothing.
 use Prim.Native.Nat.{ℕ, _≤_}
 use mathlib.Core.Path.{_≡_}
+use mathlib.Core.Bool.{Bool, true, false, cond}
 use mathlib.Core.List.{List, []}
-use lib.ListN.{length, take}
+use lib.Dec.{leb}
+use lib.ListN.{length}
 use Rattle.meaning.specs.Bytes.{zeros, longestReply, longestRequest}
-use Rattle.passes.specs.declared.session.Phase.the-variants.{Ended}
+use Rattle.passes.specs.declared.session.Phase.{Phase}
+use Rattle.passes.specs.declared.session.Phase.the-variants.{Opening, Running, Ended}
+use Rattle.passes.specs.declared.session.Session.{Session}
 use Rattle.passes.specs.Sessions.{largestMemory, ReadyForPass}
 use Rattle.answer.specs.declared.Fed.{Fed}
 
--- bytes that were read stand behind those that the window had
-pub record Refills (window : List ℕ) (have r : ℕ) (window′ : List ℕ) : Type 0 where
-  pub more : have ≤ r
-  pub within : r ≤ length window
-  pub front : take have window′ ≡ take have window
+abbrev pub isEnded : Phase → Bool
+isEnded Opening = false
+isEnded Running = false
+isEnded Ended = true
 
--- after a window the board is ready for the next, unless a record was bad
+-- a record was bad, or the place is one that no tape has
+abbrev pub isOver : Session → Bool
+isOver s = cond (leb 9223372036854775808 (s .place)) true (isEnded (s .phase))
+
+-- after a window the board is ready for the next, unless a record was bad; the output may have failed or not
 pub record Leaves (r : Fed) (window kept m w out : List ℕ) : Type 0 where
   pub inside : r .at ≤ length window
   pub space : r .used ≤ length out

@@ -1,38 +1,63 @@
 // The answer program: reads a tape on standard input and prints the replies (01, "The answer program"). The bytes at hand lie in a window of
 // 65,536 bytes and the lines are gathered in an output of as many, so a tape may have any length. What is printed of a window is proved in the
-// crate `passes`; what is read and written is tested.
+// crate `passes`; what is read and written is tested. Where input or output fails, `streams` has told it, and the program stops.
+mod streams;
+
 ghost use mathlib.Core.Path.{_≡_};
 ghost use mathlib.Core.List.{[]};
 ghost use Prim.Native.Nat.{_+_, _-_, _≤_, _<_};
 ghost use lib.ListN.{length};
 ghost use Rattle.meaning.specs.Bytes.{part, put};
-ghost use Rattle.answer.specs.Program.{Refills, Leaves, Buffers};
+ghost use Rattle.answer.specs.Program.{isOver, Leaves, Buffers};
 ghost use Rattle.tape.specs.Text.{longestBadLine};
 ghost use Rattle.passes.specs.Sessions.{ReadyForPass};
-use libc::STDIN_FILENO;
-use libc::STDOUT_FILENO;
 use passes::Phase;
 use passes::Session;
 use passes::Stop;
+use streams::Input;
+use streams::Output;
+use streams::flush;
+use streams::refill;
 use tape::LONGEST_BAD_LINE;
 use wire::codes::LONGEST_REPLY;
 use wire::codes::LONGEST_REQUEST;
 
-// What a window came to: where the tape stands, how far the window was read, how much of the output is used.
+// What a window came to: where the tape stands, how far the window was read, how much of the output is used, and whether it could be written.
 struct Fed {
     session: Session,
     at: usize,
     used: usize,
+    output: Output,
 }
 
-fn flush(out: &[u8], used: usize)
-    requires { ⌜ used ≤ length (now out) ⌝ }
+fn halt(session: Session, at: usize, used: usize, output: Output) -> Fed
+    ensures { λ r. ⌜ r ≡ record { session = session; at = at; used = used; output = output } ⌝ }
 {
-    io::write_all(STDOUT_FILENO, &out[..used]);
+    Fed {
+        session,
+        at,
+        used,
+        output,
+    }
+}
+
+// No more is eaten: a record was bad, or the place is one that no tape has, 2 to the 63 and more.
+fn is_over(session: Session) -> bool
+    ensures { λ r. ⌜ r ≡ isOver session ⌝ }
+{
+    if 9223372036854775808 <= session.place {
+        return true;
+    }
+    let phase = session.phase;
+    match phase {
+        Phase::Opening => false,
+        Phase::Running => false,
+        Phase::Ended => true,
+    }
 }
 
 // Eats what the window has, and writes the output whenever it is full. Each pass that is stopped for want of space has read a record, so the
-// window's length bounds the turns.
+// window's length bounds the turns. Where the output cannot be written, no more is eaten.
 fn feed(
     first: Session,
     window: &[u8],
@@ -52,13 +77,8 @@ fn feed(
     let mut turns = window.len() + 1;
     while 0 < turns {
         turns -= 1;
-        let phase = session.phase;
-        if let Phase::Ended = phase {
-            return Fed { session, at, used };
-        }
-        // No tape has 2 to the 63 bytes.
-        if 9223372036854775808 <= session.place {
-            return Fed { session, at, used };
+        if is_over(session) {
+            return halt(session, at, used, Output::Written);
         }
         let eaten = passes::eat(session, &window[at..], kept, memory, reply, out, used);
         session = eaten.session;
@@ -66,20 +86,15 @@ fn feed(
         used = eaten.used;
         let stop = eaten.stop;
         let Stop::Full = stop else {
-            return Fed { session, at, used };
+            return halt(session, at, used, Output::Written);
         };
-        flush(out, used);
+        let output = flush(out, used);
+        let Output::Written = output else {
+            return halt(session, at, used, output);
+        };
         used = 0;
     }
-    Fed { session, at, used }
-}
-
-// Reads behind the bytes that the window has, and says how many it has then.
-fn refill(window: &mut [u8], have: usize) -> usize
-    requires { ⌜ have ≤ length (now window) ⌝ }
-    ensures { λ r. ⌜ Refills (now (window .entry)) have r (now (window .exit)) ⌝ }
-{
-    have + io::read_full(STDIN_FILENO, &mut window[have..])
+    halt(session, at, used, Output::Written)
 }
 
 // The bytes from one place to another go to the front of the window.
@@ -100,7 +115,9 @@ fn end(session: Session, rest: &[u8], out: &mut [u8], used: usize)
     requires { ⌜ (used ≤ length (now out)) × (longestBadLine ≤ length (now out)) ⌝ }
 {
     if out.len() - used < LONGEST_BAD_LINE {
-        flush(out, used);
+        let Output::Written = flush(out, used) else {
+            return;
+        };
         let last = passes::finish(session, rest, out, 0);
         flush(out, last);
         return;
@@ -118,18 +135,27 @@ fn run(window: &mut [u8], kept: &mut [u8], memory: &mut [u8], reply: &mut [u8], 
     let mut turns = u64::MAX;
     while 0 < turns {
         turns -= 1;
-        let total = refill(window, have);
+        let input = refill(window, have);
+        // What was answered so far is written. The tape has not ended, so that the rest is no record cut short.
+        if let Input::Failed = input {
+            flush(out, used);
+            return;
+        }
+        let Input::More { total } = input else {
+            end(session, &window[..have], out, used);
+            return;
+        };
         let fed = feed(session, &window[..total], kept, memory, reply, out, used);
         session = fed.session;
         used = fed.used;
         let at = fed.at;
+        let output = fed.output;
+        if let Output::Failed = output {
+            return;
+        }
         let phase = session.phase;
         if let Phase::Ended = phase {
             flush(out, used);
-            return;
-        }
-        if total == have {
-            end(session, &window[at..total], out, used);
             return;
         }
         have = shift(window, at, total);

@@ -24,7 +24,7 @@ framed never d = Refused B5
 unfoldable pub doneLength : ℕ → List ℕ → Expected  -- 01, column "Reply data", of command c
 doneLength c d = framed ((row (commandOf c)) .reply) d
 
--- of the checks B0 to B6 those that the begun reply s decides, in their order; an error reply has its code as data
+-- B0, B4 and B5 as far as the begun reply s decides them (its address, B3, tells nothing of the length); an error reply has its code as data
 unfoldable pub replyLength : List ℕ → List ℕ → Expected
 replyLength q s =
     pick (not (written q)) (Refused B0)

@@ -35,7 +35,7 @@ fn done_length(command: u8, asked: &[u8]) -> Expected
     }
 }
 
-// Of the checks B0 to B6 those that the first two bytes decide, in their order; an error reply has one byte of data.
+// B0, B4 and B5 as far as the first two bytes decide them; the address, B3, tells nothing of the length. An error reply has one byte of data, its code.
 pub fn reply_length(request: &[u8], begun: &[u8]) -> Expected
     ensures { λ r. ⌜ r ≡ replyLength (now (request .entry)) (now (begun .entry)) ⌝ }
 {

@@ -91,16 +91,11 @@ module _ (img m w : List ℕ) (g : Call) where
       go true = refl
       go false = take-append-drop 6 img
 
-  -- the core is lent and comes back
-  pub called-whole : {p : line.Plate} {r : ℕ} {core′ m′ w′ : List ℕ} → isOurs img ≡ true → p ≡ plateIn img → CoreCalled (plateOf p) (take 165 (drop 6 img)) m w g r core′ m′ w′
-      → Called img m w g r (take 6 img ++ (core′ ++ drop 165 (drop 6 img))) m′ w′
-  called-whole {p} {r} {core′} {m′} {w′} e q lent =
-      let all : length img ≡ 171 = ours-length img e in
+  pub called-of : {r : ℕ} {core′ img′ m′ w′ : List ℕ} → isOurs img ≡ true → CoreCalled (plateHeld img) (coreIn img) m w g r core′ m′ w′ → img′ ≡ headIn img ++ core′
+      → Called img m w g r img′ m′ w′
+  called-of {core′ = core′} {img′ = img′} e c i =
       let k = same-call e in
-      let c : CoreCalled (plateHeld img) (coreIn img) m w g r core′ m′ w′ = rw (q, lent-core img all) at lent in
-      let img′ : List ℕ = take 6 img ++ (core′ ++ drop 165 (drop 6 img)) in
-      let i : img′ ≡ headIn img ++ core′ = core-back img core′ all in
-      let d : coreIn img′ ≡ core′ = ap coreIn i ∙ core-of-whole img core′ all in
+      let d : coreIn img′ ≡ core′ = ap coreIn i ∙ core-of-whole img core′ (ours-length img e) in
       record {
         answer = rw k (c .answer);
         state = rw (k, d) (c .state);
@@ -108,3 +103,11 @@ module _ (img m w : List ℕ) (g : Call) where
         memory = rw k (c .memory);
         room = rw k (c .room);
       }
+
+  -- the core is lent and comes back
+  pub called-whole : {p : line.Plate} {r : ℕ} {core′ m′ w′ : List ℕ} → isOurs img ≡ true → p ≡ plateIn img → CoreCalled (plateOf p) (take 165 (drop 6 img)) m w g r core′ m′ w′
+      → Called img m w g r (take 6 img ++ (core′ ++ drop 165 (drop 6 img))) m′ w′
+  called-whole {p} {r} {core′} {m′} {w′} e q lent =
+      let all : length img ≡ 171 = ours-length img e in
+      let c : CoreCalled (plateHeld img) (coreIn img) m w g r core′ m′ w′ = rw (q, lent-core img all) at lent in
+      called-of e c (core-back img core′ all)

@@ -2,6 +2,7 @@
 mod Leaving
 mod Refusing
 mod Closing
+mod Wholes
 mod Finishing
 mod Heads
 mod Starting
@@ -12,3 +13,5 @@ pub mod Tight
 pub mod Theorems
 pub mod Staying
 pub mod Running
+mod Keeping
+pub mod Lasting

@@ -143,18 +143,6 @@ module _ (p : Plate) (core m w : List ℕ) (g : Call) (l : lends g ≡ true) whe
       go true c = refused-call n (ne-eqb n 0 some) c (told-of-call c ∙ sym e)
       go false c = let k : n ≡ 1 = e ∙ rw c in rw k (no-core p core m w g c)
 
-pub refusal-small : (p : Plate) (core : List ℕ) (m w : ℕ) {n : ℕ} → n ≡ refusalIn p core m w → n ≤ 3
-unfolding refusalIn
-refusal-small p core m w e =
-    go (not (isCore core)) (either (not (plateOk p)) (not (stateOk p (heldIn core)))) (not (eqb m (memoryLength (p .total)))) (ltb w 134) e
-  where
-    go : (a b c d : Bool) {n : ℕ} → n ≡ pick a 1 (pick b 1 (pick c 2 (pick d 3 0))) → n ≤ 3
-    go true b c d e = omega (arith, e)
-    go false true c d e = omega (arith, e)
-    go false false true d e = omega (arith, e)
-    go false false false true e = omega (arith, e)
-    go false false false false e = omega (arith, e)
-
 pub unrefused : (p : Plate) (core : List ℕ) (m w : ℕ) → 0 ≡ refusalIn p core m w → Unrefused p core m w
 unfolding refusalIn
 unrefused p core m w e = go (isCore core) (plateOk p) (stateOk p (heldIn core)) (eqb m (memoryLength (p .total))) (ltb w 134) refl refl refl refl refl e

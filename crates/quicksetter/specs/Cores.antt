@@ -2,12 +2,13 @@
 use Prim.Native.Nat.{ℕ, _-_, _≤_, _^_}
 use mathlib.Core.Path.{_≡_}
 use mathlib.Core.Bool.{Bool, true, not}
-use mathlib.Core.List.{List}
+use mathlib.Core.List.{List, _++_}
 use lib.Dec.{eqb, leb, ltb}
 use lib.ListN.{take, drop}
 use Rattle.meaning.specs.Bytes.{pick, both, either, longestReply}
 use Rattle.meaning.specs.State as meaning
 use Rattle.meaning.specs.Fields.{memoryLength}
+use Rattle.meaning.specs.Characters.{over}
 use Rattle.meaning.specs.Frames.{dataOf}
 use Rattle.meaning.specs.Run.{Call, poll, measured, fault, power-on, Held, called}
 use Rattle.line.specs.declared.plate.Plate.{Plate}
@@ -15,11 +16,12 @@ use Rattle.board.specs.declared.limits.Board.{Board}
 use Rattle.board.specs.declared.limits.Outcome.{Outcome}
 use Rattle.board.specs.declared.limits.Outcome.the-variants.{R1, R2, R3, Still, Over}
 use Rattle.board.specs.declared.limits.Stepped.{Stepped}
-use Rattle.board.specs.Work.{Workable, Serves, Closes}
+use Rattle.board.specs.Work as board
+use Rattle.board.specs.Work.{Serves, Closes}
 use Rattle.quicksetter.specs.declared.notes.Note.{Note}
 use Rattle.quicksetter.specs.declared.notes.Note.the-variants.{Measured, Fault, PowerOn}
-use Rattle.image.specs.Image.{coreLength, numberAt, isCore, stateIn, frameIn, heldIn, keptIn, coreOf, PutsState, PutsBoard}
-use Rattle.quicksetter.specs.Calls.{callNumber}
+use Rattle.image.specs.Image.{coreLength, numberAt, isOurs, isCore, headIn, coreIn, stateIn, frameIn, heldIn, keptIn, coreOf, PutsState, PutsBoard}
+use Rattle.quicksetter.specs.Calls.{plateHeld, callNumber}
 
 abbrev pub boardIn : List ℕ → Board
 boardIn core = record { state = stateIn core; frame = frameIn core }
@@ -74,7 +76,7 @@ pub record Servable (p : Plate) (c end : ℕ) (core m w : List ℕ) : Type 0 whe
   pub bytes : isCore core ≡ true
   pub starts : 33 ≤ end
   pub ends : end ≤ coreLength
-  pub works : Workable p (stateIn core) c (dataTo end core) m w
+  pub works : board.Workable p (stateIn core) c (dataTo end core) m w
 
 -- the request c with the data d is worked and answered, and the core holds the state after it; but for the state's bytes it is as it was
 pub record ServedIn (p : meaning.Plate) (c : ℕ) (d core m w : List ℕ) (r : ℕ) (core′ m′ w′ : List ℕ) : Type 0 where
@@ -90,6 +92,23 @@ pub record ClosedIn (p : meaning.Plate) (core m w : List ℕ) (r : ℕ) (core′
 pub record Polls (p : meaning.Plate) (core m w : List ℕ) (tick r : ℕ) (core′ m′ w′ : List ℕ) : Type 0 where
   pub called : CoreCalled p core m w (poll tick) r core′ m′ w′
   pub kept : keptIn core′ ≡ keptIn core
+
+-- the same of a core whose open frame is over
+abbrev pub ShutIn : meaning.Plate → List ℕ → List ℕ → List ℕ → ℕ → List ℕ → List ℕ → List ℕ → Type 0
+ShutIn p core m w r core′ m′ w′ = (tick : ℕ) → over p (heldIn core) tick ≡ true → Polls p core m w tick r core′ m′ w′
+
+-- ---- of an image: its head is ours, and nothing is refused; afterwards its head is as it was
+pub record Workable (img : List ℕ) (memory room : ℕ) : Type 0 where
+  pub ours : isOurs img ≡ true
+  pub core : Unrefused (plateHeld img) (coreIn img) memory room
+
+pub record Shuts (img m w : List ℕ) (r : ℕ) (img′ m′ w′ : List ℕ) : Type 0 where
+  pub core : ShutIn (plateHeld img) (coreIn img) m w r (coreIn img′) m′ w′
+  pub head : img′ ≡ headIn img ++ coreIn img′
+
+pub record PollsIn (img m w : List ℕ) (tick r : ℕ) (img′ m′ w′ : List ℕ) : Type 0 where
+  pub core : Polls (plateHeld img) (coreIn img) m w tick r (coreIn img′) m′ w′
+  pub head : img′ ≡ headIn img ++ coreIn img′
 
 -- the outcome of the board's call as the number for C, and the board written back where it was not refused
 abbrev pub outcomeNumber : Outcome → ℕ

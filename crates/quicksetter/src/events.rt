@@ -1,7 +1,6 @@
 // A character and a poll (01, "Characters become frames"): of a core with its plate, then of an image.
 ghost use mathlib.Core.Path.{_≡_};
-ghost use mathlib.Core.Bool.{true};
-ghost use Prim.Native.Nat.{ℕ, _≤_};
+ghost use Prim.Native.Nat.{_≤_};
 ghost use lib.ListN.{length};
 ghost use Rattle.meaning.specs.Bytes.{differ};
 ghost use Rattle.meaning.specs.State.{apart};
@@ -11,7 +10,7 @@ ghost use Rattle.line.specs.Line.{plateOf};
 ghost use Rattle.state.specs.Queue.{queueOf};
 ghost use Rattle.image.specs.Image.{coreLength, stateIn, heldIn};
 ghost use Rattle.quicksetter.specs.Calls.{Called};
-ghost use Rattle.quicksetter.specs.Cores.{possible, refusalIn, dataTo, CoreCalled, Unrefused, Servable, ServedIn, ClosedIn, Polls};
+ghost use Rattle.quicksetter.specs.Cores.{possible, dataTo, Unrefused, Servable, ServedIn, ClosedIn, ShutIn, Workable, Shuts, PollsIn};
 use crate::answer::REFUSED;
 use image::CORE;
 use image::COUNTER;
@@ -51,25 +50,6 @@ fn is_sound(core: &[u8]) -> bool
     }
     let state = image::state_in(core);
     state.faults.is_sound()
-}
-
-// R1 to R3 in that order, 0 for none, of a memory and a room of those lengths.
-fn refusal(plate: Plate, core: &[u8], memory: usize, room: usize) -> usize
-    ensures { λ r. ⌜ r ≡ refusalIn (plateOf plate) (now (core .entry)) memory room ⌝ }
-{
-    if !is_possible(core, plate) {
-        return 1;
-    }
-    if !is_sound(core) {
-        return 1;
-    }
-    if memory as u64 != plate.memory_length() {
-        return 2;
-    }
-    if room < LONGEST_REPLY {
-        return 3;
-    }
-    0
 }
 
 // Whether the core's open frame is over at that tick.
@@ -122,23 +102,32 @@ fn answered(core: &mut [u8], plate: Plate, memory: &mut [u8], room: &mut [u8]) -
 }
 
 // The open frame is over: it is answered and put away.
-fn shut(core: &mut [u8], plate: Plate, memory: &mut [u8], room: &mut [u8]) -> usize
+fn shut_core(core: &mut [u8], plate: Plate, memory: &mut [u8], room: &mut [u8]) -> usize
     requires { ⌜ Unrefused (plateOf plate) (now core) (length (now memory)) (length (now room)) ⌝ }
-    ensures { λ r. ⌜ ((tick : ℕ) → over (plateOf plate) (heldIn (now (core .entry))) tick ≡ true
-        → Polls (plateOf plate) (now (core .entry)) (now (memory .entry)) (now (room .entry)) tick r (now (core .exit)) (now (memory .exit)) (now (room .exit))) ⌝ }
+    ensures { λ r. ⌜ ShutIn (plateOf plate) (now (core .entry)) (now (memory .entry)) (now (room .entry)) r (now (core .exit)) (now (memory .exit)) (now (room .exit)) ⌝ }
 {
     let sent = answered(core, plate, memory, room);
     image::put_frame(OpenFrame::none(), core);
     sent
 }
 
-// What a character finds done by its tick, as a poll would do it.
-fn polled(core: &mut [u8], tick: u32, plate: Plate, memory: &mut [u8], room: &mut [u8]) -> usize
-    requires { ⌜ Unrefused (plateOf plate) (now core) (length (now memory)) (length (now room)) ⌝ }
-    ensures { λ r. ⌜ Polls (plateOf plate) (now (core .entry)) (now (memory .entry)) (now (room .entry)) tick r (now (core .exit)) (now (memory .exit)) (now (room .exit)) ⌝ }
+// .. of an image: the plate is read where it is needed, so that no call hands it on.
+fn shut(image: &mut [u8], memory: &mut [u8], room: &mut [u8]) -> usize
+    requires { ⌜ Workable (now image) (length (now memory)) (length (now room)) ⌝ }
+    ensures { λ r. ⌜ Shuts (now (image .entry)) (now (memory .entry)) (now (room .entry)) r (now (image .exit)) (now (memory .exit)) (now (room .exit)) ⌝ }
 {
-    if is_over(core, tick, plate) {
-        return shut(core, plate, memory, room);
+    let plate = image::plate_in(image);
+    shut_core(&mut image[CORE..LENGTH], plate, memory, room)
+}
+
+// What a character finds done by its tick, as a poll would do it.
+fn polled(image: &mut [u8], tick: u32, memory: &mut [u8], room: &mut [u8]) -> usize
+    requires { ⌜ Workable (now image) (length (now memory)) (length (now room)) ⌝ }
+    ensures { λ r. ⌜ PollsIn (now (image .entry)) (now (memory .entry)) (now (room .entry)) tick r (now (image .exit)) (now (memory .exit)) (now (room .exit)) ⌝ }
+{
+    let plate = image::plate_in(image);
+    if is_over(&image[CORE..LENGTH], tick, plate) {
+        return shut(image, memory, room);
     }
     0
 }
@@ -147,36 +136,6 @@ fn is_fault(parity: u8) -> bool
     ensures { λ r. ⌜ r ≡ differ parity 0 ⌝ }
 {
     parity != 0
-}
-
-fn character(
-    plate: Plate,
-    tick: u32,
-    value: u8,
-    parity: u8,
-    core: &mut [u8],
-    memory: &mut [u8],
-    room: &mut [u8],
-) -> usize
-    ensures { λ r. ⌜ CoreCalled (plateOf plate) (now (core .entry)) (now (memory .entry)) (now (room .entry)) (run.character tick value (differ parity 0)) r (now (core .exit)) (now (memory .exit)) (now (room .exit)) ⌝ }
-{
-    let refusal = refusal(plate, core, memory.len(), room.len());
-    if refusal != 0 {
-        return REFUSED + refusal;
-    }
-    let sent = polled(core, tick, plate, memory, room);
-    image::take_character(tick, value, is_fault(parity), core);
-    sent
-}
-
-fn poll(plate: Plate, tick: u32, core: &mut [u8], memory: &mut [u8], room: &mut [u8]) -> usize
-    ensures { λ r. ⌜ CoreCalled (plateOf plate) (now (core .entry)) (now (memory .entry)) (now (room .entry)) (run.poll tick) r (now (core .exit)) (now (memory .exit)) (now (room .exit)) ⌝ }
-{
-    let refusal = refusal(plate, core, memory.len(), room.len());
-    if refusal != 0 {
-        return REFUSED + refusal;
-    }
-    polled(core, tick, plate, memory, room)
 }
 
 #[no_mangle]
@@ -194,15 +153,21 @@ pub extern "C" fn qs_character(
         return REFUSED + 1;
     }
     let plate = image::plate_in(image);
-    character(
-        plate,
-        tick,
-        value,
-        parity,
-        &mut image[CORE..LENGTH],
-        memory,
-        room,
-    )
+    if !is_possible(&image[CORE..LENGTH], plate) {
+        return REFUSED + 1;
+    }
+    if !is_sound(&image[CORE..LENGTH]) {
+        return REFUSED + 1;
+    }
+    if memory.len() as u64 != plate.memory_length() {
+        return REFUSED + 2;
+    }
+    if room.len() < LONGEST_REPLY {
+        return REFUSED + 3;
+    }
+    let sent = polled(image, tick, memory, room);
+    image::take_character(tick, value, is_fault(parity), &mut image[CORE..LENGTH]);
+    sent
 }
 
 #[no_mangle]
@@ -213,5 +178,20 @@ pub extern "C" fn qs_poll(image: &mut [u8], tick: u32, memory: &mut [u8], room: 
         return REFUSED + 1;
     }
     let plate = image::plate_in(image);
-    poll(plate, tick, &mut image[CORE..LENGTH], memory, room)
+    if !is_possible(&image[CORE..LENGTH], plate) {
+        return REFUSED + 1;
+    }
+    if !is_sound(&image[CORE..LENGTH]) {
+        return REFUSED + 1;
+    }
+    if memory.len() as u64 != plate.memory_length() {
+        return REFUSED + 2;
+    }
+    if room.len() < LONGEST_REPLY {
+        return REFUSED + 3;
+    }
+    if is_over(&image[CORE..LENGTH], tick, plate) {
+        return shut(image, memory, room);
+    }
+    0
 }

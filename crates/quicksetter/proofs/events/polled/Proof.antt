@@ -2,20 +2,35 @@
 use mathlib.Core.Path.{sym, _∙_}
 use native.Mathlib.Omega.{arith}
 use denote.Ref.{now}
-use Rattle.image.proofs.Round.{good}
-use Rattle.quicksetter.proofs.Closing.{nothing-over}
+use Rattle.quicksetter.proofs.Heads.{ours-length}
+use Rattle.quicksetter.proofs.Wholes.{over-so, polled-over, polled-early}
 use borrow.Author.Needs.{needs}
 use Rattle.quicksetter.proofs.events.polled.Statement.{statement}
 use Rattle.quicksetter.proofs.events.polled.Tie as tie
 use Rattle.quicksetter.proofs.events.polled.Reads as reads
 use Rattle.quicksetter.proofs.events.polled.Lts as lts
+use Rattle.image.proofs.plate_in.Reads as plate-in-reads
 use Rattle.quicksetter.proofs.events.is_over.Reads as is-over-reads
 use Rattle.quicksetter.proofs.events.shut.Reads as shut-reads
 
-is-over-requires : tie.Need-is-over-requires
-is-over-requires c κs =
+plate-in-requires : tie.Need-plate-in-requires
+plate-in-requires c κs =
     let start = c .before .before .before .before in
-    omega (arith, good _ (start .pre .bytes) .all)
+    omega (arith, ours-length _ (start .pre .ours))
+
+sub-is-over : tie.Need-sub-is-over
+sub-is-over c = search needs
+
+part-is-over-start : tie.Need-part-is-over-start
+part-is-over-start c = search needs
+
+part-is-over-end : tie.Need-part-is-over-end
+part-is-over-end c =
+    let start = c .before .before .before .before .before .before in
+    omega (arith, ours-length _ (start .pre .ours))
+
+is-over-requires : tie.Need-is-over-requires
+is-over-requires c κs = search needs
 
 shut-requires : tie.Need-shut-requires
 shut-requires c κs = search needs
@@ -34,21 +49,28 @@ returns c =
     let after-shut = c .before .before .before .before .before .before in
     let after-if1 = after-shut .before .before .before .before in
     let after-is-over = after-if1 .before in
-    after-shut .shut .ensures _ (sym (after-is-over .is-over .ensures) ∙ after-if1 .if1 .taken)
+    let after-plate-in = after-is-over .before .before .before in
+    let start = after-plate-in .before .before .before .before .before in
+    polled-over (now (start .args .image)) (now (start .args .memory)) (now (start .args .room)) (start .pre) _ (sym (over-so (now (start .args .image)) (now (start .args .memory)) (now (start .args .room)) (start .pre .ours) (after-plate-in .plate-in .ensures) _ (after-is-over .is-over .ensures)) ∙ after-if1 .if1 .taken) (after-shut .shut .ensures)
 
 same-length-4 : tie.Need-same-length-4
 same-length-4 c = search needs
 
 returns-2 : tie.Need-returns-2
 returns-2 c =
-    let after-slice-known = c .before .before .before .before .before in
+    let after-plate-in = c .before .before .before .before in
+    let after-slice-known = after-plate-in .before .before .before .before in
     let start = after-slice-known .before in
-    nothing-over _ (now (start .args .core)) _ _ (start .pre) _ (λ i. (after-slice-known .slice-known .given i) .fits) (sym (c .before .is-over .ensures) ∙ c .if1 .left)
+    polled-early (now (start .args .image)) (now (start .args .memory)) (now (start .args .room)) (start .pre) _ (λ i. (after-slice-known .slice-known .given i) .fits) (sym (over-so (now (start .args .image)) (now (start .args .memory)) (now (start .args .room)) (start .pre .ours) (after-plate-in .plate-in .ensures) _ (c .before .is-over .ensures)) ∙ c .if1 .left)
 
 pub polled-spec : {M : Type 1} → statement M
 polled-spec =
     tie.close
     (tie.spec
+    plate-in-requires
+    sub-is-over
+    part-is-over-start
+    part-is-over-end
     is-over-requires
     shut-requires
     same-length

@@ -1,11 +1,11 @@
 -- `quicksetter::events::qs_character` meets its contract. Assumes nothing.
-use mathlib.Core.Path.{_≡_, refl, sym, _∙_}
-use mathlib.Core.Bool.{true}
+use mathlib.Core.Path.{sym, _∙_}
 use native.Mathlib.Omega.{arith}
 use denote.Ref.{now}
 use borrow.Author.Tests.{not-true, not-false}
-use Rattle.image.specs.Image.{isOurs}
-use Rattle.quicksetter.proofs.Heads.{ours-length, not-ours, called-whole}
+use Rattle.quicksetter.proofs.Heads.{ours-length, not-ours}
+use Rattle.quicksetter.proofs.Refusing.{lends-character, impossible, unsound, other-size, too-narrow, none-applies}
+use Rattle.quicksetter.proofs.Wholes.{some-refusal, refused-whole, workable, as-long, lent-still, character-whole}
 use borrow.Author.Needs.{needs}
 use Rattle.quicksetter.proofs.events.qs_character.Statement.{statement}
 use Rattle.quicksetter.proofs.events.qs_character.Tie as tie
@@ -13,7 +13,12 @@ use Rattle.quicksetter.proofs.events.qs_character.Reads as reads
 use Rattle.quicksetter.proofs.events.qs_character.Lts as lts
 use Rattle.image.proofs.is_ours.Reads as is-ours-reads
 use Rattle.image.proofs.plate_in.Reads as plate-in-reads
-use Rattle.quicksetter.proofs.events.character.Reads as character-reads
+use Rattle.image.proofs.take_character.Reads as take-character-reads
+use Rattle.line.proofs.plate.Plate.memory_length.Reads as memory-length-reads
+use Rattle.quicksetter.proofs.events.is_fault.Reads as is-fault-reads
+use Rattle.quicksetter.proofs.events.is_possible.Reads as is-possible-reads
+use Rattle.quicksetter.proofs.events.is_sound.Reads as is-sound-reads
+use Rattle.quicksetter.proofs.events.polled.Reads as polled-reads
 
 is-ours-requires : tie.Need-is-ours-requires
 is-ours-requires c κs = search needs
@@ -32,44 +37,189 @@ plate-in-requires c κs =
     let after-is-ours = c .before .before in
     omega (arith, ours-length _ (sym (after-is-ours .is-ours .ensures) ∙ not-false _ (c .before .if1 .left)))
 
-sub-character : tie.Need-sub-character
-sub-character c =
-    let after-if1 = c .before .before in
+sub-is-possible : tie.Need-sub-is-possible
+sub-is-possible c = search needs
+
+part-is-possible-start : tie.Need-part-is-possible-start
+part-is-possible-start c = search needs
+
+part-is-possible-end : tie.Need-part-is-possible-end
+part-is-possible-end c =
+    let after-if1 = c .before .before .before in
     let after-is-ours = after-if1 .before in
     omega (arith, ours-length _ (sym (after-is-ours .is-ours .ensures) ∙ not-false _ (after-if1 .if1 .left)))
 
-part-character-start : tie.Need-part-character-start
-part-character-start c =
-    let after-if1 = c .before .before in
-    let after-is-ours = after-if1 .before in
-    omega (arith, ours-length _ (sym (after-is-ours .is-ours .ensures) ∙ not-false _ (after-if1 .if1 .left)))
+is-possible-requires : tie.Need-is-possible-requires
+is-possible-requires c κs = search needs
 
-part-character-end : tie.Need-part-character-end
-part-character-end c =
-    let after-if1 = c .before .before in
-    let after-is-ours = after-if1 .before in
-    omega (arith, ours-length _ (sym (after-is-ours .is-ours .ensures) ∙ not-false _ (after-if1 .if1 .left)))
-
-character-requires : tie.Need-character-requires
-character-requires c κs = search needs
+add-result-2 : tie.Need-add-result-2
+add-result-2 c = search needs
 
 same-length-2 : tie.Need-same-length-2
 same-length-2 c = search needs
 
+returns-2 : tie.Need-returns-2
+returns-2 c =
+    let after-plate-in = c .before .before .before .before in
+    let after-if1 = after-plate-in .before .before in
+    let after-is-ours = after-if1 .before in
+    let start = after-is-ours .before .before .before .before .before in
+    refused-whole (now (start .args .image)) (now (start .args .memory)) (now (start .args .room)) (sym (after-is-ours .is-ours .ensures) ∙ not-false _ (after-if1 .if1 .left)) (after-plate-in .plate-in .ensures) _ (lends-character _ _ _) (impossible _ _ _ _ (sym (c .before .is-possible .ensures) ∙ not-true _ (c .if2 .taken))) some-refusal
+
+sub-is-sound : tie.Need-sub-is-sound
+sub-is-sound c = search needs
+
+part-is-sound-start : tie.Need-part-is-sound-start
+part-is-sound-start c = search needs
+
+part-is-sound-end : tie.Need-part-is-sound-end
+part-is-sound-end c =
+    let after-if1 = c .before .before .before .before .before .before .before in
+    let after-is-ours = after-if1 .before in
+    omega (arith, ours-length _ (sym (after-is-ours .is-ours .ensures) ∙ not-false _ (after-if1 .if1 .left)))
+
+is-sound-requires : tie.Need-is-sound-requires
+is-sound-requires c κs = search needs
+
+add-result-3 : tie.Need-add-result-3
+add-result-3 c = search needs
+
 same-length-3 : tie.Need-same-length-3
 same-length-3 c = search needs
+
+returns-3 : tie.Need-returns-3
+returns-3 c =
+    let after-if2 = c .before .before .before .before in
+    let after-is-possible = after-if2 .before in
+    let after-plate-in = after-is-possible .before .before .before in
+    let after-if1 = after-plate-in .before .before in
+    let after-is-ours = after-if1 .before in
+    let start = after-is-ours .before .before .before .before .before in
+    refused-whole (now (start .args .image)) (now (start .args .memory)) (now (start .args .room)) (sym (after-is-ours .is-ours .ensures) ∙ not-false _ (after-if1 .if1 .left)) (after-plate-in .plate-in .ensures) _ (lends-character _ _ _) (unsound _ _ _ _ (sym (after-is-possible .is-possible .ensures) ∙ not-false _ (after-if2 .if2 .left)) (sym (c .before .is-sound .ensures) ∙ not-true _ (c .if3 .taken))) some-refusal
+
+memory-length-requires : tie.Need-memory-length-requires
+memory-length-requires c κs = search needs
+
+add-result-4 : tie.Need-add-result-4
+add-result-4 c = search needs
 
 same-length-4 : tie.Need-same-length-4
 same-length-4 c = search needs
 
-returns-2 : tie.Need-returns-2
-returns-2 c =
-    let after-character = c .before .before .before .before .before .before in
-    let after-plate-in = after-character .before .before .before .before in
+returns-4 : tie.Need-returns-4
+returns-4 c =
+    let after-if3 = c .before .before in
+    let after-is-sound = after-if3 .before in
+    let after-if2 = after-is-sound .before .before .before in
+    let after-is-possible = after-if2 .before in
+    let after-plate-in = after-is-possible .before .before .before in
     let after-if1 = after-plate-in .before .before in
     let after-is-ours = after-if1 .before in
     let start = after-is-ours .before .before .before .before .before in
-    called-whole (now (start .args .image)) _ _ _ (sym (after-is-ours .is-ours .ensures) ∙ not-false _ (after-if1 .if1 .left)) (after-plate-in .plate-in .ensures) (after-character .character .ensures)
+    refused-whole (now (start .args .image)) (now (start .args .memory)) (now (start .args .room)) (sym (after-is-ours .is-ours .ensures) ∙ not-false _ (after-if1 .if1 .left)) (after-plate-in .plate-in .ensures) _ (lends-character _ _ _) (other-size _ _ _ _ (sym (after-is-possible .is-possible .ensures) ∙ not-false _ (after-if2 .if2 .left)) (sym (after-is-sound .is-sound .ensures) ∙ not-false _ (after-if3 .if3 .left)) (λ e. c .if4 .taken (e ∙ sym (c .before .memory-length .ensures)))) some-refusal
+
+add-result-5 : tie.Need-add-result-5
+add-result-5 c = search needs
+
+same-length-5 : tie.Need-same-length-5
+same-length-5 c = search needs
+
+returns-5 : tie.Need-returns-5
+returns-5 c =
+    let after-memory-length = c .before .before in
+    let after-if3 = after-memory-length .before in
+    let after-is-sound = after-if3 .before in
+    let after-if2 = after-is-sound .before .before .before in
+    let after-is-possible = after-if2 .before in
+    let after-plate-in = after-is-possible .before .before .before in
+    let after-if1 = after-plate-in .before .before in
+    let after-is-ours = after-if1 .before in
+    let start = after-is-ours .before .before .before .before .before in
+    refused-whole (now (start .args .image)) (now (start .args .memory)) (now (start .args .room)) (sym (after-is-ours .is-ours .ensures) ∙ not-false _ (after-if1 .if1 .left)) (after-plate-in .plate-in .ensures) _ (lends-character _ _ _) (too-narrow _ _ _ _ (sym (after-is-possible .is-possible .ensures) ∙ not-false _ (after-if2 .if2 .left)) (sym (after-is-sound .is-sound .ensures) ∙ not-false _ (after-if3 .if3 .left)) (c .before .if4 .left ∙ after-memory-length .memory-length .ensures) (c .if5 .taken)) some-refusal
+
+polled-requires : tie.Need-polled-requires
+polled-requires c κs =
+    let after-if5 = c .before .before .before in
+    let after-if4 = after-if5 .before in
+    let after-memory-length = after-if4 .before in
+    let after-if3 = after-memory-length .before in
+    let after-is-sound = after-if3 .before in
+    let after-if2 = after-is-sound .before .before .before in
+    let after-is-possible = after-if2 .before in
+    let after-plate-in = after-is-possible .before .before .before in
+    let after-if1 = after-plate-in .before .before in
+    let after-is-ours = after-if1 .before in
+    let start = after-is-ours .before .before .before .before .before in
+    workable (now (start .args .image)) (now (start .args .memory)) (now (start .args .room)) (sym (after-is-ours .is-ours .ensures) ∙ not-false _ (after-if1 .if1 .left)) (after-plate-in .plate-in .ensures) (none-applies _ _ _ _ (sym (after-is-possible .is-possible .ensures) ∙ not-false _ (after-if2 .if2 .left)) (sym (after-is-sound .is-sound .ensures) ∙ not-false _ (after-if3 .if3 .left)) (after-if4 .if4 .left ∙ after-memory-length .memory-length .ensures) (after-if5 .if5 .left))
+
+is-fault-requires : tie.Need-is-fault-requires
+is-fault-requires c κs = search needs
+
+sub-take-character : tie.Need-sub-take-character
+sub-take-character c = search needs
+
+part-take-character-start : tie.Need-part-take-character-start
+part-take-character-start c = search needs
+
+part-take-character-end : tie.Need-part-take-character-end
+part-take-character-end c =
+    let after-polled = c .before .before .before .before .before .before .before in
+    let after-if5 = after-polled .before .before .before .before in
+    let after-if4 = after-if5 .before in
+    let after-memory-length = after-if4 .before in
+    let after-if3 = after-memory-length .before in
+    let after-is-sound = after-if3 .before in
+    let after-if2 = after-is-sound .before .before .before in
+    let after-is-possible = after-if2 .before in
+    let after-plate-in = after-is-possible .before .before .before in
+    let after-if1 = after-plate-in .before .before in
+    let after-is-ours = after-if1 .before in
+    let start = after-is-ours .before .before .before .before .before in
+    omega (arith, as-long (now (start .args .image)) (now (start .args .memory)) (now (start .args .room)) (workable (now (start .args .image)) (now (start .args .memory)) (now (start .args .room)) (sym (after-is-ours .is-ours .ensures) ∙ not-false _ (after-if1 .if1 .left)) (after-plate-in .plate-in .ensures) (none-applies _ _ _ _ (sym (after-is-possible .is-possible .ensures) ∙ not-false _ (after-if2 .if2 .left)) (sym (after-is-sound .is-sound .ensures) ∙ not-false _ (after-if3 .if3 .left)) (after-if4 .if4 .left ∙ after-memory-length .memory-length .ensures) (after-if5 .if5 .left))) _ (after-polled .polled .ensures))
+
+take-character-requires : tie.Need-take-character-requires
+take-character-requires c κs =
+    let after-polled = c .before .before .before .before .before .before .before .before in
+    let after-if5 = after-polled .before .before .before .before in
+    let after-if4 = after-if5 .before in
+    let after-memory-length = after-if4 .before in
+    let after-if3 = after-memory-length .before in
+    let after-is-sound = after-if3 .before in
+    let after-if2 = after-is-sound .before .before .before in
+    let after-is-possible = after-if2 .before in
+    let after-plate-in = after-is-possible .before .before .before in
+    let after-if1 = after-plate-in .before .before in
+    let after-is-ours = after-if1 .before in
+    let start = after-is-ours .before .before .before .before .before in
+    lent-still (now (start .args .image)) (now (start .args .memory)) (now (start .args .room)) (workable (now (start .args .image)) (now (start .args .memory)) (now (start .args .room)) (sym (after-is-ours .is-ours .ensures) ∙ not-false _ (after-if1 .if1 .left)) (after-plate-in .plate-in .ensures) (none-applies _ _ _ _ (sym (after-is-possible .is-possible .ensures) ∙ not-false _ (after-if2 .if2 .left)) (sym (after-is-sound .is-sound .ensures) ∙ not-false _ (after-if3 .if3 .left)) (after-if4 .if4 .left ∙ after-memory-length .memory-length .ensures) (after-if5 .if5 .left))) _ (after-polled .polled .ensures)
+
+same-length-6 : tie.Need-same-length-6
+same-length-6 c = search needs
+
+same-length-7 : tie.Need-same-length-7
+same-length-7 c = search needs
+
+same-length-8 : tie.Need-same-length-8
+same-length-8 c = search needs
+
+returns-6 : tie.Need-returns-6
+returns-6 c =
+    let after-take-character = c .before .before in
+    let after-is-fault = after-take-character .before .before in
+    let after-slice-known4 = after-is-fault .before .before .before .before .before in
+    let after-polled = after-slice-known4 .before .before in
+    let after-if5 = after-polled .before .before .before .before in
+    let after-if4 = after-if5 .before in
+    let after-memory-length = after-if4 .before in
+    let after-if3 = after-memory-length .before in
+    let after-is-sound = after-if3 .before in
+    let after-if2 = after-is-sound .before .before .before in
+    let after-is-possible = after-if2 .before in
+    let after-plate-in = after-is-possible .before .before .before in
+    let after-if1 = after-plate-in .before .before in
+    let after-is-ours = after-if1 .before in
+    let start = after-is-ours .before .before .before .before .before in
+    character-whole (now (start .args .image)) (now (start .args .memory)) (now (start .args .room)) (workable (now (start .args .image)) (now (start .args .memory)) (now (start .args .room)) (sym (after-is-ours .is-ours .ensures) ∙ not-false _ (after-if1 .if1 .left)) (after-plate-in .plate-in .ensures) (none-applies _ _ _ _ (sym (after-is-possible .is-possible .ensures) ∙ not-false _ (after-if2 .if2 .left)) (sym (after-is-sound .is-sound .ensures) ∙ not-false _ (after-if3 .if3 .left)) (after-if4 .if4 .left ∙ after-memory-length .memory-length .ensures) (after-if5 .if5 .left))) _ (after-polled .polled .ensures) _ (after-is-fault .is-fault .ensures) (λ i. (after-slice-known4 .slice-known4 .given i) .fits) (after-take-character .take-character .ensures)
 
 pub qs-character-spec : {M : Type 1} → statement M
 qs-character-spec =
@@ -80,11 +230,34 @@ qs-character-spec =
     same-length
     returns
     plate-in-requires
-    sub-character
-    part-character-start
-    part-character-end
-    character-requires
+    sub-is-possible
+    part-is-possible-start
+    part-is-possible-end
+    is-possible-requires
+    add-result-2
     same-length-2
+    returns-2
+    sub-is-sound
+    part-is-sound-start
+    part-is-sound-end
+    is-sound-requires
+    add-result-3
     same-length-3
+    returns-3
+    memory-length-requires
+    add-result-4
     same-length-4
-    returns-2)
+    returns-4
+    add-result-5
+    same-length-5
+    returns-5
+    polled-requires
+    is-fault-requires
+    sub-take-character
+    part-take-character-start
+    part-take-character-end
+    take-character-requires
+    same-length-6
+    same-length-7
+    same-length-8
+    returns-6)

@@ -1,11 +1,11 @@
 -- `quicksetter::events::qs_poll` meets its contract. Assumes nothing.
-use mathlib.Core.Path.{_≡_, refl, sym, _∙_}
-use mathlib.Core.Bool.{true}
+use mathlib.Core.Path.{sym, _∙_}
 use native.Mathlib.Omega.{arith}
 use denote.Ref.{now}
 use borrow.Author.Tests.{not-true, not-false}
-use Rattle.image.specs.Image.{isOurs}
-use Rattle.quicksetter.proofs.Heads.{ours-length, not-ours, called-whole}
+use Rattle.quicksetter.proofs.Heads.{ours-length, not-ours}
+use Rattle.quicksetter.proofs.Refusing.{lends-poll, impossible, unsound, other-size, too-narrow, none-applies}
+use Rattle.quicksetter.proofs.Wholes.{some-refusal, refused-whole, workable, over-so, polled-over, polled-early, poll-whole}
 use borrow.Author.Needs.{needs}
 use Rattle.quicksetter.proofs.events.qs_poll.Statement.{statement}
 use Rattle.quicksetter.proofs.events.qs_poll.Tie as tie
@@ -13,7 +13,11 @@ use Rattle.quicksetter.proofs.events.qs_poll.Reads as reads
 use Rattle.quicksetter.proofs.events.qs_poll.Lts as lts
 use Rattle.image.proofs.is_ours.Reads as is-ours-reads
 use Rattle.image.proofs.plate_in.Reads as plate-in-reads
-use Rattle.quicksetter.proofs.events.poll.Reads as poll-reads
+use Rattle.line.proofs.plate.Plate.memory_length.Reads as memory-length-reads
+use Rattle.quicksetter.proofs.events.is_over.Reads as is-over-reads
+use Rattle.quicksetter.proofs.events.is_possible.Reads as is-possible-reads
+use Rattle.quicksetter.proofs.events.is_sound.Reads as is-sound-reads
+use Rattle.quicksetter.proofs.events.shut.Reads as shut-reads
 
 is-ours-requires : tie.Need-is-ours-requires
 is-ours-requires c κs = search needs
@@ -32,44 +36,181 @@ plate-in-requires c κs =
     let after-is-ours = c .before .before in
     omega (arith, ours-length _ (sym (after-is-ours .is-ours .ensures) ∙ not-false _ (c .before .if1 .left)))
 
-sub-poll : tie.Need-sub-poll
-sub-poll c =
-    let after-if1 = c .before .before in
+sub-is-possible : tie.Need-sub-is-possible
+sub-is-possible c = search needs
+
+part-is-possible-start : tie.Need-part-is-possible-start
+part-is-possible-start c = search needs
+
+part-is-possible-end : tie.Need-part-is-possible-end
+part-is-possible-end c =
+    let after-if1 = c .before .before .before in
     let after-is-ours = after-if1 .before in
     omega (arith, ours-length _ (sym (after-is-ours .is-ours .ensures) ∙ not-false _ (after-if1 .if1 .left)))
 
-part-poll-start : tie.Need-part-poll-start
-part-poll-start c =
-    let after-if1 = c .before .before in
-    let after-is-ours = after-if1 .before in
-    omega (arith, ours-length _ (sym (after-is-ours .is-ours .ensures) ∙ not-false _ (after-if1 .if1 .left)))
+is-possible-requires : tie.Need-is-possible-requires
+is-possible-requires c κs = search needs
 
-part-poll-end : tie.Need-part-poll-end
-part-poll-end c =
-    let after-if1 = c .before .before in
-    let after-is-ours = after-if1 .before in
-    omega (arith, ours-length _ (sym (after-is-ours .is-ours .ensures) ∙ not-false _ (after-if1 .if1 .left)))
-
-poll-requires : tie.Need-poll-requires
-poll-requires c κs = search needs
+add-result-2 : tie.Need-add-result-2
+add-result-2 c = search needs
 
 same-length-2 : tie.Need-same-length-2
 same-length-2 c = search needs
 
+returns-2 : tie.Need-returns-2
+returns-2 c =
+    let after-plate-in = c .before .before .before .before in
+    let after-if1 = after-plate-in .before .before in
+    let after-is-ours = after-if1 .before in
+    let start = after-is-ours .before .before .before .before .before in
+    refused-whole (now (start .args .image)) (now (start .args .memory)) (now (start .args .room)) (sym (after-is-ours .is-ours .ensures) ∙ not-false _ (after-if1 .if1 .left)) (after-plate-in .plate-in .ensures) _ (lends-poll _) (impossible _ _ _ _ (sym (c .before .is-possible .ensures) ∙ not-true _ (c .if2 .taken))) some-refusal
+
+sub-is-sound : tie.Need-sub-is-sound
+sub-is-sound c = search needs
+
+part-is-sound-start : tie.Need-part-is-sound-start
+part-is-sound-start c = search needs
+
+part-is-sound-end : tie.Need-part-is-sound-end
+part-is-sound-end c =
+    let after-if1 = c .before .before .before .before .before .before .before in
+    let after-is-ours = after-if1 .before in
+    omega (arith, ours-length _ (sym (after-is-ours .is-ours .ensures) ∙ not-false _ (after-if1 .if1 .left)))
+
+is-sound-requires : tie.Need-is-sound-requires
+is-sound-requires c κs = search needs
+
+add-result-3 : tie.Need-add-result-3
+add-result-3 c = search needs
+
 same-length-3 : tie.Need-same-length-3
 same-length-3 c = search needs
+
+returns-3 : tie.Need-returns-3
+returns-3 c =
+    let after-if2 = c .before .before .before .before in
+    let after-is-possible = after-if2 .before in
+    let after-plate-in = after-is-possible .before .before .before in
+    let after-if1 = after-plate-in .before .before in
+    let after-is-ours = after-if1 .before in
+    let start = after-is-ours .before .before .before .before .before in
+    refused-whole (now (start .args .image)) (now (start .args .memory)) (now (start .args .room)) (sym (after-is-ours .is-ours .ensures) ∙ not-false _ (after-if1 .if1 .left)) (after-plate-in .plate-in .ensures) _ (lends-poll _) (unsound _ _ _ _ (sym (after-is-possible .is-possible .ensures) ∙ not-false _ (after-if2 .if2 .left)) (sym (c .before .is-sound .ensures) ∙ not-true _ (c .if3 .taken))) some-refusal
+
+memory-length-requires : tie.Need-memory-length-requires
+memory-length-requires c κs = search needs
+
+add-result-4 : tie.Need-add-result-4
+add-result-4 c = search needs
 
 same-length-4 : tie.Need-same-length-4
 same-length-4 c = search needs
 
-returns-2 : tie.Need-returns-2
-returns-2 c =
-    let after-poll = c .before .before .before .before .before .before in
-    let after-plate-in = after-poll .before .before .before .before in
+returns-4 : tie.Need-returns-4
+returns-4 c =
+    let after-if3 = c .before .before in
+    let after-is-sound = after-if3 .before in
+    let after-if2 = after-is-sound .before .before .before in
+    let after-is-possible = after-if2 .before in
+    let after-plate-in = after-is-possible .before .before .before in
     let after-if1 = after-plate-in .before .before in
     let after-is-ours = after-if1 .before in
     let start = after-is-ours .before .before .before .before .before in
-    called-whole (now (start .args .image)) _ _ _ (sym (after-is-ours .is-ours .ensures) ∙ not-false _ (after-if1 .if1 .left)) (after-plate-in .plate-in .ensures) (after-poll .poll .ensures)
+    refused-whole (now (start .args .image)) (now (start .args .memory)) (now (start .args .room)) (sym (after-is-ours .is-ours .ensures) ∙ not-false _ (after-if1 .if1 .left)) (after-plate-in .plate-in .ensures) _ (lends-poll _) (other-size _ _ _ _ (sym (after-is-possible .is-possible .ensures) ∙ not-false _ (after-if2 .if2 .left)) (sym (after-is-sound .is-sound .ensures) ∙ not-false _ (after-if3 .if3 .left)) (λ e. c .if4 .taken (e ∙ sym (c .before .memory-length .ensures)))) some-refusal
+
+add-result-5 : tie.Need-add-result-5
+add-result-5 c = search needs
+
+same-length-5 : tie.Need-same-length-5
+same-length-5 c = search needs
+
+returns-5 : tie.Need-returns-5
+returns-5 c =
+    let after-memory-length = c .before .before in
+    let after-if3 = after-memory-length .before in
+    let after-is-sound = after-if3 .before in
+    let after-if2 = after-is-sound .before .before .before in
+    let after-is-possible = after-if2 .before in
+    let after-plate-in = after-is-possible .before .before .before in
+    let after-if1 = after-plate-in .before .before in
+    let after-is-ours = after-if1 .before in
+    let start = after-is-ours .before .before .before .before .before in
+    refused-whole (now (start .args .image)) (now (start .args .memory)) (now (start .args .room)) (sym (after-is-ours .is-ours .ensures) ∙ not-false _ (after-if1 .if1 .left)) (after-plate-in .plate-in .ensures) _ (lends-poll _) (too-narrow _ _ _ _ (sym (after-is-possible .is-possible .ensures) ∙ not-false _ (after-if2 .if2 .left)) (sym (after-is-sound .is-sound .ensures) ∙ not-false _ (after-if3 .if3 .left)) (c .before .if4 .left ∙ after-memory-length .memory-length .ensures) (c .if5 .taken)) some-refusal
+
+sub-is-over : tie.Need-sub-is-over
+sub-is-over c = search needs
+
+part-is-over-start : tie.Need-part-is-over-start
+part-is-over-start c = search needs
+
+part-is-over-end : tie.Need-part-is-over-end
+part-is-over-end c =
+    let after-if1 = c .before .before .before .before .before .before .before .before .before .before .before .before .before .before in
+    let after-is-ours = after-if1 .before in
+    omega (arith, ours-length _ (sym (after-is-ours .is-ours .ensures) ∙ not-false _ (after-if1 .if1 .left)))
+
+is-over-requires : tie.Need-is-over-requires
+is-over-requires c κs = search needs
+
+shut-requires : tie.Need-shut-requires
+shut-requires c κs =
+    let after-if5 = c .before .before .before .before .before .before .before in
+    let after-if4 = after-if5 .before in
+    let after-memory-length = after-if4 .before in
+    let after-if3 = after-memory-length .before in
+    let after-is-sound = after-if3 .before in
+    let after-if2 = after-is-sound .before .before .before in
+    let after-is-possible = after-if2 .before in
+    let after-plate-in = after-is-possible .before .before .before in
+    let after-if1 = after-plate-in .before .before in
+    let after-is-ours = after-if1 .before in
+    let start = after-is-ours .before .before .before .before .before in
+    workable (now (start .args .image)) (now (start .args .memory)) (now (start .args .room)) (sym (after-is-ours .is-ours .ensures) ∙ not-false _ (after-if1 .if1 .left)) (after-plate-in .plate-in .ensures) (none-applies _ _ _ _ (sym (after-is-possible .is-possible .ensures) ∙ not-false _ (after-if2 .if2 .left)) (sym (after-is-sound .is-sound .ensures) ∙ not-false _ (after-if3 .if3 .left)) (after-if4 .if4 .left ∙ after-memory-length .memory-length .ensures) (after-if5 .if5 .left))
+
+same-length-6 : tie.Need-same-length-6
+same-length-6 c = search needs
+
+same-length-7 : tie.Need-same-length-7
+same-length-7 c = search needs
+
+same-length-8 : tie.Need-same-length-8
+same-length-8 c = search needs
+
+returns-6 : tie.Need-returns-6
+returns-6 c =
+    let after-shut = c .before .before .before .before .before .before in
+    let after-if6 = after-shut .before .before .before .before in
+    let after-is-over = after-if6 .before in
+    let after-if5 = after-is-over .before .before .before in
+    let after-if4 = after-if5 .before in
+    let after-memory-length = after-if4 .before in
+    let after-if3 = after-memory-length .before in
+    let after-is-sound = after-if3 .before in
+    let after-if2 = after-is-sound .before .before .before in
+    let after-is-possible = after-if2 .before in
+    let after-plate-in = after-is-possible .before .before .before in
+    let after-if1 = after-plate-in .before .before in
+    let after-is-ours = after-if1 .before in
+    let start = after-is-ours .before .before .before .before .before in
+    poll-whole (now (start .args .image)) (now (start .args .memory)) (now (start .args .room)) (workable (now (start .args .image)) (now (start .args .memory)) (now (start .args .room)) (sym (after-is-ours .is-ours .ensures) ∙ not-false _ (after-if1 .if1 .left)) (after-plate-in .plate-in .ensures) (none-applies _ _ _ _ (sym (after-is-possible .is-possible .ensures) ∙ not-false _ (after-if2 .if2 .left)) (sym (after-is-sound .is-sound .ensures) ∙ not-false _ (after-if3 .if3 .left)) (after-if4 .if4 .left ∙ after-memory-length .memory-length .ensures) (after-if5 .if5 .left))) _ (polled-over (now (start .args .image)) (now (start .args .memory)) (now (start .args .room)) (workable (now (start .args .image)) (now (start .args .memory)) (now (start .args .room)) (sym (after-is-ours .is-ours .ensures) ∙ not-false _ (after-if1 .if1 .left)) (after-plate-in .plate-in .ensures) (none-applies _ _ _ _ (sym (after-is-possible .is-possible .ensures) ∙ not-false _ (after-if2 .if2 .left)) (sym (after-is-sound .is-sound .ensures) ∙ not-false _ (after-if3 .if3 .left)) (after-if4 .if4 .left ∙ after-memory-length .memory-length .ensures) (after-if5 .if5 .left))) _ (sym (over-so (now (start .args .image)) (now (start .args .memory)) (now (start .args .room)) (sym (after-is-ours .is-ours .ensures) ∙ not-false _ (after-if1 .if1 .left)) (after-plate-in .plate-in .ensures) _ (after-is-over .is-over .ensures)) ∙ after-if6 .if6 .taken) (after-shut .shut .ensures))
+
+same-length-9 : tie.Need-same-length-9
+same-length-9 c = search needs
+
+returns-7 : tie.Need-returns-7
+returns-7 c =
+    let after-if5 = c .before .before .before .before in
+    let after-if4 = after-if5 .before in
+    let after-memory-length = after-if4 .before in
+    let after-if3 = after-memory-length .before in
+    let after-is-sound = after-if3 .before in
+    let after-if2 = after-is-sound .before .before .before in
+    let after-is-possible = after-if2 .before in
+    let after-plate-in = after-is-possible .before .before .before in
+    let after-if1 = after-plate-in .before .before in
+    let after-is-ours = after-if1 .before in
+    let after-slice-known = after-is-ours .before .before .before .before in
+    let start = after-slice-known .before in
+    poll-whole (now (start .args .image)) (now (start .args .memory)) (now (start .args .room)) (workable (now (start .args .image)) (now (start .args .memory)) (now (start .args .room)) (sym (after-is-ours .is-ours .ensures) ∙ not-false _ (after-if1 .if1 .left)) (after-plate-in .plate-in .ensures) (none-applies _ _ _ _ (sym (after-is-possible .is-possible .ensures) ∙ not-false _ (after-if2 .if2 .left)) (sym (after-is-sound .is-sound .ensures) ∙ not-false _ (after-if3 .if3 .left)) (after-if4 .if4 .left ∙ after-memory-length .memory-length .ensures) (after-if5 .if5 .left))) _ (polled-early (now (start .args .image)) (now (start .args .memory)) (now (start .args .room)) (workable (now (start .args .image)) (now (start .args .memory)) (now (start .args .room)) (sym (after-is-ours .is-ours .ensures) ∙ not-false _ (after-if1 .if1 .left)) (after-plate-in .plate-in .ensures) (none-applies _ _ _ _ (sym (after-is-possible .is-possible .ensures) ∙ not-false _ (after-if2 .if2 .left)) (sym (after-is-sound .is-sound .ensures) ∙ not-false _ (after-if3 .if3 .left)) (after-if4 .if4 .left ∙ after-memory-length .memory-length .ensures) (after-if5 .if5 .left))) _ (λ i. (after-slice-known .slice-known .given i) .fits) (sym (over-so (now (start .args .image)) (now (start .args .memory)) (now (start .args .room)) (sym (after-is-ours .is-ours .ensures) ∙ not-false _ (after-if1 .if1 .left)) (after-plate-in .plate-in .ensures) _ (c .before .is-over .ensures)) ∙ c .if6 .left))
 
 pub qs-poll-spec : {M : Type 1} → statement M
 qs-poll-spec =
@@ -80,11 +221,35 @@ qs-poll-spec =
     same-length
     returns
     plate-in-requires
-    sub-poll
-    part-poll-start
-    part-poll-end
-    poll-requires
+    sub-is-possible
+    part-is-possible-start
+    part-is-possible-end
+    is-possible-requires
+    add-result-2
     same-length-2
+    returns-2
+    sub-is-sound
+    part-is-sound-start
+    part-is-sound-end
+    is-sound-requires
+    add-result-3
     same-length-3
+    returns-3
+    memory-length-requires
+    add-result-4
     same-length-4
-    returns-2)
+    returns-4
+    add-result-5
+    same-length-5
+    returns-5
+    sub-is-over
+    part-is-over-start
+    part-is-over-end
+    is-over-requires
+    shut-requires
+    same-length-6
+    same-length-7
+    same-length-8
+    returns-6
+    same-length-9
+    returns-7)

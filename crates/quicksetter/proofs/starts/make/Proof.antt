@@ -81,7 +81,8 @@ returns-4 c =
     let after-if1 = after-if2 .before in
     let after-is-ok = after-if1 .before in
     let start = after-is-ok .before .before in
-    started _ _ (now (start .args .image)) (sym (after-is-ok .is-ok .ensures) ∙ not-false _ (after-if1 .if1 .left)) (after-if2 .if2 .left) (sym (after-is-ok2 .is-ok2 .ensures (plateOf (start .args .plate)) none refl nothing-short) ∙ not-false _ (after-if3 .if3 .left)) (after-put-head .put-head .ensures) (after-put-core .put-core .ensures)
+    started _ _ (now (start .args .image)) (sym (after-is-ok .is-ok .ensures) ∙ not-false _ (after-if1 .if1 .left)) (after-if2 .if2 .left)
+    (sym (after-is-ok2 .is-ok2 .ensures (plateOf (start .args .plate)) none refl nothing-short) ∙ not-false _ (after-if3 .if3 .left)) (after-put-head .put-head .ensures) (after-put-core .put-core .ensures)
 
 pub make-spec : {M : Type 1} → statement M
 make-spec =

@@ -1,0 +1,94 @@
+-- A character and a poll of an image: refused, or worked on its core. Assumes nothing.
+use Prim.Native.Nat.{ℕ, suc, _+_, _<_}
+use native.Mathlib.Omega.{arith}
+use mathlib.Core.Path.{_≡_, refl, sym, ap, _∙_}
+use mathlib.Core.Bool.{Bool, true, false}
+use mathlib.Core.List.{List, _++_}
+use lib.ListN.{length, take, drop, length-append, take-append-drop}
+use lib.Seq.{take-at, getD-drop}
+use Rattle.meaning.specs.Bytes.{pick, arg}
+use Rattle.meaning.specs.State.{none}
+use Rattle.meaning.specs.Characters.{over, more}
+use Rattle.meaning.specs.Run.{Call, character, poll, lends}
+use Rattle.line.specs.declared.plate.Plate as line
+use Rattle.line.specs.Line.{plateOf, lineOf}
+use Rattle.image.specs.Image.{isOurs, isCore, headIn, coreIn, plateIn, frameIn, keptIn, heldIn, Takes}
+use Rattle.image.proofs.Round.{good}
+use Rattle.quicksetter.specs.Calls.{plateHeld, stateHeld, Called}
+use Rattle.quicksetter.specs.Cores.{refusalIn, CoreCalled, Unrefused, Polls, ShutIn, Workable, Shuts, PollsIn}
+use Rattle.quicksetter.proofs.Heads.{ours-length, head-length, core-of-whole, lent-core, core-back, called-of}
+use Rattle.quicksetter.proofs.Refusing.{refused-as, unrefused}
+use Rattle.quicksetter.proofs.Closing.{nothing-over, core-again, then-taken}
+
+pub some-refusal : {n : ℕ} → suc n ≡ 0 → ⊥
+some-refusal e = omega (arith, e)
+
+joined : (img : List ℕ) → img ≡ headIn img ++ coreIn img
+joined img = sym (take-append-drop 6 img)
+
+-- of an image with our head, whose plate was read and whose core was lent
+module _ (img m w : List ℕ) (e : isOurs img ≡ true) {p : line.Plate} (q : p ≡ plateIn img) where
+  all : length img ≡ 171
+  all = ours-length img e
+
+  pub refused-whole : (g : Call) → lends g ≡ true → {n : ℕ} → n ≡ refusalIn (plateOf p) (take 165 (drop 6 img)) (length m) (length w) → (n ≡ 0 → ⊥)
+      → Called img m w g (256 + n) img m w
+  refused-whole g l {n} r some =
+      let k : n ≡ refusalIn (plateHeld img) (coreIn img) (length m) (length w) = rw (q, lent-core img all) at r in
+      called-of img m w g e (refused-as (plateHeld img) (coreIn img) m w g l k some) (joined img)
+
+  pub workable : 0 ≡ refusalIn (plateOf p) (take 165 (drop 6 img)) (length m) (length w) → Workable img (length m) (length w)
+  workable r =
+      let k : 0 ≡ refusalIn (plateHeld img) (coreIn img) (length m) (length w) = rw (q, lent-core img all) at r in
+      record { ours = e; core = unrefused (plateHeld img) (coreIn img) (length m) (length w) k }
+
+  pub over-so : (tick : ℕ) {r : Bool} → r ≡ over (plateOf p) (heldIn (take 165 (drop 6 img))) tick → r ≡ over (plateHeld img) (stateHeld img) tick
+  over-so tick r = rw (q, lent-core img all) at r
+
+  pub core-workable : {n k : ℕ} → Unrefused (plateHeld img) (coreIn img) n k → Unrefused (plateOf p) (take 165 (drop 6 img)) n k
+  core-workable u = rw (q, lent-core img all) u
+
+  -- the frame is closed in the core
+  pub shuts : {r : ℕ} {core′ m′ w′ : List ℕ} → ShutIn (plateOf p) (take 165 (drop 6 img)) m w r core′ m′ w′ → Shuts img m w r (take 6 img ++ (core′ ++ drop 165 (drop 6 img))) m′ w′
+  shuts {r} {core′} {m′} {w′} s =
+      let k : ShutIn (plateHeld img) (coreIn img) m w r core′ m′ w′ = rw (q, lent-core img all) at s in
+      let i : take 6 img ++ (core′ ++ drop 165 (drop 6 img)) ≡ headIn img ++ core′ = core-back img core′ all in
+      let d : coreIn (take 6 img ++ (core′ ++ drop 165 (drop 6 img))) ≡ core′ = ap coreIn i ∙ core-of-whole img core′ all in
+      record { core = rw d k; head = rw d i }
+
+-- of an image that is not refused
+module _ (img m w : List ℕ) (u : Workable img (length m) (length w)) (tick : ℕ) where
+  pub polled-over : {r : ℕ} {img′ m′ w′ : List ℕ} → over (plateHeld img) (stateHeld img) tick ≡ true → Shuts img m w r img′ m′ w′ → PollsIn img m w tick r img′ m′ w′
+  polled-over o s = record { core = s .core tick o; head = s .head }
+
+  pub polled-early : ((i : ℕ) → arg img i < 256) → over (plateHeld img) (stateHeld img) tick ≡ false → PollsIn img m w tick 0 img m w
+  polled-early small o =
+      let low : (i : ℕ) → arg (coreIn img) i < 256 = λ i. rw (getD-drop 6 img i 0) (small (6 + i)) in
+      record { core = nothing-over (plateHeld img) (coreIn img) m w (u .core) tick low o; head = joined img }
+
+  module _ {r : ℕ} {img′ m′ w′ : List ℕ} (a : PollsIn img m w tick r img′ m′ w′) where
+    pub poll-whole : Called img m w (poll tick) r img′ m′ w′
+    poll-whole = called-of img m w (poll tick) (u .ours) (a .core .called) (a .head)
+
+    pub core-still : isCore (coreIn img′) ≡ true
+    core-still = core-again (plateHeld img) (coreIn img) m w (u .core) tick (a .core)
+
+    pub as-long : length img′ ≡ 171
+    as-long =
+        ap length (a .head) ∙ length-append (headIn img) (coreIn img′) ∙ rw (head-length img (ours-length img (u .ours)), good (coreIn img′) core-still .all)
+
+    pub lent-still : isCore (take 165 (drop 6 img′)) ≡ true
+    lent-still = rw (lent-core img′ as-long) core-still
+
+    head-kept : headIn img′ ≡ headIn img
+    head-kept = ap headIn (a .head) ∙ take-at (headIn img) (coreIn img′) 6 (head-length img (ours-length img (u .ours)))
+
+    -- .. a character
+    pub character-whole : (v : ℕ) {bad worse : Bool} {core″ : List ℕ} → bad ≡ worse → ((i : ℕ) → arg img′ i < 256)
+        → Takes (more (pick (frameIn (take 165 (drop 6 img′)) .begun) (lineOf (frameIn (take 165 (drop 6 img′))) (keptIn (take 165 (drop 6 img′)))) none) tick v bad) (take 165 (drop 6 img′)) core″
+        → Called img m w (character tick v worse) r (take 6 img′ ++ (core″ ++ drop 165 (drop 6 img′))) m′ w′
+    character-whole v {bad} {worse} {core″} b small t =
+        let low : (i : ℕ) → arg (coreIn img′) i < 256 = λ i. rw (getD-drop 6 img′ i 0) (small (6 + i)) in
+        let k : Takes (more (pick (frameIn (coreIn img′) .begun) (lineOf (frameIn (coreIn img′)) (keptIn (coreIn img′))) none) tick v bad) (coreIn img′) core″ = rw (lent-core img′ as-long) at t in
+        called-of img m w (character tick v worse) (u .ours) (then-taken (plateHeld img) (coreIn img) m w (u .core) tick (a .core) v b low k)
+        (core-back img′ core″ as-long ∙ ap (λ (x : List ℕ). x ++ core″) head-kept)

@@ -1,0 +1,171 @@
+"""Frames, replies and verdicts in words, and the page on which they stand: time, what it is, what it says."""
+
+from typing import List, NamedTuple, Optional
+
+from bench import NOT_A_REQUEST, REFUSALS, Verdict
+from commands import BROADCAST, COMMANDS, ERROR, WARNING, Part, code_words, error_words, layout_fits, pieces
+from frames import KEPT_BYTES, SHORTEST
+from records import hex_of, milliseconds, xor_of
+
+BYTES_A_LINE = 24
+
+
+# --- data -----------------------------------------------------------------------------------
+
+
+def status_words(status: int) -> str:
+    """A status byte taken apart (01, "Status byte")."""
+    blocks = status % 8 + 1
+    parts = [
+        "exists" if status & 0x80 else "does not exist",
+        "write-enabled" if status & 0x40 else "read-only",
+        "code wanted" if status & 0x08 else "no code wanted",
+        f"code number {status >> 4 & 3}",
+        f"{blocks} block" + "s" * (blocks > 1),
+    ]
+    return f"status {status:02X}h ({', '.join(parts)})"
+
+
+def data_words(data: bytes) -> str:
+    text = "".join(chr(byte) if 32 <= byte < 127 else "." for byte in data)
+    return f'data {hex_of(data)} "{text}"'
+
+
+def part_words(part: Part, data: bytes) -> str:
+    """One part of a request's or reply's data in words."""
+    if part.name == "data":
+        return data_words(data)
+    if part.name == "status":
+        return status_words(data[0])
+    if part.name == "waiting":
+        return f"oldest waiting code {code_words(data[0])}" if data[0] else "no code waits"
+    name = part.name.replace("-", " ")
+    return f"{name} {data[0]:02X}h" if part.hexadecimal else f"{name} {int.from_bytes(data, 'big')}"
+
+
+def parts_words(parts: List[Part], data: bytes) -> str:
+    """Data in words; none where it does not have the parts' length."""
+    cut = pieces(parts, data)
+    return ", ".join(part_words(part, piece) for part, piece in zip(parts, cut)) if cut else ""
+
+
+# --- requests -------------------------------------------------------------------------------
+
+
+def request_words(values: bytes, parity: bool, own: Optional[int]) -> str:
+    """A frame in words, in the order in which a board of the address byte `own` judges it; None for a board unknown."""
+    if len(values) < SHORTEST:
+        return f"too short: {len(values)} of at least {SHORTEST} bytes"
+    if own is not None and values[0] not in (own, BROADCAST):
+        return f"for address byte {values[0]:02X}h, not ours ({own:02X}h)"
+    if parity:
+        return "a character had a parity fault"
+    if xor_of(values) != 0:
+        return f"checksum wrong: {xor_of(values[:-1]):02X} would be right"
+    if len(values) > KEPT_BYTES:
+        return f"{len(values)} bytes, longer than {KEPT_BYTES}"
+    return command_words(values[1], values[2:-1])
+
+
+def command_words(command: int, data: bytes) -> str:
+    if command not in COMMANDS:
+        return f"command {command:02X}h is unknown"
+    title = f"{command:02X}h {COMMANDS[command].title}"
+    if not layout_fits(command, data):
+        return f"{title}: {len(data)} bytes of data are not its length"
+    words = parts_words(COMMANDS[command].request, data)
+    if command == 0x4D:
+        words = ("create or modify: " if data[1] & 0x80 else "delete: ") + words
+    return title + (f": {words}" if words else "")
+
+
+# --- replies --------------------------------------------------------------------------------
+
+
+def error_code(verdict: Verdict, reply: bytes) -> Optional[int]:
+    """The code of an error reply, by the verdict; by its bytes where the bench cannot judge since the request is none that it writes."""
+    if verdict.kind == "error":
+        return verdict.number
+    if verdict == NOT_A_REQUEST and len(reply) == 4 and xor_of(reply) == 0 and reply[1] % WARNING == ERROR:
+        return reply[2]
+    return None
+
+
+def verdict_words(verdict: Verdict) -> str:
+    return f"bench: {verdict.words()}" + (f", {REFUSALS[verdict.number]}" if verdict.kind == "refused" else "")
+
+
+def answer_words(request: bytes, reply: bytes, verdict: Verdict) -> str:
+    """What a reply with a right checksum says, whether or not the bench takes it."""
+    code = error_code(verdict, reply)
+    if code is not None:
+        return f"error {error_words(code)}"
+    command = reply[1] % WARNING
+    if len(request) < SHORTEST or command != request[1] or command not in COMMANDS:
+        return ""
+    return parts_words(COMMANDS[command].reply or [], reply[2:-1])
+
+
+def reply_words(request: bytes, reply: bytes, verdict: Verdict) -> List[str]:
+    """A reply in words, then its warning, then the bench's verdict."""
+    lines = []
+    if len(reply) >= SHORTEST and xor_of(reply) == 0:
+        lines.append(answer_words(request, reply, verdict))
+        if reply[1] >= WARNING:
+            lines.append("warning bit: a fault code waits")
+    lines.append(verdict_words(verdict))
+    return [line for line in lines if line]
+
+
+# --- the page -------------------------------------------------------------------------------
+
+
+def entry(tick: Optional[float], what: str, lines: List[str]) -> List[str]:
+    """Lines with the time, in ticks and milliseconds, and a word in front of the first."""
+    ticks, time = ("", "") if tick is None else (f"{tick:.0f}", milliseconds(tick))
+    front = [f"{ticks:>10} {time:>13}  {what:<8}"] + [" " * 34] * (len(lines) - 1)
+    return [f"{place}  {line}".rstrip() for place, line in zip(front, lines)]
+
+
+def hex_lines(values: bytes) -> List[str]:
+    shown = values[: KEPT_BYTES + 1]
+    lines = [hex_of(shown[i : i + BYTES_A_LINE]) for i in range(0, len(shown), BYTES_A_LINE)]
+    if len(values) > len(shown):
+        lines.append(f".. {len(values)} bytes in all")
+    return lines
+
+
+class Summary(NamedTuple):
+    """What there was, for the line at the page's end."""
+
+    frames: int = 0
+    replies: int = 0
+    errors: int = 0
+    silences: int = 0
+    wrong: int = 0
+    bad: int = 0
+    failed: int = 0
+
+    def plus(self, other: "Summary") -> "Summary":
+        return Summary(*(mine + its for mine, its in zip(self, other)))
+
+    def line(self) -> str:
+        names = (
+            ("frame", "frames"),
+            ("reply", "replies"),
+            ("error", "errors"),
+            ("silence", "silences"),
+            ("wrong or missing reply", "wrong or missing replies"),
+            ("bad line", "bad lines"),
+            ("failed expectation", "failed expectations"),
+        )
+        return "summary: " + ", ".join(f"{count} {one if count == 1 else many}" for count, (one, many) in zip(self, names))
+
+    def status(self) -> int:
+        """The exit status: 1 if anything is not as it must be."""
+        return 1 if self.wrong or self.bad or self.failed else 0
+
+
+def page_of(parts: List[List[str]]) -> str:
+    """Groups of lines with an empty line between them."""
+    return "\n".join("".join(line + "\n" for line in part) for part in parts if part)
