@@ -1,24 +1,11 @@
 /* Every entry of quicksetter.h with good, extreme and damaged input, and the states that no tape reaches. Each call's buffers stand between guard bytes.
- * Prints what failed, ends in 1 if any did. Tables say what is tried; document 01 is cited by its words. */
-#include "quicksetter.h"
+ * Prints what failed, ends in 1 if any did. Tables say what is tried; document 01 is cited by its words. The bytes that last,
+ * and long random runs, are test_lasting.c's. */
+#define _DEFAULT_SOURCE /* mmap */
+#define PROGRAM "test.c"
+#include "testing.h"
 
-#include <stdbool.h>
-#include <stdio.h>
-#include <string.h>
-
-#define COUNT(table) (sizeof(table) / sizeof *(table))
-
-/* ---- checking ------------------------------------------------------------------------------------------------------------------------------------------- */
-
-static unsigned long checks, failures;
-
-static void check(bool good, const char *what, unsigned long number) {
-    checks++;
-    if (good)
-        return;
-    failures++;
-    printf("test.c: FAILED: %s (%lu)\n", what, number);
-}
+#include <sys/mman.h>
 
 /* ---- what one call is lent ------------------------------------------------------------------------------------------------------------------------------ */
 
@@ -33,14 +20,12 @@ struct lent {
     uint8_t guard2[GUARD];
     uint8_t room[QS_REPLY_ROOM + SPARE];
     uint8_t guard3[GUARD];
-};
-
-struct plate {
-    uint32_t total, bits, address, ticks, pause;
+    uint8_t lasting[QS_LASTING_LENGTH + SPARE];
+    uint8_t guard4[GUARD];
 };
 
 struct lengths {
-    size_t image, memory, room;
+    uint64_t image, memory, room;
 };
 
 static const struct plate SHEET = {112, 24, 0, 4, 55};
@@ -57,41 +42,45 @@ static struct lengths right(struct plate p) {
 
 /* ---- the library's calls, all of them ------------------------------------------------------------------------------------------------------------------- */
 
-static size_t make_fresh(struct plate p, size_t image_length) {
+static uint64_t make_fresh(struct plate p, uint64_t image_length) {
     return qs_fresh(p.total, p.bits, p.address, p.ticks, p.pause, lent.image, image_length);
 }
 
-static size_t character_with(struct plate p, struct lengths n, uint32_t tick, uint8_t value, uint8_t parity) {
-    return qs_character(lent.image, n.image, tick, value, parity, p.total, p.bits, p.address, p.ticks, p.pause, lent.memory, n.memory, lent.room, n.room);
+static uint64_t make_restart(struct plate p, uint64_t lasting_length, uint64_t image_length) {
+    return qs_restart(p.total, p.bits, p.address, p.ticks, p.pause, lent.lasting, lasting_length, lent.image, image_length);
 }
 
-static size_t poll_with(struct plate p, struct lengths n, uint32_t tick) {
-    return qs_poll(lent.image, n.image, tick, p.total, p.bits, p.address, p.ticks, p.pause, lent.memory, n.memory, lent.room, n.room);
+static uint64_t character_with(struct lengths n, uint32_t tick, uint8_t value, uint8_t parity) {
+    return qs_character(lent.image, n.image, tick, value, parity, lent.memory, n.memory, lent.room, n.room);
 }
 
-static size_t measured_with(struct plate p, struct lengths n, uint32_t position) {
-    return qs_measured(lent.image, n.image, position, p.total, p.bits, p.address, p.ticks, p.pause);
+static uint64_t poll_with(struct lengths n, uint32_t tick) {
+    return qs_poll(lent.image, n.image, tick, lent.memory, n.memory, lent.room, n.room);
 }
 
-static size_t fault_with(struct plate p, struct lengths n, uint8_t code) {
-    return qs_fault(lent.image, n.image, code, p.total, p.bits, p.address, p.ticks, p.pause);
+static uint64_t measured_with(struct lengths n, uint32_t position) {
+    return qs_measured(lent.image, n.image, position);
 }
 
-static size_t power_on_with(struct plate p, struct lengths n) {
-    return qs_power_on(lent.image, n.image, p.total, p.bits, p.address, p.ticks, p.pause);
+static uint64_t fault_with(struct lengths n, uint8_t code) {
+    return qs_fault(lent.image, n.image, code);
+}
+
+static uint64_t power_on_with(struct lengths n) {
+    return qs_power_on(lent.image, n.image);
 }
 
 /* asked is the command and its data. */
-static size_t request_with(uint32_t address, const uint8_t *asked, size_t asked_length, size_t room_length) {
-    return qs_request(address, asked[0], asked + 1, asked_length - 1, lent.room, room_length);
+static uint64_t request_with(uint32_t address, const uint8_t *asked, uint64_t asked_length, uint64_t buffer_length) {
+    return qs_request(address, asked[0], asked + 1, asked_length - 1, lent.room, buffer_length);
 }
 
 struct judgement {
     uint32_t verdict;
-    struct qs_piece data;
+    uint64_t part;
 };
 
-static struct judgement judge(const uint8_t *request, size_t request_length, const uint8_t *reply, size_t reply_length) {
+static struct judgement judge(const uint8_t *request, uint64_t request_length, const uint8_t *reply, uint64_t reply_length) {
     return (struct judgement){qs_judge(request, request_length, reply, reply_length), qs_data_part(request, request_length, reply, reply_length)};
 }
 
@@ -105,33 +94,40 @@ static bool as_it_was(void) {
     return memcmp(&before, &lent, sizeof lent) == 0;
 }
 
-/* Guards, and all of the buffers that lies beyond the lengths that were handed in. */
+/* Guards, the image's head, and all of the buffers that lies beyond the lengths that were handed in. */
 static bool guards_stand(struct lengths n) {
     return memcmp(lent.guard0, before.guard0, GUARD) == 0 && memcmp(lent.guard1, before.guard1, GUARD) == 0 &&
            memcmp(lent.guard2, before.guard2, GUARD) == 0 && memcmp(lent.guard3, before.guard3, GUARD) == 0 &&
+           memcmp(lent.guard4, before.guard4, GUARD) == 0 && memcmp(lent.lasting, before.lasting, sizeof lent.lasting) == 0 &&
+           memcmp(lent.image, before.image, QS_IMAGE_LASTING) == 0 &&
            memcmp(lent.image + n.image, before.image + n.image, sizeof lent.image - n.image) == 0 &&
            memcmp(lent.memory + n.memory, before.memory + n.memory, sizeof lent.memory - n.memory) == 0 &&
            memcmp(lent.room + n.room, before.room + n.room, sizeof lent.room - n.room) == 0;
 }
 
+static const uint8_t FRESH_LASTING[12] = {0x55, 0x55, 0x55, 0x55};
+
 /* A fresh board with blank memory and everything round it marked. */
 static void start(struct plate p) {
+    uint8_t expected[171];
+    image_of(p, FRESH_LASTING, expected);
     memset(&lent, GUARD_BYTE, sizeof lent);
     memset(lent.memory, 0, QS_MEMORY_LENGTH(p.total));
     memset(lent.room, ROOM_BYTE, sizeof lent.room);
     now = 1000;
     check(make_fresh(p, QS_IMAGE_LENGTH) == 0, "a good plate is taken", p.total);
+    check(memcmp(lent.image, expected, sizeof expected) == 0, "a fresh image tells its plate", p.total);
 }
 
 enum call { CHARACTER, POLL, MEASURED, FAULT, POWER_ON, CALLS };
 
-static size_t call_with(enum call call, struct plate p, struct lengths n) {
+static uint64_t call_with(enum call call, struct lengths n) {
     switch (call) {
-    case CHARACTER: return character_with(p, n, now, 0x40, 0);
-    case POLL: return poll_with(p, n, now);
-    case MEASURED: return measured_with(p, n, 5);
-    case FAULT: return fault_with(p, n, 0x31);
-    default: return power_on_with(p, n);
+    case CHARACTER: return character_with(n, now, 0x40, 0);
+    case POLL: return poll_with(n, now);
+    case MEASURED: return measured_with(n, 5);
+    case FAULT: return fault_with(n, 0x31);
+    default: return power_on_with(n);
     }
 }
 
@@ -140,12 +136,12 @@ static bool takes_buffers(enum call call) {
 }
 
 /* Every call refuses so; those that take no memory and no room know R1 only. */
-static void all_refuse(struct plate p, struct lengths n, size_t refusal, const char *what, unsigned long number) {
+static void all_refuse(struct lengths n, uint64_t refusal, const char *what, unsigned long number) {
     for (int call = 0; call < CALLS; call++) {
         if (refusal != QS_R1 && !takes_buffers((enum call)call))
             continue;
         remember();
-        check(call_with((enum call)call, p, n) == refusal, what, number * 10 + (unsigned long)call);
+        check(call_with((enum call)call, n) == refusal, what, number * 10 + (unsigned long)call);
         check(as_it_was(), what, number * 10 + (unsigned long)call);
     }
 }
@@ -155,7 +151,7 @@ static void all_take(struct plate p, const char *what, unsigned long number) {
     for (int call = 0; call < CALLS; call++) {
         lent = kept;
         remember();
-        check(call_with((enum call)call, p, right(p)) < QS_REFUSED, what, number * 10 + (unsigned long)call);
+        check(call_with((enum call)call, right(p)) < QS_REFUSED, what, number * 10 + (unsigned long)call);
         check(guards_stand(right(p)), what, number * 10 + (unsigned long)call);
     }
     lent = kept;
@@ -174,17 +170,27 @@ static struct plate with_number(struct plate p, int which, uint32_t value) {
     return p;
 }
 
+/* Fresh and restart with this plate, each over a board that is marked all through, take it or refuse it. */
+static void plate_is_taken(struct plate p, bool taken, unsigned long number) {
+    for (int restart = 0; restart < 2; restart++) {
+        memset(&lent, restart ? ROOM_BYTE : GUARD_BYTE, sizeof lent);
+        memcpy(lent.lasting, FRESH_LASTING, QS_LASTING_LENGTH);
+        remember();
+        uint64_t result = restart ? make_restart(p, QS_LASTING_LENGTH, QS_IMAGE_LENGTH) : make_fresh(p, QS_IMAGE_LENGTH);
+        check(result == (taken ? 0 : QS_R1), restart ? "restart and a plate" : "fresh and a plate", number);
+        if (taken)
+            image_of(p, FRESH_LASTING, before.image);
+        check(as_it_was(), restart ? "what restart leaves" : "what fresh leaves", number);
+    }
+}
+
 static void test_bad_plates(void) {
     for (int which = 0; which < 5; which++) {
-        for (int i = 0; i < 6; i++) {
-            struct plate bad = with_number(EIGHT, which, BAD_NUMBERS[which][i]);
-            unsigned long number = (unsigned long)(which * 10 + i);
-            start(EIGHT);
-            remember();
-            check(make_fresh(bad, QS_IMAGE_LENGTH) == QS_R1 && as_it_was(), "fresh refuses a plate", number);
-            all_refuse(bad, right(EIGHT), QS_R1, "R1 for a plate", number);
-            all_refuse(bad, (struct lengths){QS_IMAGE_LENGTH, QS_MEMORY_LENGTH(8) - 1, QS_REPLY_ROOM - 1}, QS_R1, "R1 for a plate before R2 and R3", number);
-            all_refuse(bad, (struct lengths){0, 0, 0}, QS_R1, "R1 for a plate before R2 and R3", number);
+        for (int i = 0; i < 6; i++)
+            plate_is_taken(with_number(EIGHT, which, BAD_NUMBERS[which][i]), false, (unsigned long)(which * 10 + i));
+        for (uint32_t value = 0; value < 600; value++) {
+            struct plate p = with_number(EIGHT, which, value);
+            plate_is_taken(p, possible(p), (unsigned long)which * 1000 + value);
         }
     }
 }
@@ -198,17 +204,18 @@ static void test_good_plates(void) {
     }
 }
 
+static const uint64_t WRONG_IMAGES[] = {0, 1, 6, QS_IMAGE_KEPT, 165, QS_IMAGE_LENGTH - 1, QS_IMAGE_LENGTH + 1, QS_IMAGE_LENGTH + SPARE};
+
 static void test_fresh(void) {
-    uint8_t expected[QS_IMAGE_LENGTH] = {0x55, 0x55, 0x55, 0x55};
+    uint8_t expected[QS_IMAGE_LENGTH] = {1, 112, 24, 0, 4, 55, 0x55, 0x55, 0x55, 0x55};
     memset(&lent, GUARD_BYTE, sizeof lent);
     remember();
     check(make_fresh(SHEET, QS_IMAGE_LENGTH) == 0, "fresh returns 0", 0);
     check(memcmp(lent.image, expected, sizeof expected) == 0, "a fresh image", 0);
     memcpy(lent.image, before.image, sizeof expected);
     check(as_it_was(), "fresh leaves all behind the image as it was", 0);
-    static const size_t wrong[] = {0, 1, QS_IMAGE_KEPT, QS_IMAGE_LENGTH - 1, QS_IMAGE_LENGTH + 1, QS_IMAGE_LENGTH + SPARE};
-    for (size_t i = 0; i < COUNT(wrong); i++)
-        check(make_fresh(SHEET, wrong[i]) == QS_R1 && as_it_was(), "fresh refuses an image's length", wrong[i]);
+    for (size_t i = 0; i < COUNT(WRONG_IMAGES); i++)
+        check(make_fresh(SHEET, WRONG_IMAGES[i]) == QS_R1 && as_it_was(), "fresh refuses an image's length", WRONG_IMAGES[i]);
 }
 
 /* ---- damaged images, wrong sizes ------------------------------------------------------------------------------------------------------------------------ */
@@ -295,12 +302,54 @@ static void test_damaged_images(void) {
     struct lengths none = {QS_IMAGE_LENGTH, 0, 0};
     for (unsigned long i = 0; i < 2 * COUNT(DAMAGED); i++) {
         start_with(EIGHT, DAMAGED[i / 2].image, i % 2);
-        all_refuse(EIGHT, right(EIGHT), QS_R1, DAMAGED[i / 2].name, i);
-        all_refuse(EIGHT, none, QS_R1, DAMAGED[i / 2].name, i);
+        all_refuse(right(EIGHT), QS_R1, DAMAGED[i / 2].name, i);
+        all_refuse(none, QS_R1, DAMAGED[i / 2].name, i);
     }
     for (unsigned long i = 0; i < 2 * COUNT(EXTREME); i++) {
         start_with(EIGHT, EXTREME[i / 2].image, i % 2);
         all_take(EIGHT, EXTREME[i / 2].name, i);
+    }
+}
+
+/* The image's head: another layout number, or a plate number that is not possible, is R1 for every call, whatever else is lent. */
+static void test_heads(void) {
+    for (uint32_t i = 0; i < 6 * 256; i++) {
+        uint32_t place = i / 256, value = i % 256;
+        struct plate p = place == 0 ? EIGHT : with_number(EIGHT, (int)place - 1, value);
+        bool taken = place == 0 ? value == 1 : possible(p);
+        start(EIGHT);
+        lent.image[place] = (uint8_t)value;
+        if (taken) {
+            memset(lent.memory, 0, QS_MEMORY_LENGTH(p.total));
+            all_take(p, "a possible head", i);
+            continue;
+        }
+        all_refuse(right(EIGHT), QS_R1, "R1 for a head", i);
+        if (p.total <= 112)
+            all_refuse(right(p), QS_R1, "R1 for a head with its memory", i);
+        all_refuse((struct lengths){QS_IMAGE_LENGTH, QS_MEMORY_LENGTH(8) - 1, QS_REPLY_ROOM - 1}, QS_R1, "R1 for a head before R2 and R3", i);
+        all_refuse((struct lengths){QS_IMAGE_LENGTH, QS_MEMORY_LENGTH(8), 0}, QS_R1, "R1 for a head before R3", i);
+        all_refuse((struct lengths){QS_IMAGE_LENGTH, 0, 0}, QS_R1, "R1 for a head before R2 and R3", i);
+        all_refuse((struct lengths){0, 0, 0}, QS_R1, "R1 for a head and no image", i);
+    }
+}
+
+/* The memory's length is by the plate that the image holds: every other number of blocks is R2. */
+static void test_memory_by_plate(void) {
+    for (uint32_t total = 1; total <= 112; total++) {
+        struct plate p = with_number(EIGHT, 0, total);
+        start(p);
+        for (uint32_t blocks = 0; blocks <= 112; blocks++) {
+            struct lengths n = {QS_IMAGE_LENGTH, QS_MEMORY_LENGTH(blocks), QS_REPLY_ROOM};
+            if (blocks != total)
+                all_refuse(n, QS_R2, "memory of another plate", total * 1000 + blocks);
+        }
+        for (uint32_t more = 1; more <= 17; more += 16) {
+            all_refuse((struct lengths){QS_IMAGE_LENGTH, QS_MEMORY_LENGTH(total) + more, QS_REPLY_ROOM}, QS_R2, "memory too long", total);
+            all_refuse((struct lengths){QS_IMAGE_LENGTH, QS_MEMORY_LENGTH(total) - more, 0}, QS_R2, "memory too short", total);
+        }
+        all_refuse((struct lengths){QS_IMAGE_LENGTH, QS_MEMORY_LENGTH(total), QS_REPLY_ROOM - 1}, QS_R3, "a room too short", total);
+        all_take(p, "the plate's memory", total);
     }
 }
 
@@ -318,7 +367,7 @@ static void test_offset_limits(void) {
         if (bits == 32)
             continue;
         start_with(p, offset_of(last + 1), 0);
-        all_refuse(p, right(p), QS_R1, "an offset over the largest", bits);
+        all_refuse(right(p), QS_R1, "an offset over the largest", bits);
     }
 }
 
@@ -328,10 +377,11 @@ enum { NONE = -10000 };
 static const struct {
     const char *name;
     int image, memory, room;
-    size_t refusal;
+    uint64_t refusal;
 } SIZES[] = {
     {"image a byte short: 134 places for kept bytes", -1, 0, 0, QS_R1},
     {"image a byte too long: 136 places for kept bytes", 1, 0, 0, QS_R1},
+    {"image without a head", -6, 0, 0, QS_R1},
     {"image without the kept bytes", -QS_KEPT_BYTES, 0, 0, QS_R1},
     {"image much too long", SPARE, 0, 0, QS_R1},
     {"no image", NONE, 0, 0, QS_R1},
@@ -355,8 +405,8 @@ static const struct {
     {"room much larger", 0, 0, SPARE, 0},
 };
 
-static size_t sized(size_t right_size, int more) {
-    return more == NONE ? 0 : right_size + (size_t)more;
+static uint64_t sized(uint64_t right_size, int more) {
+    return more == NONE ? 0 : right_size + (uint64_t)(int64_t)more;
 }
 
 /* A board whose every number is as large as it may be, so that no refusal is for want of a frame; with none open and with one. */
@@ -379,22 +429,15 @@ static void test_sizes(void) {
         struct lengths r = right(EIGHT), n = {sized(r.image, SIZES[row].image), sized(r.memory, SIZES[row].memory), sized(r.room, SIZES[row].room)};
         start_full(EIGHT, i % 2);
         if (SIZES[row].refusal != 0) {
-            all_refuse(EIGHT, n, SIZES[row].refusal, SIZES[row].name, i);
+            all_refuse(n, SIZES[row].refusal, SIZES[row].name, i);
             continue;
         }
         remember();
-        check(poll_with(EIGHT, n, now) < QS_REFUSED && guards_stand(n), SIZES[row].name, i);
+        check(poll_with(n, now) < QS_REFUSED && guards_stand(n), SIZES[row].name, i);
     }
 }
 
 /* ---- frames --------------------------------------------------------------------------------------------------------------------------------------------- */
-
-static uint8_t xor_of(const uint8_t *bytes, size_t n) {
-    uint8_t sum = 0;
-    for (size_t i = 0; i < n; i++)
-        sum ^= bytes[i];
-    return sum;
-}
 
 /* Bytes from hex pairs, with their checksum behind. */
 static size_t sealed(const char *hex, uint8_t *bytes) {
@@ -413,19 +456,19 @@ static size_t sealed(const char *hex, uint8_t *bytes) {
 }
 
 /* Sends the characters one tick apart, which never closes, then polls one tick early and in time. The reply's length; it stands in lent.room. */
-static size_t send_characters(struct plate p, const uint8_t *bytes, size_t n, size_t faulty) {
+static uint64_t send_characters(struct plate p, const uint8_t *bytes, size_t n, size_t faulty) {
     memset(lent.room, ROOM_BYTE, sizeof lent.room);
     for (size_t i = 0; i < n; i++) {
         remember();
-        size_t result = character_with(p, right(p), ++now, bytes[i], i == faulty ? 255 : 0);
+        uint64_t result = character_with(right(p), ++now, bytes[i], i == faulty ? 255 : 0);
         check(result == 0 && guards_stand(right(p)), "a character that closes nothing is silent", i);
         check(memcmp(lent.memory, before.memory, sizeof lent.memory) == 0 && memcmp(lent.room, before.room, sizeof lent.room) == 0,
               "a character that closes nothing leaves memory and room", i);
     }
     now += p.pause * p.ticks - 1;
     remember();
-    check(poll_with(p, right(p), now) == 0 && as_it_was(), "a poll that comes early does nothing", n);
-    size_t length = poll_with(p, right(p), ++now);
+    check(poll_with(right(p), now) == 0 && as_it_was(), "a poll that comes early does nothing", n);
+    uint64_t length = poll_with(right(p), ++now);
     check(length < QS_REFUSED && guards_stand(right(p)), "the poll in time is not refused", n);
     for (size_t i = length; i < sizeof lent.room; i++)
         check(lent.room[i] == ROOM_BYTE, "the room behind the reply is as it was", i);
@@ -448,7 +491,7 @@ static void asks(struct plate p, const char *request, const char *reply, const c
     if (replies(p, bytes, n, NONE_FAULTY, reply))
         return;
     failures++;
-    printf("test.c: FAILED: %s: %s is not answered with %s\n", name, request, reply[0] ? reply : "silence");
+    printf(PROGRAM ": FAILED: %s: %s is not answered with %s\n", name, request, reply[0] ? reply : "silence");
 }
 
 /* What is done with a board, line by line: a request and its reply, or a call of the host that returns 0: "fault 22", "measured FF000005", "power-on". */
@@ -537,11 +580,11 @@ static const struct trial TRIALS[] = {
 static void works(struct plate p, struct line l, const char *name) {
     unsigned number;
     if (sscanf(l.said, "fault %x", &number) == 1)
-        check(fault_with(p, right(p), (uint8_t)number) == 0, name, number);
+        check(fault_with(right(p), (uint8_t)number) == 0, name, number);
     else if (sscanf(l.said, "measured %x", &number) == 1)
-        check(measured_with(p, right(p), number) == 0, name, number);
+        check(measured_with(right(p), number) == 0, name, number);
     else if (strcmp(l.said, "power-on") == 0)
-        check(power_on_with(p, right(p)) == 0, name, 0);
+        check(power_on_with(right(p)) == 0, name, 0);
     else
         asks(p, l.said, l.reply, name);
 }
@@ -605,16 +648,16 @@ static void open_frame(struct plate p, uint32_t first_tick) {
     static const uint8_t request[] = {0x40, 0x4E, 0x0E};
     start(p);
     for (uint32_t i = 0; i < 3; i++)
-        check(character_with(p, right(p), first_tick + i, request[i], 0) == 0, "a frame is opened", i);
+        check(character_with(right(p), first_tick + i, request[i], 0) == 0, "a frame is opened", i);
 }
 
 /* Whether the frame that ended at `last` is closed by a call at `tick`, and by the character the next one opened. */
 static void closes_at(uint32_t last, uint32_t tick, bool closes) {
     open_frame(SHEET, last - 2);
-    check(poll_with(SHEET, right(SHEET), tick) == (closes ? 5u : 0u), "a poll closes or not", tick);
+    check(poll_with(right(SHEET), tick) == (closes ? 5u : 0u), "a poll closes or not", tick);
     check(lent.image[QS_IMAGE_OPEN] == (closes ? 0 : 1), "the frame is open or not", tick);
     open_frame(SHEET, last - 2);
-    check(character_with(SHEET, right(SHEET), tick, 0x77, 1) == (closes ? 5u : 0u), "a character closes or not", tick);
+    check(character_with(right(SHEET), tick, 0x77, 1) == (closes ? 5u : 0u), "a character closes or not", tick);
     check(lent.image[QS_IMAGE_KEPT_NUMBER] == (closes ? 1 : 4), "the character is kept in its frame", tick);
     check(lent.image[QS_IMAGE_SUM] == 0x77, "the sum is the frame's", tick);
     check(lent.image[QS_IMAGE_PARITY] == 1, "the parity fault is the new character's", tick);
@@ -637,21 +680,21 @@ static void test_gaps(void) {
 static void test_image_changes(void) {
     open_frame(SHEET, 500);
     remember();
-    check(measured_with(SHEET, right(SHEET), 0x04030201) == 0, "measured returns 0", 0);
+    check(measured_with(right(SHEET), 0x04030201) == 0, "measured returns 0", 0);
     memcpy(before.image + QS_IMAGE_MEASURED, "\x01\x02\x03\x04", 4);
     check(as_it_was(), "measured changes its four bytes", 0);
-    check(fault_with(SHEET, right(SHEET), 0x99) == 0, "fault returns 0", 0);
+    check(fault_with(right(SHEET), 0x99) == 0, "fault returns 0", 0);
     before.image[QS_IMAGE_WAITING] = 0x99;
     check(as_it_was(), "a fault changes one place", 0);
-    check(fault_with(SHEET, right(SHEET), 0x99) == 0 && fault_with(SHEET, right(SHEET), 0) == 0 && as_it_was(), "a waiting code and 00h change nothing", 0);
-    check(fault_with(SHEET, right(SHEET), 0x24) == 0, "24h is taken", 0);
+    check(fault_with(right(SHEET), 0x99) == 0 && fault_with(right(SHEET), 0) == 0 && as_it_was(), "a waiting code and 00h change nothing", 0);
+    check(fault_with(right(SHEET), 0x24) == 0, "24h is taken", 0);
     before.image[QS_IMAGE_LOCKED] = 1;
     check(as_it_was(), "24h locks and does not wait", 0);
-    check(character_with(SHEET, right(SHEET), 0x01020304, 0x5A, 0) == 5, "the frame is closed by the next character", 0);
+    check(character_with(right(SHEET), 0x01020304, 0x5A, 0) == 5, "the frame is closed by the next character", 0);
     memcpy(before.room, lent.room, 5);
     memcpy(before.image + QS_IMAGE_LAST, "\x04\x03\x02\x01\x5A\x01\x5A", 7);
     check(as_it_was(), "kept bytes beyond their number are left as they were", 0);
-    check(power_on_with(SHEET, right(SHEET)) == 0, "power-on returns 0", 0);
+    check(power_on_with(right(SHEET)) == 0, "power-on returns 0", 0);
     memset(before.image + QS_IMAGE_WAITING, 0, QS_IMAGE_KEPT - QS_IMAGE_WAITING);
     check(as_it_was(), "power-on clears queue, lock and the frame's numbers", 0);
 }
@@ -662,14 +705,14 @@ static void test_closed_frame_numbers(void) {
     start(SHEET);
     memcpy(lent.image + QS_IMAGE_OPEN, junk, sizeof junk);
     remember();
-    check(poll_with(SHEET, right(SHEET), 5000) == 0 && as_it_was(), "a poll with no frame open does nothing", 0);
-    check(fault_with(SHEET, right(SHEET), 0) == 0 && as_it_was(), "nor does a fault 00h", 0);
-    check(character_with(SHEET, right(SHEET), 0x10, 0xAB, 0) == 0, "a character opens a frame", 0);
+    check(poll_with(right(SHEET), 5000) == 0 && as_it_was(), "a poll with no frame open does nothing", 0);
+    check(fault_with(right(SHEET), 0) == 0 && as_it_was(), "nor does a fault 00h", 0);
+    check(character_with(right(SHEET), 0x10, 0xAB, 0) == 0, "a character opens a frame", 0);
     memcpy(before.image + QS_IMAGE_OPEN, "\x01\x00\x00\x10\x00\x00\x00\xAB\x01\xAB", 10);
     check(as_it_was(), "and starts its numbers anew", 0);
     memcpy(lent.image + QS_IMAGE_OPEN, junk, sizeof junk);
     remember();
-    check(power_on_with(SHEET, right(SHEET)) == 0, "power-on", 0);
+    check(power_on_with(right(SHEET)) == 0, "power-on", 0);
     memset(before.image + QS_IMAGE_OPEN, 0, QS_IMAGE_KEPT - QS_IMAGE_OPEN);
     check(as_it_was(), "power-on clears them", 0);
 }
@@ -690,7 +733,7 @@ static void test_states_that_never_arise(void) {
         lent.image[QS_IMAGE_SUM] = cases[i].sum;
         lent.image[QS_IMAGE_KEPT_NUMBER] = cases[i].kept;
         remember();
-        check(poll_with(SHEET, right(SHEET), 220) == n && memcmp(lent.room, expected, n) == 0, "a state that never arises", i);
+        check(poll_with(right(SHEET), 220) == n && memcmp(lent.room, expected, n) == 0, "a state that never arises", i);
         memcpy(before.room, expected, n);
         memset(before.image + QS_IMAGE_OPEN, 0, QS_IMAGE_KEPT - QS_IMAGE_OPEN);
         check(as_it_was(), "its frame's numbers are 0 afterwards", i);
@@ -792,39 +835,63 @@ static void test_largest(void) {
 
 /* ---- the bench ------------------------------------------------------------------------------------------------------------------------------------------ */
 
-static void request_is(uint32_t address, const char *command_and_data, size_t room_length, const char *expected_text, size_t refusal) {
+static void request_is(uint32_t address, const char *command_and_data, uint64_t buffer_length, const char *expected_text, uint64_t refusal) {
     uint8_t given[QS_REQUEST_BUFFER + 1], expected[QS_REQUEST_BUFFER + 1];
     size_t n = sealed(command_and_data, given) - 1;
     size_t expected_length = sealed(expected_text, expected);
     memset(&lent, GUARD_BYTE, sizeof lent);
     remember();
-    size_t result = request_with(address, given, n, room_length);
+    uint64_t result = request_with(address, given, n, buffer_length);
     check(result == (refusal != 0 ? refusal : expected_length), command_and_data, address);
     memcpy(before.room, expected, expected_length);
     check(as_it_was(), command_and_data, address);
 }
 
+/* Commands and data that the bench writes, with the length of the reply to each; no reply to 53h. Then those that it does not write. */
+static const struct {
+    const char *asked;
+    uint64_t reply_length;
+} GOOD[] = {
+    {"42", 7},
+    {"43 00 00 00 02 55", 3},
+    {"46", 6},
+    {"47", 3},
+    {"49 55", 3},
+    {"4A 00 00 01 55", 7},
+    {"4A 00 00 30 55", 54},
+    {"4A FF FF 7F 55", 133},
+    {"4A FF FF 80 55", 134},
+    {"4B 00 00 01 55 AA", 6},
+    {"4B 01 00 03 55 AA BB CC", 6},
+    {"4C FF", 5},
+    {"4D FF FF FF", 5},
+    {"4E", 5},
+    {"4F 03 55 66", 4},
+    {"50", 4},
+    {"53", QS_B5},
+};
+
+static const char *const BAD[] = {"44", "C2", "00", "FF", "42 00", "43", "43 00 00 00 02", "49", "4A 00 00 00 55", "4A 00 00 81 55", "4A 00 00 01",
+                                  "4B", "4B 00 00 00 55", "4B 00 00 02 55 AA", "4B 00 00 01 55", "4C", "4D 00 C0", "4F 04 55 66", "50 00", "53 00"};
+
 static void test_requests(void) {
-    static const char *const good[] = {"42", "43 00 00 00 02 55", "46", "47", "49 55", "4A 00 00 01 55", "4A FF FF 80 55", "4B 00 00 01 55 AA",
-                                       "4C FF", "4D FF FF FF", "4E", "4F 03 55 66", "50", "53"};
-    static const char *const bad[] = {"44", "C2", "00", "FF", "42 00", "43", "43 00 00 00 02", "49", "4A 00 00 00 55", "4A 00 00 81 55", "4A 00 00 01",
-                                      "4B", "4B 00 00 00 55", "4B 00 00 02 55 AA", "4B 00 00 01 55", "4C", "4D 00 C0", "4F 04 55 66", "50 00", "53 00"};
-    for (size_t i = 0; i < COUNT(good); i++) {
+    for (size_t i = 0; i < COUNT(GOOD); i++) {
         char expected[64];
-        snprintf(expected, sizeof expected, "40 %s", good[i]);
-        request_is(0, good[i], QS_REQUEST_BUFFER, expected, 0);
-        snprintf(expected, sizeof expected, "5F %s", good[i]);
-        request_is(31, good[i], QS_REQUEST_BUFFER + 1, expected, 0);
-        snprintf(expected, sizeof expected, "FF %s", good[i]);
-        request_is(QS_BROADCAST, good[i], QS_REQUEST_BUFFER, expected, 0);
-        request_is(0, good[i], QS_REQUEST_BUFFER - 1, "", QS_R4);
-        request_is(32, good[i], QS_REQUEST_BUFFER, "", QS_R5);
-        request_is(256, good[i], QS_REQUEST_BUFFER, "", QS_R5);
-        request_is(UINT32_MAX, good[i], 0, "", QS_R4);
+        const char *good = GOOD[i].asked;
+        snprintf(expected, sizeof expected, "40 %s", good);
+        request_is(0, good, QS_REQUEST_BUFFER, expected, 0);
+        snprintf(expected, sizeof expected, "5F %s", good);
+        request_is(31, good, QS_REQUEST_BUFFER + 1, expected, 0);
+        snprintf(expected, sizeof expected, "FF %s", good);
+        request_is(QS_BROADCAST, good, QS_REQUEST_BUFFER, expected, 0);
+        request_is(0, good, QS_REQUEST_BUFFER - 1, "", QS_R4);
+        request_is(32, good, QS_REQUEST_BUFFER, "", QS_R5);
+        request_is(256, good, QS_REQUEST_BUFFER, "", QS_R5);
+        request_is(UINT32_MAX, good, 0, "", QS_R4);
     }
-    for (size_t i = 0; i < COUNT(bad); i++) {
-        request_is(0, bad[i], QS_REQUEST_BUFFER, "", QS_R5);
-        request_is(0, bad[i], 3, "", QS_R4);
+    for (size_t i = 0; i < COUNT(BAD); i++) {
+        request_is(0, BAD[i], QS_REQUEST_BUFFER, "", QS_R5);
+        request_is(0, BAD[i], 3, "", QS_R4);
     }
 }
 
@@ -833,11 +900,11 @@ static void test_long_requests(void) {
     memset(&lent, GUARD_BYTE, sizeof lent);
     remember();
     for (size_t n = 1; n < sizeof asked; n++) {
-        size_t result = request_with(0, asked, n, sizeof lent.room);
+        uint64_t result = request_with(0, asked, n, sizeof lent.room);
         check(result == (n == 133 ? 135 : QS_R5), "4Bh wants 4 + count bytes", n);
         if (n == 133)
             lent = before;
-        check(as_it_was(), "a refused request leaves the room", n);
+        check(as_it_was(), "a refused request leaves the buffer", n);
     }
 }
 
@@ -885,8 +952,15 @@ static void judged_as(const uint8_t *request, size_t request_length, const uint8
     struct judgement found = judge(request, request_length, reply, reply_length);
     bool taken = verdict < QS_VERDICT_REFUSED;
     check(found.verdict == verdict, "verdict", number);
-    check(found.data.place == (taken ? 2u : 0u), "the piece's place", number);
-    check(found.data.length == (taken ? reply_length - 3 : 0u), "the piece's length", number);
+    check(found.part == (taken ? ((uint64_t)2 << 32) + reply_length - 3 : 0u), "the data part", number);
+    check(QS_DATA_PLACE(found.part) == (taken ? 2u : 0u), "the data part's place", number);
+    check(QS_DATA_LENGTH(found.part) == (taken ? reply_length - 3 : 0u), "the data part's length", number);
+    if (!taken)
+        return;
+    bool error = (reply[1] & 0x7F) == 0x50 && request[1] != 0x50;
+    check(QS_VERDICT_IS_ERROR(found.verdict) == error, "the verdict tells an error", number);
+    check(!error || QS_VERDICT_CODE(found.verdict) == reply[2], "the verdict tells its code", number);
+    check(QS_VERDICT_WARNS(found.verdict) == (reply[1] >= 0x80), "the verdict tells a warning", number);
 }
 
 static void test_verdicts(void) {
@@ -907,11 +981,210 @@ static void test_verdicts(void) {
     }
 }
 
+/* ---- the length of a reply ------------------------------------------------------------------------------------------------------------------------------ */
+
+/* The request to a board, or to all, sealed. */
+static size_t request_of(const char *address, const char *asked, uint8_t *request) {
+    char hex[64];
+    snprintf(hex, sizeof hex, "%s %s", address, asked);
+    return sealed(hex, request);
+}
+
+/* What is told of a reply that begins so, as far as it is here: nothing before its second byte, and neither its address nor its rest is read. */
+static void length_is(const uint8_t *request, size_t asked, uint8_t command, uint64_t expected, unsigned long number) {
+    static const uint8_t addresses[] = {0x40, 0x5F, 0x00, 0xFF};
+    static const uint64_t here[] = {2, 3, 4, 5, QS_REPLY_ROOM, QS_REPLY_ROOM + 1, 300};
+    uint8_t reply[300];
+    memset(reply, (int)number, sizeof reply);
+    reply[1] = command;
+    for (size_t i = 0; i < COUNT(addresses); i++) {
+        reply[0] = addresses[i];
+        for (uint64_t none = 0; none < 2 && expected != QS_B0; none++)
+            check(qs_reply_length(request, asked, reply, none) == 0, "no length yet", number);
+        for (size_t j = 0; j < COUNT(here); j++)
+            check(qs_reply_length(request, asked, reply, here[j]) == expected, "a reply's length", number * 1000 + command);
+    }
+}
+
+/* Every command byte in the reply to every request: the request's own and 50h, each with and without bit 7, else B4. */
+static void test_reply_lengths(void) {
+    static const char *const addresses[] = {"40", "47", "5F", "FF"};
+    uint8_t request[QS_REQUEST_BUFFER];
+    for (size_t i = 0; i < COUNT(GOOD) * COUNT(addresses); i++) {
+        size_t asked = request_of(addresses[i % COUNT(addresses)], GOOD[i / COUNT(addresses)].asked, request);
+        uint64_t own = GOOD[i / COUNT(addresses)].reply_length;
+        for (unsigned command = 0; command < 256; command++) {
+            unsigned bare = command % 128;
+            length_is(request, asked, (uint8_t)command, bare == 0x50 ? 4 : bare == request[1] ? own : QS_B4, i);
+        }
+    }
+}
+
+/* B0 before B4 and B5: requests that the bench does not write, a wrong checksum, another address, cut and too long. */
+static void test_reply_lengths_of_none(void) {
+    uint8_t request[QS_REQUEST_BUFFER + 2];
+    static const uint8_t commands[] = {0x42, 0x4E, 0x50, 0x53, 0xD0, 0x00, 0xFF};
+    for (size_t i = 0; i < COUNT(BAD) * COUNT(commands); i++) {
+        size_t asked = request_of("40", BAD[i / COUNT(commands)], request);
+        length_is(request, asked, commands[i % COUNT(commands)], QS_B0, i);
+        length_is(request, asked, request[1], QS_B0, i);
+    }
+    for (size_t i = 0; i < COUNT(GOOD); i++) {
+        size_t asked = request_of("40", GOOD[i].asked, request);
+        for (size_t n = 0; n < asked; n++)
+            if (n < 3 || xor_of(request, n) != 0)
+                length_is(request, n, request[1], QS_B0, i);
+        for (size_t place = 0; place < asked; place++) {
+            request[place] ^= 0x10;
+            length_is(request, asked, request[1], QS_B0, i);
+            request[place] ^= 0x10;
+        }
+        request[asked] = 0;
+        length_is(request, asked + 1, request[1], QS_B0, i);
+        asked = request_of("60", GOOD[i].asked, request);
+        length_is(request, asked, request[1], QS_B0, i);
+    }
+}
+
+/* The header: "0 while fewer than two bytes are here; else .. QS_B0". So no request is refused that early. */
+static void test_reply_lengths_too_early(void) {
+    static const uint8_t reply[] = {0x40, 0x4E};
+    uint8_t request[QS_REQUEST_BUFFER];
+    for (size_t i = 0; i < COUNT(BAD); i++)
+        for (uint64_t here = 0; here < 2; here++) {
+            size_t asked = request_of("40", BAD[i], request);
+            check(qs_reply_length(request, asked, reply, here) == 0, "no request is refused before two bytes are here", i);
+            check(qs_reply_length(request, 0, reply, here) == 0, "nor none", i);
+        }
+}
+
+/* A reply that is judged has the length that was told from its second byte on; of one that is not, nothing else is told than the judge's own reason. */
+static void test_reply_lengths_as_judged(void) {
+    for (size_t i = 0; i < COUNT(JUDGED); i++) {
+        uint8_t request[QS_REQUEST_BUFFER], reply[QS_REPLY_ROOM];
+        size_t asked = sealed(JUDGED[i].request, request), replied = sealed(JUDGED[i].reply, reply);
+        uint32_t verdict = JUDGED[i].verdict;
+        for (size_t here = 0; here <= replied; here++) {
+            uint64_t told = qs_reply_length(request, asked, reply, here);
+            if (here < 2 && verdict != QS_B0)
+                check(told == 0, "no length yet", i);
+            else if (here < 2)
+                continue; /* test_reply_lengths_too_early */
+            else if (verdict < QS_VERDICT_REFUSED)
+                check(told == replied, "the length of a reply that is judged", i);
+            else if (verdict == QS_B0 || verdict == QS_B4)
+                check(told == verdict, "the judge's reason", i);
+            else if (verdict == QS_B5)
+                check(told == QS_B5 || (told >= 3 && told <= QS_REPLY_ROOM && told != replied), "another length", i);
+        }
+    }
+}
+
+/* ---- lengths of more than 32 bits ----------------------------------------------------------------------------------------------------------------------- */
+
+/* 2^32 bytes and a page that nobody else has; what is not touched costs nothing. */
+static const uint64_t FAR = (uint64_t)1 << 32;
+static uint8_t *wide;
+
+/* A length that is right but for 2^32 is a wrong one, and a room of more than 2^32 bytes is room enough. */
+static void long_lengths_of_the_board(void) {
+    uint8_t lasting[QS_LASTING_LENGTH] = {0}, image[QS_IMAGE_LENGTH];
+    struct lengths n = right(EIGHT);
+    check(qs_fresh(8, 24, 0, 4, 55, wide, FAR + n.image) == QS_R1, "fresh and a long image", 0);
+    check(qs_restart(8, 24, 0, 4, 55, lasting, sizeof lasting, wide, FAR + n.image) == QS_R1, "restart and a long image", 0);
+    check(qs_restart(8, 24, 0, 4, 55, wide, FAR + QS_LASTING_LENGTH, image, n.image) == QS_R1, "restart and long lasting bytes", 0);
+    open_frame(EIGHT, 1000);
+    memcpy(wide, lent.image, QS_IMAGE_LENGTH);
+    remember();
+    check(qs_character(wide, FAR + n.image, 2000, 0, 0, lent.memory, n.memory, lent.room, n.room) == QS_R1, "a character and a long image", 0);
+    check(qs_poll(wide, FAR + n.image, 2000, lent.memory, n.memory, lent.room, n.room) == QS_R1, "a poll and a long image", 0);
+    check(qs_measured(wide, FAR + n.image, 2) == QS_R1, "measured and a long image", 0);
+    check(qs_fault(wide, FAR + n.image, 2) == QS_R1 && qs_power_on(wide, FAR + n.image) == QS_R1, "fault, power-on and a long image", 0);
+    check(memcmp(wide, before.image, QS_IMAGE_LENGTH) == 0, "a long image is as it was", 0);
+    check(qs_character(lent.image, n.image, 2000, 0, 0, wide, FAR + n.memory, lent.room, n.room) == QS_R2, "a character and a long memory", 0);
+    check(qs_poll(lent.image, n.image, 2000, wide, FAR + n.memory, lent.room, n.room) == QS_R2 && as_it_was(), "a poll and a long memory", 0);
+    check(qs_poll(lent.image, n.image, 2000, lent.memory, n.memory, wide, FAR + 3) == 5, "a poll and a long room", 0);
+    check(memcmp(wide, "\x40\x4E\x08\x00\x06", 5) == 0, "the reply is in it", 0);
+}
+
+/* Not requests and judged replies of that length: the library reads them to their end, which takes seconds. */
+static void long_lengths_of_the_bench(void) {
+    static const uint8_t request[] = {0x40, 0x4E, 0x0E}, reply[] = {0x40, 0x4E, 0x08, 0x00, 0x06};
+    memcpy(wide, reply, sizeof reply);
+    check(qs_request(0, 0x4E, wide, FAR, lent.room, QS_REQUEST_BUFFER) == QS_R5, "long data", 0);
+    check(qs_reply_length(request, 3, wide, FAR) == 5 && qs_reply_length(request, 3, wide, FAR + 1) == 5, "a long reply's length", 0);
+    check(qs_request(0, 0x4E, request, 0, wide, FAR + 3) == 3 && memcmp(wide, request, 3) == 0, "a long buffer", 0);
+}
+
+static void test_long_lengths(void) {
+    if (sizeof(size_t) < sizeof FAR)
+        return;
+    wide = mmap(NULL, (size_t)FAR + 4096, PROT_READ | PROT_WRITE, MAP_PRIVATE | MAP_ANONYMOUS | MAP_NORESERVE, -1, 0);
+    check(wide != MAP_FAILED, "2^32 bytes to lend", 0);
+    if (wide == MAP_FAILED)
+        return;
+    long_lengths_of_the_board();
+    memset(wide, 0, 4096);
+    long_lengths_of_the_bench();
+    munmap(wide, (size_t)FAR + 4096);
+}
+
+/* ---- macros --------------------------------------------------------------------------------------------------------------------------------------------- */
+
+static void test_verdict_macros(void) {
+    static const uint32_t plain[] = {QS_VERDICT_DONE, QS_B0, QS_B1, QS_B2, QS_B3, QS_B4, QS_B5, QS_B6};
+    for (uint32_t code = 0; code < 256; code++) {
+        uint32_t error = 256 + code, warned = 512 + code;
+        check(QS_VERDICT_IS_ERROR(error) && QS_VERDICT_IS_ERROR(warned), "an error", code);
+        check(QS_VERDICT_CODE(error) == code && QS_VERDICT_CODE(warned) == code, "its code", code);
+        check(!QS_VERDICT_WARNS(error) && QS_VERDICT_WARNS(warned), "its warning", code);
+        check(QS_VERDICT_WARNS((int)warned) && !QS_VERDICT_WARNS((int)error) && QS_VERDICT_IS_ERROR((uint64_t)warned), "in other types", code);
+    }
+    for (size_t i = 0; i < COUNT(plain); i++)
+        check(!QS_VERDICT_IS_ERROR(plain[i]) && !QS_VERDICT_WARNS(plain[i]), "neither error nor warning", plain[i]);
+    check(!QS_VERDICT_IS_ERROR(1) && QS_VERDICT_WARNS(1) && QS_VERDICT_DONE_WITH_WARNING == 1, "done with warning", 0);
+    check(QS_B0 == 1024 && QS_B6 == 1030, "the judge's refusals", 0);
+}
+
+/* Which commands store: 43h the offset, 47h and 49h the counter, 4Bh and 4Dh memory, 4Fh a code. */
+static void test_other_macros(void) {
+    for (uint32_t command = 0; command < 256; command++) {
+        uint32_t bare = command >= 128 ? command - 128 : command;
+        bool stores = bare == 0x43 || bare == 0x47 || bare == 0x49 || bare == 0x4B || bare == 0x4D || bare == 0x4F;
+        check(QS_MAY_CHANGE((uint8_t)command) == stores && QS_MAY_CHANGE(command) == stores, "a command that stores", command);
+    }
+    for (uint64_t result = 0; result <= 261; result++)
+        check(QS_IS_REFUSED(result) == (result == QS_R1 || result == QS_R2 || result == QS_R3 || result == QS_R4 || result == QS_R5), "a refusal", result);
+    check(QS_R1 == 257 && QS_R5 == 261, "the refusals", 0);
+    check(QS_DATA_PLACE((uint64_t)2 << 32 | 131) == 2 && QS_DATA_LENGTH((uint64_t)2 << 32 | 131) == 131, "the two numbers of a data part", 0);
+    for (uint64_t total = 1; total <= 112; total++)
+        check(QS_MEMORY_LENGTH(total) == 16 * total + total && QS_MEMORY_LENGTH((uint8_t)total) == 17 * total, "the memory's length", total);
+}
+
+/* Place and size of each part of the image, with no gap between them. */
+static void test_layout(void) {
+    static const unsigned parts[][2] = {
+        {QS_IMAGE_LAYOUT, QS_IMAGE_LAYOUT_SIZE},   {QS_IMAGE_TOTAL, QS_IMAGE_TOTAL_SIZE},     {QS_IMAGE_BITS, QS_IMAGE_BITS_SIZE},
+        {QS_IMAGE_ADDRESS, QS_IMAGE_ADDRESS_SIZE}, {QS_IMAGE_TICKS, QS_IMAGE_TICKS_SIZE},     {QS_IMAGE_PAUSE, QS_IMAGE_PAUSE_SIZE},
+        {QS_IMAGE_CODES, QS_IMAGE_CODES_SIZE},     {QS_IMAGE_COUNTER, QS_IMAGE_COUNTER_SIZE}, {QS_IMAGE_OFFSET, QS_IMAGE_OFFSET_SIZE},
+        {QS_IMAGE_MEASURED, QS_IMAGE_MEASURED_SIZE}, {QS_IMAGE_WAITING, QS_IMAGE_WAITING_SIZE}, {QS_IMAGE_LOCKED, QS_IMAGE_LOCKED_SIZE},
+        {QS_IMAGE_OPEN, QS_IMAGE_OPEN_SIZE},       {QS_IMAGE_LONGER, QS_IMAGE_LONGER_SIZE},   {QS_IMAGE_PARITY, QS_IMAGE_PARITY_SIZE},
+        {QS_IMAGE_LAST, QS_IMAGE_LAST_SIZE},       {QS_IMAGE_SUM, QS_IMAGE_SUM_SIZE},         {QS_IMAGE_KEPT_NUMBER, QS_IMAGE_KEPT_NUMBER_SIZE},
+        {QS_IMAGE_KEPT, QS_IMAGE_KEPT_SIZE},       {QS_IMAGE_LENGTH, 0},
+    };
+    for (size_t i = 1; i < COUNT(parts); i++)
+        check(parts[i][0] == parts[i - 1][0] + parts[i - 1][1], "a part begins where the last one ends", i);
+    check(QS_IMAGE_LASTING == QS_IMAGE_CODES && QS_IMAGE_LASTING + QS_IMAGE_LASTING_SIZE == QS_IMAGE_MEASURED, "the lasting bytes", 0);
+    check(QS_IMAGE_LENGTH == 171 && QS_LASTING_LENGTH == 12 && QS_LAYOUT_NUMBER == 1, "lengths and layout number", 0);
+}
+
 int main(void) {
     test_fresh();
     test_bad_plates();
     test_good_plates();
     test_damaged_images();
+    test_heads();
+    test_memory_by_plate();
     test_offset_limits();
     test_sizes();
     test_trials();
@@ -927,6 +1200,13 @@ int main(void) {
     test_requests();
     test_long_requests();
     test_verdicts();
-    printf("test.c: %lu checks, %lu failed\n", checks, failures);
-    return failures == 0 ? 0 : 1;
+    test_reply_lengths();
+    test_reply_lengths_of_none();
+    test_reply_lengths_too_early();
+    test_reply_lengths_as_judged();
+    test_long_lengths();
+    test_verdict_macros();
+    test_other_macros();
+    test_layout();
+    return ended();
 }

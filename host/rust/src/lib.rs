@@ -1,29 +1,30 @@
-//! The C entry points of host/quicksetter.h as safe functions on slices, and the state image as the second program's state.
+//! The C entry points of host/quicksetter.h as safe functions on slices, and the image as the second program's plate and state.
 
 pub mod dice;
 
 use second::{Plate, Refusal, State, Verdict};
 
-/// Length of the state image, and the places of its parts (host/quicksetter.h).
-pub const IMAGE_LENGTH: usize = 165;
-pub const COUNTER: usize = 4;
-pub const OFFSET: usize = 8;
-pub const MEASURED: usize = 12;
-pub const WAITING: usize = 16;
-pub const LOCKED: usize = 20;
-pub const OPEN: usize = 21;
-pub const LONGER: usize = 22;
-pub const PARITY: usize = 23;
-pub const LAST: usize = 24;
-pub const SUM: usize = 28;
-pub const KEPT_NUMBER: usize = 29;
-pub const KEPT: usize = 30;
+/// Length of the image, and the places of its parts (host/quicksetter.h).
+pub const IMAGE_LENGTH: usize = 171;
+pub const LAYOUT_NUMBER: u8 = 1;
+pub const PLATE: usize = 1;
+pub const LASTING: usize = 6;
+pub const CODES: usize = 6;
+pub const COUNTER: usize = 10;
+pub const OFFSET: usize = 14;
+pub const MEASURED: usize = 18;
+pub const WAITING: usize = 22;
+pub const LOCKED: usize = 26;
+pub const OPEN: usize = 27;
+pub const LONGER: usize = 28;
+pub const PARITY: usize = 29;
+pub const LAST: usize = 30;
+pub const SUM: usize = 34;
+pub const KEPT_NUMBER: usize = 35;
+pub const KEPT: usize = 36;
 
-#[repr(C)]
-struct Piece {
-    place: usize,
-    length: usize,
-}
+/// The bytes of the image that must last.
+pub const LASTING_LENGTH: usize = MEASURED - LASTING;
 
 extern "C" {
     fn qs_fresh(
@@ -33,93 +34,74 @@ extern "C" {
         ticks: u32,
         pause: u32,
         image: *mut u8,
-        image_length: usize,
-    ) -> usize;
+        image_length: u64,
+    ) -> u64;
+    fn qs_restart(
+        total: u32,
+        bits: u32,
+        address: u32,
+        ticks: u32,
+        pause: u32,
+        lasting: *const u8,
+        lasting_length: u64,
+        image: *mut u8,
+        image_length: u64,
+    ) -> u64;
     fn qs_character(
         image: *mut u8,
-        image_length: usize,
+        image_length: u64,
         tick: u32,
         value: u8,
         parity: u8,
-        total: u32,
-        bits: u32,
-        address: u32,
-        ticks: u32,
-        pause: u32,
         memory: *mut u8,
-        memory_length: usize,
+        memory_length: u64,
         room: *mut u8,
-        room_length: usize,
-    ) -> usize;
+        room_length: u64,
+    ) -> u64;
     fn qs_poll(
         image: *mut u8,
-        image_length: usize,
+        image_length: u64,
         tick: u32,
-        total: u32,
-        bits: u32,
-        address: u32,
-        ticks: u32,
-        pause: u32,
         memory: *mut u8,
-        memory_length: usize,
+        memory_length: u64,
         room: *mut u8,
-        room_length: usize,
-    ) -> usize;
-    fn qs_measured(
-        image: *mut u8,
-        image_length: usize,
-        position: u32,
-        total: u32,
-        bits: u32,
-        address: u32,
-        ticks: u32,
-        pause: u32,
-    ) -> usize;
-    fn qs_fault(
-        image: *mut u8,
-        image_length: usize,
-        code: u8,
-        total: u32,
-        bits: u32,
-        address: u32,
-        ticks: u32,
-        pause: u32,
-    ) -> usize;
-    fn qs_power_on(
-        image: *mut u8,
-        image_length: usize,
-        total: u32,
-        bits: u32,
-        address: u32,
-        ticks: u32,
-        pause: u32,
-    ) -> usize;
+        room_length: u64,
+    ) -> u64;
+    fn qs_measured(image: *mut u8, image_length: u64, position: u32) -> u64;
+    fn qs_fault(image: *mut u8, image_length: u64, code: u8) -> u64;
+    fn qs_power_on(image: *mut u8, image_length: u64) -> u64;
     fn qs_request(
         address: u32,
         command: u8,
         data: *const u8,
-        data_length: usize,
-        room: *mut u8,
-        room_length: usize,
-    ) -> usize;
+        data_length: u64,
+        buffer: *mut u8,
+        buffer_length: u64,
+    ) -> u64;
     fn qs_judge(
         request: *const u8,
-        request_length: usize,
+        request_length: u64,
         reply: *const u8,
-        reply_length: usize,
+        reply_length: u64,
     ) -> u32;
     fn qs_data_part(
         request: *const u8,
-        request_length: usize,
+        request_length: u64,
         reply: *const u8,
-        reply_length: usize,
-    ) -> Piece;
+        reply_length: u64,
+    ) -> u64;
+    fn qs_reply_length(
+        request: *const u8,
+        request_length: u64,
+        reply: *const u8,
+        reply_length: u64,
+    ) -> u64;
 }
 
 /// A length, or the refusal that the number says; every other number is an error of the library.
-fn result_of(number: usize) -> Result<usize, Refusal> {
+fn result_of(number: u64) -> Result<usize, Refusal> {
     match number {
-        0..=255 => Ok(number),
+        0..=255 => Ok(number as usize),
         257 => Err(Refusal::R1),
         258 => Err(Refusal::R2),
         259 => Err(Refusal::R3),
@@ -150,7 +132,25 @@ pub fn fresh(p: &Plate, image: &mut [u8]) -> Result<usize, Refusal> {
             p.ticks_per_bit,
             p.pause,
             image.as_mut_ptr(),
-            image.len(),
+            image.len() as u64,
+        )
+    })
+}
+
+/// An image by the library, from the bytes that lasted.
+pub fn restart(p: &Plate, lasting: &[u8], image: &mut [u8]) -> Result<usize, Refusal> {
+    // SAFETY: both slices are valid for their lengths, and the one that is written is exclusive.
+    result_of(unsafe {
+        qs_restart(
+            p.total_blocks,
+            p.position_bits,
+            p.address,
+            p.ticks_per_bit,
+            p.pause,
+            lasting.as_ptr(),
+            lasting.len() as u64,
+            image.as_mut_ptr(),
+            image.len() as u64,
         )
     })
 }
@@ -158,21 +158,13 @@ pub fn fresh(p: &Plate, image: &mut [u8]) -> Result<usize, Refusal> {
 /// A call on the library.
 pub fn call(
     call: Call,
-    p: &Plate,
     image: &mut [u8],
     memory: &mut [u8],
     room: &mut [u8],
 ) -> Result<usize, Refusal> {
-    let (i, il) = (image.as_mut_ptr(), image.len());
-    let (m, ml) = (memory.as_mut_ptr(), memory.len());
-    let (r, rl) = (room.as_mut_ptr(), room.len());
-    let (total, bits, address, ticks, pause) = (
-        p.total_blocks,
-        p.position_bits,
-        p.address,
-        p.ticks_per_bit,
-        p.pause,
-    );
+    let (i, il) = (image.as_mut_ptr(), image.len() as u64);
+    let (m, ml) = (memory.as_mut_ptr(), memory.len() as u64);
+    let (r, rl) = (room.as_mut_ptr(), room.len() as u64);
     // SAFETY: three exclusive slices, each valid for its length, so they neither overlap nor are null.
     result_of(unsafe {
         match call {
@@ -180,17 +172,11 @@ pub fn call(
                 tick,
                 value,
                 parity,
-            } => qs_character(
-                i, il, tick, value, parity, total, bits, address, ticks, pause, m, ml, r, rl,
-            ),
-            Call::Poll { tick } => qs_poll(
-                i, il, tick, total, bits, address, ticks, pause, m, ml, r, rl,
-            ),
-            Call::Measured(position) => {
-                qs_measured(i, il, position, total, bits, address, ticks, pause)
-            }
-            Call::Fault(code) => qs_fault(i, il, code, total, bits, address, ticks, pause),
-            Call::PowerOn => qs_power_on(i, il, total, bits, address, ticks, pause),
+            } => qs_character(i, il, tick, value, parity, m, ml, r, rl),
+            Call::Poll { tick } => qs_poll(i, il, tick, m, ml, r, rl),
+            Call::Measured(position) => qs_measured(i, il, position),
+            Call::Fault(code) => qs_fault(i, il, code),
+            Call::PowerOn => qs_power_on(i, il),
         }
     })
 }
@@ -229,9 +215,9 @@ pub fn write_request(
             address,
             command,
             data.as_ptr(),
-            data.len(),
+            data.len() as u64,
             room.as_mut_ptr(),
-            room.len(),
+            room.len() as u64,
         )
     };
     result_of(number)
@@ -240,7 +226,14 @@ pub fn write_request(
 /// The library's verdict.
 pub fn judge(request: &[u8], reply: &[u8]) -> Result<Verdict, Refusal> {
     // SAFETY: both slices are valid for their lengths and only read.
-    let number = unsafe { qs_judge(request.as_ptr(), request.len(), reply.as_ptr(), reply.len()) };
+    let number = unsafe {
+        qs_judge(
+            request.as_ptr(),
+            request.len() as u64,
+            reply.as_ptr(),
+            reply.len() as u64,
+        )
+    };
     match number {
         0 => Ok(Verdict::Done),
         1 => Ok(Verdict::DoneWithWarning),
@@ -260,9 +253,35 @@ pub fn judge(request: &[u8], reply: &[u8]) -> Result<Verdict, Refusal> {
 /// Place and length of the data part by the library.
 pub fn data_part(request: &[u8], reply: &[u8]) -> (usize, usize) {
     // SAFETY: both slices are valid for their lengths and only read.
-    let piece =
-        unsafe { qs_data_part(request.as_ptr(), request.len(), reply.as_ptr(), reply.len()) };
-    (piece.place, piece.length)
+    let part = unsafe {
+        qs_data_part(
+            request.as_ptr(),
+            request.len() as u64,
+            reply.as_ptr(),
+            reply.len() as u64,
+        )
+    };
+    ((part >> 32) as usize, (part & 0xFFFF_FFFF) as usize)
+}
+
+/// The length of the reply that begins so, by the library: 0 while it is not told.
+pub fn reply_length(request: &[u8], begun: &[u8]) -> Result<usize, Refusal> {
+    // SAFETY: both slices are valid for their lengths and only read.
+    let number = unsafe {
+        qs_reply_length(
+            request.as_ptr(),
+            request.len() as u64,
+            begun.as_ptr(),
+            begun.len() as u64,
+        )
+    };
+    match number {
+        0..=255 => Ok(number as usize),
+        1024 => Err(Refusal::B0),
+        1028 => Err(Refusal::B4),
+        1029 => Err(Refusal::B5),
+        _ => panic!("{number} is no length and no refusal"),
+    }
 }
 
 fn number_at(image: &[u8], place: usize) -> u32 {
@@ -274,13 +293,41 @@ fn number_at(image: &[u8], place: usize) -> u32 {
     ])
 }
 
-/// The second program's state of an image; none where its length or a flag is beyond its limit, which that state cannot say.
-pub fn state_of(image: &[u8]) -> Option<State> {
-    if image.len() != IMAGE_LENGTH || image[LOCKED..LAST].iter().any(|&flag| flag > 1) {
+/// The second program's plate of an image, within its limits or not.
+fn plate_of(image: &[u8]) -> Plate {
+    let number = |place: usize| u32::from(image[PLATE + place]);
+    Plate {
+        total_blocks: number(0),
+        position_bits: number(1),
+        address: number(2),
+        ticks_per_bit: number(3),
+        pause: number(4),
+    }
+}
+
+/// The head of an image with this plate.
+pub fn head_of(p: &Plate) -> [u8; LASTING] {
+    let byte = |number: u32| u8::try_from(number).expect("a plate number within its limit");
+    [
+        LAYOUT_NUMBER,
+        byte(p.total_blocks),
+        byte(p.position_bits),
+        byte(p.address),
+        byte(p.ticks_per_bit),
+        byte(p.pause),
+    ]
+}
+
+/// The second program's plate and state of an image; none where its length, its layout number or a flag is beyond its limit, which they cannot say.
+pub fn state_of(image: &[u8]) -> Option<(Plate, State)> {
+    if image.len() != IMAGE_LENGTH
+        || image[0] != LAYOUT_NUMBER
+        || image[LOCKED..LAST].iter().any(|&flag| flag > 1)
+    {
         return None;
     }
     let mut state = State::fresh();
-    state.codes.copy_from_slice(&image[..COUNTER]);
+    state.codes.copy_from_slice(&image[CODES..COUNTER]);
     state.counter = number_at(image, COUNTER);
     state.offset = number_at(image, OFFSET);
     state.measured = number_at(image, MEASURED);
@@ -299,13 +346,13 @@ pub fn state_of(image: &[u8]) -> Option<State> {
     state.xor = image[SUM];
     state.kept_number = usize::from(image[KEPT_NUMBER]);
     state.kept.copy_from_slice(&image[KEPT..]);
-    Some(state)
+    Some((plate_of(image), state))
 }
 
-/// What the image is to be after a call that was not refused: the state's meaning, and the header's rules for places without one.
+/// What the image is to be after a call that was not refused: its head as before, the state's meaning, and the header's rules for places without one.
 pub fn image_after(call: Call, before: &[u8], state: &State) -> Vec<u8> {
     let mut image = before.to_vec();
-    image[..COUNTER].copy_from_slice(&state.codes);
+    image[CODES..COUNTER].copy_from_slice(&state.codes);
     image[COUNTER..OFFSET].copy_from_slice(&state.counter.to_le_bytes());
     image[OFFSET..MEASURED].copy_from_slice(&state.offset.to_le_bytes());
     image[MEASURED..WAITING].copy_from_slice(&state.measured.to_le_bytes());

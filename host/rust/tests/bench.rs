@@ -1,12 +1,12 @@
-//! The bench's entries beside the second program's: requests written, replies judged, data parts handed back.
+//! The bench's entries beside the second program's: requests written, replies judged, data parts handed back, lengths of replies told.
 
 mod rig;
 
 use std::collections::BTreeMap;
 
 use quicksetter_host::dice::Dice;
-use quicksetter_host::{data_part, judge, write_request};
-use second::{Plate, Refusal, State, BROADCAST, REPLY_ROOM, REQUEST_ROOM};
+use quicksetter_host::{data_part, judge, reply_length, write_request};
+use second::{Plate, Refusal, Request, State, BROADCAST, REPLY_ROOM, REQUEST_ROOM};
 
 const PLATE: Plate = Plate {
     total_blocks: 40,
@@ -81,6 +81,48 @@ fn reply_to(request: &[u8], memory: &mut [u8], state: &mut State) -> Vec<u8> {
     room[..length].to_vec()
 }
 
+/// What the second program's row of the command says of a reply that begins so, two or more of its bytes being here.
+fn told_by_second(request: &[u8], begun: &[u8]) -> Result<usize, Refusal> {
+    if second::judge(request, &[]) == Err(Refusal::B0) {
+        return Err(Refusal::B0);
+    }
+    let (command, data) = (request[1], &request[2..request.len() - 1]);
+    match begun[1] & 0x7F {
+        0x50 => Ok(4),
+        replied if replied != command => Err(Refusal::B4),
+        _ => Request::parse(command, data)
+            .ok()
+            .and_then(|asked| asked.reply_length())
+            .map(|length| length + 3)
+            .ok_or(Refusal::B5),
+    }
+}
+
+/// The length is told from the second byte on; a reply that is taken has it.
+fn length_is_told(request: &[u8], reply: &[u8]) {
+    let expected = if reply.len() < 2 {
+        Ok(0)
+    } else {
+        told_by_second(request, reply)
+    };
+    for here in 0..=reply.len() {
+        let told = reply_length(request, &reply[..here]);
+        if here < 2 {
+            // Of a request that the bench does not write B0 may come so early; which of the two it is, host/test.c holds to the header.
+            let written = second::judge(request, &[]) != Err(Refusal::B0);
+            assert!(
+                told == Ok(0) || told == Err(Refusal::B0) && !written,
+                "{request:X?} {reply:X?}"
+            );
+        } else {
+            assert_eq!(told, expected, "{request:X?} {reply:X?}");
+        }
+    }
+    if second::judge(request, reply).is_ok() {
+        assert_eq!(expected, Ok(reply.len()), "{request:X?} {reply:X?}");
+    }
+}
+
 fn verdict_name(verdict: Result<second::Verdict, Refusal>) -> String {
     let words = format!("{verdict:?}");
     words.split_once("(Error").map_or(words.clone(), |_| {
@@ -126,6 +168,7 @@ fn verdicts() {
             (place, piece.len()),
             "{request:X?} {reply:X?}"
         );
+        length_is_told(&request, &reply);
         *seen.entry(verdict_name(verdict)).or_default() += 1;
     }
     for name in [
@@ -167,9 +210,9 @@ fn noise() {
             second::judge(&request, &reply),
             "{request:X?} {reply:X?}"
         );
-        assert_eq!(
-            data_part(&request, &reply).1,
-            second::data_part(&request, &reply).len()
-        );
+        let piece = second::data_part(&request, &reply);
+        let place = piece.as_ptr() as usize - reply.as_ptr() as usize;
+        assert_eq!(data_part(&request, &reply), (place, piece.len()));
+        length_is_told(&request, &reply);
     }
 }

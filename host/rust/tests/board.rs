@@ -6,10 +6,11 @@ use std::collections::BTreeMap;
 
 use quicksetter_host::dice::Dice;
 use quicksetter_host::{
-    call, call_second, fresh, image_after, state_of, Call, IMAGE_LENGTH, KEPT, KEPT_NUMBER, LOCKED,
-    WAITING,
+    call, call_second, fresh, head_of, image_after, restart, state_of, Call, CODES, COUNTER,
+    IMAGE_LENGTH, KEPT, KEPT_NUMBER, LASTING, LASTING_LENGTH, LOCKED, MEASURED, OFFSET, OPEN,
+    PLATE, WAITING,
 };
-use second::{Plate, Refusal, REPLY_ROOM};
+use second::{Plate, Refusal, State, REPLY_ROOM};
 
 /// A board of the library with its buffers, and what has come back so far.
 struct Board {
@@ -28,8 +29,8 @@ impl Board {
         let mut image = dice.bytes(IMAGE_LENGTH);
         assert_eq!(fresh(&plate, &mut image), Ok(0));
         assert_eq!(
-            state_of(&image).map(|state| state.meaning()),
-            Some(second::State::fresh())
+            state_of(&image).map(|(held, state)| (held, state.meaning())),
+            Some((plate, State::fresh()))
         );
         assert!(image[KEPT..].iter().all(|&byte| byte == 0));
         Board {
@@ -45,27 +46,20 @@ impl Board {
 
     /// One call on the library and on the second program; everything that comes back and is left is compared.
     fn step(&mut self, made: Call) -> Result<usize, Refusal> {
-        let plate = self.plate;
-        self.step_with(made, &plate)
-    }
-
-    fn step_with(&mut self, made: Call, plate: &Plate) -> Result<usize, Refusal> {
         let before = self.image.clone();
         let (mut memory, mut room) = (self.memory.clone(), self.room.clone());
-        let (expected, image) = match state_of(&before) {
+        let held = state_of(&before);
+        let plate = held.as_ref().map(|(plate, _)| *plate);
+        let (expected, image) = match held {
             None => (Err(Refusal::R1), before),
-            Some(mut state) => match call_second(made, plate, &mut state, &mut memory, &mut room) {
-                Ok(length) => (Ok(length), image_after(made, &before, &state)),
-                refused => (refused, before),
-            },
+            Some((plate, mut state)) => {
+                match call_second(made, &plate, &mut state, &mut memory, &mut room) {
+                    Ok(length) => (Ok(length), image_after(made, &before, &state)),
+                    refused => (refused, before),
+                }
+            }
         };
-        let found = call(
-            made,
-            plate,
-            &mut self.image,
-            &mut self.memory,
-            &mut self.room,
-        );
+        let found = call(made, &mut self.image, &mut self.memory, &mut self.room);
         assert_eq!(found, expected, "{made:?} on {plate:?}");
         assert_eq!(self.image, image, "image after {made:?} on {plate:?}");
         assert_eq!(self.memory, memory, "memory after {made:?} on {plate:?}");
@@ -119,23 +113,29 @@ impl Board {
     }
 
     /// A host's call between two characters that closes nothing.
-    fn interlude(&mut self, dice: &mut Dice) {
-        let made = match dice.below(8) {
+    fn interlude(&self, dice: &mut Dice) -> Call {
+        match dice.below(8) {
             0 => Call::Measured(dice.word()),
             1 => Call::PowerOn,
             2..=4 => Call::Fault(
                 dice.one_of(&[0x00, 0x08, 0x22, 0x24, 0x31, 0x32, 0x33, 0x34, 0x35, 0xFF]),
             ),
             _ => Call::Poll { tick: self.tick },
-        };
-        let _ = self.step(made);
+        }
+    }
+
+    fn exchange(&mut self, dice: &mut Dice) {
+        for made in self.calls_of_exchange(dice) {
+            let _ = self.step(made);
+        }
     }
 
     /// A frame sent by a drive, and mostly the poll that closes it; else the next frame's first character does.
-    fn exchange(&mut self, dice: &mut Dice) {
+    fn calls_of_exchange(&mut self, dice: &mut Dice) -> Vec<Call> {
+        let mut calls = vec![];
         let known = rig::Known {
             plate: &self.plate,
-            codes: &self.image[..4],
+            codes: &self.image[CODES..COUNTER],
             memory: &self.memory,
         };
         let frame = rig::frame(dice, &known);
@@ -146,7 +146,7 @@ impl Board {
         };
         for (place, &value) in frame.iter().enumerate() {
             if dice.once_in(60) {
-                self.interlude(dice);
+                calls.push(self.interlude(dice));
             }
             let gap = if place == 0 {
                 self.outer_gap(dice)
@@ -159,20 +159,21 @@ impl Board {
                 0
             };
             let tick = self.after(gap);
-            let _ = self.step(Call::Character {
+            calls.push(Call::Character {
                 tick,
                 value,
                 parity,
             });
         }
         if dice.once_in(4) {
-            self.interlude(dice);
+            calls.push(self.interlude(dice));
         }
         if !dice.once_in(4) {
             let gap = self.outer_gap(dice);
             let tick = self.after(gap);
-            let _ = self.step(Call::Poll { tick });
+            calls.push(Call::Poll { tick });
         }
+        calls
     }
 }
 
@@ -244,7 +245,7 @@ fn traffic() {
         let mut board = Board::new(&mut dice, plate);
         while board.calls < 3000 {
             if dice.once_in(200) {
-                board.image[4..7].fill(0xFF);
+                board.image[COUNTER..COUNTER + 3].fill(0xFF);
             }
             board.exchange(&mut dice);
         }
@@ -307,7 +308,7 @@ fn dirty_memories() {
     }
 }
 
-/// Images with random bytes in them, and calls of every kind with wrong lengths and plates.
+/// Images with random bytes in them, other plates and layouts, and calls of every kind with wrong lengths.
 #[test]
 fn damaged_images_and_lengths() {
     let mut seen = BTreeMap::new();
@@ -324,10 +325,10 @@ fn damaged_images_and_lengths() {
                 board.memory.clone(),
                 board.room.clone(),
             );
-            let plate = damage(&mut dice, &mut board);
+            damage(&mut dice, &mut board);
             for _ in 0..4 {
                 let made = any_call(&mut dice, &board);
-                let _ = board.step_with(made, &plate);
+                let _ = board.step(made);
             }
             (board.image, board.memory, board.room) = whole;
         }
@@ -341,10 +342,13 @@ fn damaged_images_and_lengths() {
     }
 }
 
-/// Damages image, memory or room, each now and then, and gives the plate for the next calls.
-fn damage(dice: &mut Dice, board: &mut Board) -> Plate {
+/// Damages head, state, memory or room, each now and then.
+fn damage(dice: &mut Dice, board: &mut Board) {
     if dice.once_in(2) {
         damage_image(dice, &mut board.image);
+    }
+    if dice.once_in(4) {
+        damage_head(dice, &mut board.image);
     }
     if dice.once_in(6) {
         let length = dice.one_of(&[
@@ -366,11 +370,17 @@ fn damage(dice: &mut Dice, board: &mut Board) -> Plate {
         let length = dice.one_of(&[0, 1, 3, REPLY_ROOM - 1, REPLY_ROOM + 1, 300]);
         board.room.resize(length, 0xEE);
     }
-    if dice.once_in(4) {
-        bad_plate(dice, &board.plate)
-    } else {
-        board.plate
-    }
+}
+
+/// One byte of the head set to what is mostly beyond its limit, layout number or plate.
+fn damage_head(dice: &mut Dice, image: &mut [u8]) {
+    let byte = match dice.below(4) {
+        0 => dice.byte(),
+        1 => dice.one_of(&[0, 1, 2, 32, 33, 64, 112, 113, 22, 55, 128, 255]),
+        _ => dice.byte() % 130,
+    };
+    let place = dice.one_of(&[0, PLATE, PLATE + 1, PLATE + 2, PLATE + 3, PLATE + 4]);
+    image[place] = byte;
 }
 
 /// One part of the image set to what may be beyond its limit; its frame open or not.
@@ -388,19 +398,19 @@ fn damage_image(dice: &mut Dice, image: &mut [u8]) {
         }
         2 => image[LOCKED + dice.below(4)] = dice.one_of(&[0, 1, 2, 255]),
         3 => image[KEPT_NUMBER] = dice.one_of(&[0, 1, 2, 3, 134, 135, 136, 255]),
-        4 => image[7] = dice.one_of(&[0, 1, 255]),
+        4 => image[COUNTER + 3] = dice.one_of(&[0, 1, 255]),
         5 => {
-            let place = 8 + dice.below(4);
+            let place = OFFSET + dice.below(4);
             image[place] = 1 << dice.below(8);
         }
         _ => {
-            let bytes = dice.bytes(image.len());
-            image.copy_from_slice(&bytes);
+            let bytes = dice.bytes(image.len() - LASTING);
+            image[LASTING..].copy_from_slice(&bytes);
             for flag in &mut image[LOCKED..LOCKED + 4] {
                 *flag %= 2;
             }
-            image[7] = 0;
-            image[11] = 0;
+            image[COUNTER + 3] = 0;
+            image[OFFSET + 3] = 0;
         }
     }
 }
@@ -430,10 +440,218 @@ fn fresh_images() {
             "{plate:?}"
         );
         if taken {
-            assert_eq!(image[..4], [0x55; 4]);
-            assert!(image[4..].iter().all(|&byte| byte == 0));
+            assert_eq!(image[..LASTING], head_of(&plate));
+            assert_eq!(image[CODES..COUNTER], [0x55; 4]);
+            assert!(image[COUNTER..].iter().all(|&byte| byte == 0));
         } else {
             assert_eq!(image, before);
         }
     }
+}
+
+/// A board of the library that is off now and then, and the second program's, which has its supply all the time and its own state and memory.
+struct Pair {
+    board: Board,
+    state: State,
+    memory: Vec<u8>,
+    flash: (Vec<u8>, Vec<u8>),
+    restarts: usize,
+    restarts_with_frame: usize,
+}
+
+/// What the host must write before it sends the reply (host/quicksetter.h, QS_MAY_CHANGE).
+fn may_change(command: u8) -> bool {
+    matches!(command & 0x7F, 0x43 | 0x47 | 0x49 | 0x4B | 0x4D | 0x4F)
+}
+
+impl Pair {
+    fn new(dice: &mut Dice) -> Pair {
+        let plate = good_plate(dice);
+        let board = Board::new(dice, plate);
+        let memory = board.memory.clone();
+        let mut pair = Pair {
+            board,
+            state: State::fresh(),
+            memory,
+            flash: (vec![], vec![]),
+            restarts: 0,
+            restarts_with_frame: 0,
+        };
+        pair.write_flash();
+        pair
+    }
+
+    fn write_flash(&mut self) {
+        let lasting = self.board.image[LASTING..MEASURED].to_vec();
+        self.flash = (lasting, self.board.memory.clone());
+    }
+
+    fn compare(&self, after: &str) {
+        let (plate, state) = state_of(&self.board.image).expect("an image");
+        assert_eq!(plate, self.board.plate, "plate after {after}");
+        assert_eq!(
+            state.meaning(),
+            self.state.meaning(),
+            "state after {after} on {plate:?}"
+        );
+        assert_eq!(
+            self.board.memory, self.memory,
+            "memory after {after} on {plate:?}"
+        );
+    }
+
+    /// One call on both; what comes back is compared, and what both hold.
+    fn step(&mut self, made: Call) {
+        let mut room = self.board.room.clone();
+        let plate = self.board.plate;
+        let expected = call_second(made, &plate, &mut self.state, &mut self.memory, &mut room);
+        let found = call(
+            made,
+            &mut self.board.image,
+            &mut self.board.memory,
+            &mut self.board.room,
+        );
+        assert_eq!(found, expected, "{made:?} on {plate:?}");
+        assert_eq!(self.board.room, room, "room after {made:?} on {plate:?}");
+        self.compare(&format!("{made:?}"));
+        self.board.count(found);
+        if found.is_ok_and(|length| length > 0) && may_change(self.board.room[1]) {
+            self.write_flash();
+        }
+    }
+
+    /// The library's board was off: memory and image are what flash gives. The second program's supply came on.
+    fn lose_supply(&mut self, dice: &mut Dice) {
+        let plate = self.board.plate;
+        let position = dice.word();
+        self.restarts += 1;
+        self.restarts_with_frame += usize::from(self.board.image[OPEN]);
+        self.board.image = dice.bytes(IMAGE_LENGTH);
+        assert_eq!(restart(&plate, &self.flash.0, &mut self.board.image), Ok(0));
+        self.board.memory.clone_from(&self.flash.1);
+        second::power_on(&plate, &mut self.state).expect("not refused");
+        second::measured(&plate, &mut self.state, position).expect("not refused");
+        let made = Call::Measured(position);
+        let (image, memory, room) = (
+            &mut self.board.image,
+            &mut self.board.memory,
+            &mut self.board.room,
+        );
+        assert_eq!(call(made, image, memory, room), Ok(0));
+        self.compare("a restart");
+        assert!(self.board.image[OPEN..].iter().all(|&byte| byte == 0));
+    }
+}
+
+/// Long runs in which the library's board is restarted from flash at random moments: it goes on as the second program does.
+#[test]
+fn restarts() {
+    let (mut seen, mut restarts, mut with_frame) = (BTreeMap::new(), 0, 0);
+    for seed in 4000..4300 {
+        let mut dice = Dice::new(seed);
+        let mut pair = Pair::new(&mut dice);
+        while pair.board.calls < 3000 {
+            for made in pair.board.calls_of_exchange(&mut dice) {
+                if dice.once_in(80) {
+                    pair.lose_supply(&mut dice);
+                }
+                pair.step(made);
+            }
+        }
+        add(&mut seen, &pair.board);
+        restarts += pair.restarts;
+        with_frame += pair.restarts_with_frame;
+    }
+    assert!(
+        restarts > 5000 && with_frame > 1000,
+        "{restarts} {with_frame}"
+    );
+    assert!(!seen.keys().any(|kind| (0x200..0x300).contains(kind)));
+    for kind in [
+        0x42, 0x43, 0x46, 0x47, 0x49, 0x4A, 0x4B, 0x4C, 0x4D, 0x4E, 0x4F, 0x100, 0x102,
+    ] {
+        assert!(
+            seen.get(&kind).is_some_and(|&number| number > 100),
+            "{kind:X} in {seen:X?}"
+        );
+    }
+}
+
+/// The state of a board that was off, from the bytes that lasted.
+fn rested(lasting: &[u8]) -> State {
+    let number = |place: usize| {
+        lasting[place..place + 4]
+            .iter()
+            .rev()
+            .fold(0, |sum, &byte| sum << 8 | u32::from(byte))
+    };
+    let mut state = State::fresh();
+    state.codes.copy_from_slice(&lasting[..4]);
+    state.counter = number(4);
+    state.offset = number(8);
+    state
+}
+
+/// Lasting bytes near the limits of counter and offset, or any.
+fn some_lasting(dice: &mut Dice, plate: &Plate) -> Vec<u8> {
+    let mut lasting = dice.bytes(4);
+    let counter = match dice.below(4) {
+        0 => dice.word(),
+        1 => dice.one_of(&[0, 0x00FF_FFFF, 0x0100_0000, u32::MAX]),
+        _ => dice.word() >> 8,
+    };
+    let end = 1u64 << plate.position_bits.min(32);
+    let offset = match dice.below(4) {
+        0 => dice.word(),
+        1 => dice.one_of(&[0, end - 1, end, end + 1]) as u32,
+        _ => (u64::from(dice.word()) % end) as u32,
+    };
+    lasting.extend(counter.to_le_bytes());
+    lasting.extend(offset.to_le_bytes());
+    lasting
+}
+
+/// Restarts from any bytes with any plate: taken exactly where the second program's limits are kept, and then every byte is written.
+#[test]
+fn restarted_images() {
+    let mut dice = Dice::new(5000);
+    let mut number_taken = 0;
+    for _ in 0..100_000 {
+        let mut plate = good_plate(&mut dice);
+        if dice.once_in(4) {
+            plate = bad_plate(&mut dice, &plate);
+        }
+        let mut lasting = some_lasting(&mut dice, &plate);
+        let state = rested(&lasting);
+        if dice.once_in(8) {
+            lasting.resize(dice.below(2 * LASTING_LENGTH), 0);
+        }
+        let length = if dice.once_in(8) {
+            dice.below(2 * IMAGE_LENGTH)
+        } else {
+            IMAGE_LENGTH
+        };
+        let before = dice.bytes(length);
+        let mut image = before.clone();
+        let taken = length == IMAGE_LENGTH
+            && lasting.len() == LASTING_LENGTH
+            && second::within_limits(&plate, &state);
+        assert_eq!(
+            restart(&plate, &lasting, &mut image),
+            if taken { Ok(0) } else { Err(Refusal::R1) },
+            "{plate:?} {lasting:X?}"
+        );
+        if taken {
+            let head = head_of(&plate);
+            assert_eq!(
+                image,
+                [&head[..], &lasting, &[0; IMAGE_LENGTH - MEASURED]].concat()
+            );
+            assert_eq!(state_of(&image), Some((plate, state)));
+        } else {
+            assert_eq!(image, before);
+        }
+        number_taken += usize::from(taken);
+    }
+    assert!((20_000..80_000).contains(&number_taken), "{number_taken}");
 }

@@ -1,0 +1,79 @@
+/* What the test programs share: counted checks, dice, plates. A program defines PROGRAM, its name, before it includes this. */
+#ifndef TESTING_H
+#define TESTING_H
+
+#include "quicksetter.h"
+
+#include <stdbool.h>
+#include <stdio.h>
+#include <string.h>
+
+#define COUNT(table) (sizeof(table) / sizeof *(table))
+
+/* ---- checking ------------------------------------------------------------------------------------------------------------------------------------------- */
+
+static unsigned long checks, failures;
+
+static inline void check(bool good, const char *what, unsigned long number) {
+    checks++;
+    if (good)
+        return;
+    failures++;
+    printf(PROGRAM ": FAILED: %s (%lu)\n", what, number);
+}
+
+/* The last line, and what main returns. */
+static inline int ended(void) {
+    printf(PROGRAM ": %lu checks, %lu failed\n", checks, failures);
+    return failures == 0 ? 0 : 1;
+}
+
+/* ---- dice: the same numbers in each run (splitmix64) ---------------------------------------------------------------------------------------------------- */
+
+static inline uint64_t dice(void) {
+    static uint64_t seed = 1;
+    seed += 0x9E3779B97F4A7C15;
+    uint64_t mixed = seed;
+    mixed = (mixed ^ mixed >> 30) * 0xBF58476D1CE4E5B9;
+    mixed = (mixed ^ mixed >> 27) * 0x94D049BB133111EB;
+    return mixed ^ mixed >> 31;
+}
+
+/* 0 to end - 1. */
+static inline uint32_t below(uint32_t end) {
+    return (uint32_t)(dice() % end);
+}
+
+/* True once in so many throws. */
+static inline bool once_in(uint32_t times) {
+    return below(times) == 0;
+}
+
+/* ---- plates and bytes ----------------------------------------------------------------------------------------------------------------------------------- */
+
+struct plate {
+    uint32_t total, bits, address, ticks, pause;
+};
+
+/* 01, "Plate", by a test of its own. */
+static inline bool possible(struct plate p) {
+    bool ticks = p.ticks == 1 || p.ticks == 2 || p.ticks == 4 || p.ticks == 8 || p.ticks == 16 || p.ticks == 32 || p.ticks == 64;
+    return p.total >= 1 && p.total <= 112 && p.bits >= 1 && p.bits <= 32 && p.address <= 31 && ticks && (p.pause == 22 || p.pause == 55);
+}
+
+/* The image of a board whose plate is p and of whose state only codes, counter and offset are not 0: layout number, plate, 12 bytes, and 00h. */
+static inline void image_of(struct plate p, const uint8_t *lasting, uint8_t *image) {
+    const uint8_t head[] = {1, (uint8_t)p.total, (uint8_t)p.bits, (uint8_t)p.address, (uint8_t)p.ticks, (uint8_t)p.pause};
+    memset(image, 0, 171);
+    memcpy(image, head, 6);
+    memcpy(image + 6, lasting, 12);
+}
+
+static inline uint8_t xor_of(const uint8_t *bytes, size_t n) {
+    uint8_t sum = 0;
+    for (size_t i = 0; i < n; i++)
+        sum ^= bytes[i];
+    return sum;
+}
+
+#endif
