@@ -1053,8 +1053,8 @@ static void test_reply_lengths_too_early(void) {
     for (size_t i = 0; i < COUNT(BAD); i++)
         for (uint64_t here = 0; here < 2; here++) {
             size_t asked = request_of("40", BAD[i], request);
-            check(qs_reply_length(request, asked, reply, here) == 0, "no request is refused before two bytes are here", i);
-            check(qs_reply_length(request, 0, reply, here) == 0, "nor none", i);
+            check(qs_reply_length(request, asked, reply, here) == QS_B0, "what is no request is told at once", i);
+            check(qs_reply_length(request, 0, reply, here) == QS_B0, "nothing at all, too", i);
         }
 }
 
@@ -1066,10 +1066,8 @@ static void test_reply_lengths_as_judged(void) {
         uint32_t verdict = JUDGED[i].verdict;
         for (size_t here = 0; here <= replied; here++) {
             uint64_t told = qs_reply_length(request, asked, reply, here);
-            if (here < 2 && verdict != QS_B0)
-                check(told == 0, "no length yet", i);
-            else if (here < 2)
-                continue; /* test_reply_lengths_too_early */
+            if (here < 2)
+                check(told == (verdict == QS_B0 ? QS_B0 : 0), "no length yet, but B0 at once", i);
             else if (verdict < QS_VERDICT_REFUSED)
                 check(told == replied, "the length of a reply that is judged", i);
             else if (verdict == QS_B0 || verdict == QS_B4)

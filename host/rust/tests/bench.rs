@@ -108,12 +108,11 @@ fn length_is_told(request: &[u8], reply: &[u8]) {
     for here in 0..=reply.len() {
         let told = reply_length(request, &reply[..here]);
         if here < 2 {
-            // Of a request that the bench does not write B0 may come so early; which of the two it is, host/test.c holds to the header.
-            let written = second::judge(request, &[]) != Err(Refusal::B0);
-            assert!(
-                told == Ok(0) || told == Err(Refusal::B0) && !written,
-                "{request:X?} {reply:X?}"
-            );
+            let early = match second::judge(request, &[]) {
+                Err(Refusal::B0) => Err(Refusal::B0),
+                _ => Ok(0),
+            };
+            assert_eq!(told, early, "{request:X?} {reply:X?}");
         } else {
             assert_eq!(told, expected, "{request:X?} {reply:X?}");
         }
