@@ -1,8 +1,9 @@
 #!/usr/bin/env python3
-"""Fails if docs/TRACE.md names a file, definition, theorem, function, test, tape or edit that is not there.
+"""Fails if docs/TRACE.md or docs/ARCHITECTURE.md names a file, definition, theorem, function, test, tape or edit that is not there.
 
 A reference stands in backquotes: `FILE: NAME, NAME`, or `FILE` alone. FILE is below crates/ or the project's root, without .antt;
 a name is one that the file defines, or in double quotes a text that stands so in a C file, as the name of a row of a table.
+In TRACE every backquoted word of a table is one; in ARCHITECTURE those are that name a source file.
 """
 
 import os
@@ -10,7 +11,8 @@ import re
 import sys
 
 ROOT = os.path.dirname(os.path.dirname(os.path.abspath(__file__)))
-TRACE = os.path.join(ROOT, "docs", "TRACE.md")
+# Each page with the lines and the backquoted words that are held to the code.
+PAGES = (("docs/TRACE.md", r"\| ", r"`([^`]+)`"), ("docs/ARCHITECTURE.md", r"", r"`(\w+/src/[^`]+)`"))
 # How a file of each kind defines a name.
 DEFINED = {
     ".antt": r"^\s*(?:(?:abbrev |unfoldable )?(?:pub )?%s(?: \{\S+\})? :|(?:pub )?(?:data|record) %s )",
@@ -53,13 +55,18 @@ def faults(reference):
 
 
 def main():
-    with open(TRACE, encoding="utf-8") as file:
-        lines = [line for line in file if line.startswith("| ")]
-    references = [found for line in lines for found in re.findall(r"`([^`]+)`", line)]
-    wrong = [fault for reference in references for fault in faults(reference)]
+    wrong = []
+    for page, line_form, reference_form in PAGES:
+        with open(os.path.join(ROOT, page), encoding="utf-8") as file:
+            lines = [line for line in file if re.match(line_form, line)]
+        references = [found for line in lines for found in re.findall(reference_form, line)]
+        wrong += ["%s: %s" % (page, fault) for reference in references for fault in faults(reference)]
+        if not references:
+            wrong.append("%s: no references" % page)
+        print("trace: %s: %d lines, %d references" % (page, len(lines), len(references)))
     if wrong:
-        sys.exit("docs/TRACE.md: " + "\ndocs/TRACE.md: ".join(wrong))
-    print("trace: %d lines, %d references, each there" % (len(lines), len(references)))
+        sys.exit("\n".join(wrong))
+    print("trace: each reference is there")
 
 
 if __name__ == "__main__":
