@@ -92,6 +92,7 @@ class Instruction(NamedTuple):
 Function = Dict[int, Instruction]
 
 UNDERSTOOD = re.compile(r"(push|pop) +(?!%rsp)(?:%r\w+|\$0x[0-9a-f]+)|(add|sub) +\$(0x[0-9a-f]+),%rsp")
+TABLE_JUMP = re.compile(r"movslq \((%\w+),%\w+,4\),(%\w+)\n(?:.*\n)*?add +\1,\2\n(?:(?!.*,\2\n).*\n)*jmp +\*\2\Z")
 NOT_UNDERSTOOD = re.compile(r"\b(?:push|pop|call|ret|jmp|loop|leave|enter|syscall|sysenter|int|iret)[a-z]?\b|%e?spl?\b|(?<!\()%rsp")
 
 
@@ -128,10 +129,10 @@ def functions_of(archive: str) -> Dict[str, Function]:
 
 
 def check_jump_tables(archive: str):
-    """A table of constants may hold places of its own function only: then an indirect jump stays in its function."""
+    """A table of constants may hold places of its own function only: then an indirect jump stays in its function. Code does not go by .eh_frame."""
     for section, entries in re.findall(r"^Relocation section '\.rela(\S+)'.*\n.*\n((?:[0-9a-f]{16} .*\n?)*)", text_of(["readelf", "-rW", archive]), re.M):
         for symbol in re.findall(r"^(?:\S+ +){4}(\S+)", entries, re.M):
-            if not section.startswith(".text") and symbol != section.replace(".rodata", ".text", 1):
+            if not section.startswith((".text", ".eh_frame")) and symbol != section.replace(".rodata", ".text", 1):
                 raise Failure(f"stack bound: {section} holds an address of {symbol}")
 
 
@@ -183,10 +184,15 @@ class Walk:
             return onward
         if word.startswith("j") and word != "jmp" or word == "jmp" and not operand.lstrip().startswith("*"):
             return self.jump(aim, int(operand, 16), depth) + (onward if word != "jmp" else [])
-        if re.fullmatch(r"jmp +\*%r\w+", text):
+        if self.jumps_by_table(address):
             self.tables.add(depth)
             return []
         return [(behind, self.depth_behind(address, depth))]
+
+    def jumps_by_table(self, address: int) -> bool:
+        """Whether it jumps to what was made, shortly before, of a table's start and one of its distances."""
+        before = [self.code[place].text for place in sorted(self.code) if place <= address][-8:]
+        return TABLE_JUMP.search("\n".join(before)) is not None
 
     def jump(self, aim: str, target: int, depth: int) -> List[Tuple[int, int]]:
         if not aim:
@@ -236,3 +242,42 @@ def stacks_of(archive: str, entries: List[str]) -> Dict[str, Stack]:
     check_jump_tables(archive)
     walks = {name: Walk(name, code) for name, code in functions_of(archive).items()}
     return {entry: stack_of(entry, walks) for entry in entries}
+
+
+# --- the page's rows ------------------------------------------------------------------------
+
+
+LIBRARY_NOTE = """libquicksetter.a as a C host links it, by nm, readelf and objdump. It keeps no data of its own: it works on the host's buffers and the stack.
+The gate holds it to needing memset alone and to 0 bytes of writable data."""
+STACK_NOTE = """Bytes of stack from an entry's return address on. Arguments that lie on the stack are the caller's; what memset lays below its own return address
+is not in the bound. The bound is read from the machine code: the deepest chain of calls, in which there is no recursion and no indirect call. Measured is
+what perf/stack.c sees changed on a painted stack, over all ways of perf/ways.h and their refusals; more than the bound fails. Bytes that an entry writes
+below the stack pointer are counted: an interrupt on the same stack must leave them alone, as the System V ABI wants it (its red zone of 128 bytes)."""
+
+
+def library_rows(library: Library, stacks: Dict[str, Stack]) -> List[List[str]]:
+    return [
+        ["Machine and format", library.machine],
+        ["Members", ", ".join(library.members)],
+        ["Needed from outside", ", ".join(sorted(library.needed)) or "nothing"],
+        ["Code", f"{library.code} bytes"],
+        ["Read-only data", f"{library.constants} bytes"],
+        ["Writable data", f"{library.writable} bytes"],
+        ["Deepest stack of an entry", f"{max(stack.bound for stack in stacks.values())} bytes"],
+        ["Reach below the stack pointer", f"{max(stack.below for stack in stacks.values())} bytes"],
+    ]
+
+
+def stack_rows(stacks: Dict[str, Stack], seen: Dict[str, int]) -> List[List[str]]:
+    """Bound and measured bytes of each entry; what was seen must not be over the bound."""
+    if set(seen) != set(stacks):
+        raise Failure(f"stack: the archive exports {sorted(stacks)}, and perf/stack.c measures {sorted(seen)}")
+    over = [f"{entry} was seen to use {seen[entry]} bytes, and its bound is {stack.bound}" for entry, stack in stacks.items() if seen[entry] > stack.bound]
+    if over:
+        raise Failure("stack: " + "; ".join(over))
+    return [[entry, str(stacks[entry].bound), str(seen[entry])] for entry in seen]
+
+
+def seen_stack(program: str) -> Dict[str, int]:
+    """What perf/stack.c measures."""
+    return {entry: int(used) for entry, used in (line.split() for line in text_of([program]).splitlines())}

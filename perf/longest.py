@@ -14,18 +14,18 @@ COMMANDS = (
     ("49", "Reset Counter"),
     ("4A", "Read Data"),
     ("4B", "Store Data"),
-    ("4C", "Field Status"),
+    ("4C", "Data Field Status"),
     ("4D", "Create Data Field"),
     ("4E", "Memory Status"),
     ("4F", "Set Access Code"),
     ("50", "Read Encoder Status"),
-    ("53", "Reset"),
+    ("53", "Encoder Reset"),
     ("44", "unknown command"),
 )
 
-NOTE = """The most instructions of one call that closes a frame, by callgrind: the dearest of all the ways of perf/ways.h with that command. Tried are tables of 97
-to 112 fields on 112 blocks, most of them full, and one that is unsound; the last field and the one behind it, of 1 to 8 blocks; 113 to 128 bytes read and
-stored; no code and four codes waiting. Both boards must give replies of the same length."""
+NOTE = """The most instructions of one call that closes a frame, by callgrind: the dearest of all the ways of perf/ways.h with that command. Tried are
+tables of 97 to 112 fields on 112 blocks, many of them full, and one that is unsound; the last field and the one behind it, of 1 to 8 blocks; 113 to 128 bytes
+read and stored; no code and four codes waiting. To each way both boards must give a reply of the same length."""
 
 
 def costs_of_ways(program: str, board: str, kind: str, work: str) -> Dict[str, List[int]]:
