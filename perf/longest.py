@@ -24,7 +24,7 @@ COMMANDS = (
 )
 
 NOTE = """The most instructions of one call that closes a frame, by callgrind: the dearest of all the ways of perf/ways.h with that command. Tried are
-tables of 97 to 112 fields on 112 blocks, many of them full, and one that is unsound; the last field and the one behind it, of 1 to 8 blocks; 113 to 128 bytes
+tables of 97 to 112 fields on 112 blocks, some of them full, and one that is unsound; the last field and the one behind it, of 1 to 8 blocks; 113 to 128 bytes
 read and stored; no code and four codes waiting. To each way both boards must give a reply of the same length."""
 
 

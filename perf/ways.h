@@ -11,7 +11,7 @@ enum { TOTAL = 112, BITS = 24, ADDRESS = 0, TICKS = 4, PAUSE = 55, CLOSING_TICK 
 /* The board as a way leaves it for the call that closes its frame at CLOSING_TICK. */
 static uint8_t image[QS_IMAGE_LENGTH], memory[QS_MEMORY_LENGTH(TOTAL)], room[QS_REPLY_ROOM];
 
-static void (*closed)(uint8_t command); /* what is done with each way */
+static void (*closed)(uint8_t command); /* what is done with each way; it leaves memory as it was */
 static int codes_wait;
 
 /* Fields of one block but for the last; each is write-enabled and wants Code0. A table with a hole is unsound. */
@@ -76,7 +76,6 @@ static void ways_with_table(unsigned fields, unsigned last_blocks, int hole) {
     make_table(fields, last_blocks, hole);
     way(QS_MEMORY_STATUS, room, 0);
     field_ways((uint8_t)(fields - 1));
-    make_table(fields, last_blocks, hole);
     field_ways((uint8_t)fields);
 }
 
