@@ -249,7 +249,8 @@ def stacks_of(archive: str, entries: List[str]) -> Dict[str, Stack]:
 
 LIBRARY_NOTE = """libquicksetter.a as a C host links it, by nm, readelf and objdump. It keeps no data of its own: it works on the host's buffers and the
 stack. The gate holds it to needing memset alone and to 0 bytes of writable data."""
-STACK_NOTE = """Bytes of stack from an entry's return address on. Arguments that lie on the stack are the caller's; what memset lays below its own return address
+STACK_NOTE = """\
+Bytes of stack from an entry's return address on. Arguments that lie on the stack are the caller's; what memset lays below its own return address
 is not in the bound. The bound is read from the machine code: the deepest chain of calls, in which there is no recursion and no indirect call. Measured is
 what perf/stack.c sees changed on a painted stack, over all ways of perf/ways.h and their refusals; more than the bound fails. Bytes that an entry writes
 below the stack pointer are counted: an interrupt on the same stack must leave them alone, as the System V ABI wants it (its red zone of 128 bytes)."""
