@@ -2,10 +2,12 @@
 """The benchmark: answer program and C entry points beside the second program and a board written in C by hand.
 
     run.py [--answer PROGRAM] [--library FOLDER]             measures everything and writes docs/PERFORMANCE.md
-    run.py [--library FOLDER] --check                        holds the instructions inside the C entries to their limits, and fails where one is over
+    run.py [--library FOLDER] --check                        holds the library to what its header says it needs and keeps, its stack to the bound, and the
+                                                             instructions inside the C entries to their limits, and fails where one is over
 
 PROGRAM answers tapes and FOLDER has libquicksetter.a; those not named are built by rt, as target/bin/answer and in target/staticlib.
-Instructions are counted by valgrind's callgrind; without valgrind only times are measured, and the check is left out.
+Instructions are counted by valgrind's callgrind; without valgrind only times are measured, and that check is left out. What the library is and needs comes
+from gcc's binutils (archive.py), the longest calls from every way to close a frame (longest.py).
 """
 
 import os
@@ -20,6 +22,9 @@ from typing import Callable, Dict, List, NamedTuple, Optional
 ROOT = os.path.dirname(os.path.dirname(os.path.abspath(__file__)))
 sys.path.insert(0, os.path.join(ROOT, "tools"))
 
+import archive  # noqa: E402
+import longest  # noqa: E402
+from process import Failure, run  # noqa: E402
 from tape import Character, Measured, Plate, Poll, encode, xor_of  # noqa: E402
 
 WORK = os.path.join(ROOT, "target", "perf")
@@ -36,10 +41,6 @@ ROUNDS = 7
 KEPT_LIMIT = 92
 KEPT_RATIO_LIMIT = 0.92
 OTHER_RATIO_LIMIT = 1.1
-
-
-class Failure(Exception):
-    """Something without which nothing can be measured."""
 
 
 # --- tapes ----------------------------------------------------------------------------------
@@ -142,21 +143,11 @@ def written(tape: Tape, events: int) -> Written:
 # --- programs -------------------------------------------------------------------------------
 
 
-def run(words: List[str], **more) -> subprocess.CompletedProcess:
-    try:
-        found = subprocess.run(words, capture_output=True, check=False, **more)
-    except OSError as error:
-        raise Failure(str(error)) from None
-    if found.returncode != 0:
-        said = (found.stdout + found.stderr).decode("utf-8", "replace")[-2000:]
-        raise Failure(f"{' '.join(words)} ended with status {found.returncode}\n{said}")
-    return found
-
-
 def compiled(name: str, sources: List[str], board: str, library: str) -> str:
+    """A measuring program. It is bound to the C library at its start, so that no call looks for memset while it is measured."""
     path = os.path.join(WORK, f"{name}-{board}")
     sources = [os.path.join(ROOT, "perf", source) for source in sources]
-    run(["gcc", *FLAGS, f"-DBOARD={board}", *sources, "-L", library, "-lquicksetter", "-o", path])
+    run(["gcc", *FLAGS, f"-DBOARD={board}", *sources, "-L", library, "-lquicksetter", "-Wl,-z,now", "-o", path])
     return path
 
 
@@ -188,9 +179,9 @@ def tape_programs(answer: Optional[str], library: str) -> Dict[str, str]:
     }
 
 
-def call_programs(library: str) -> Dict[str, str]:
-    """The programs that make one kind of call."""
-    return {"qs": compiled("calls", ["calls.c"], "qs", library), "hand": compiled("calls", ["calls.c", "hand.c"], "hand", library)}
+def call_programs(name: str, library: str) -> Dict[str, str]:
+    """A program that makes one kind of call, over each board."""
+    return {"qs": compiled(name, [f"{name}.c"], "qs", library), "hand": compiled(name, [f"{name}.c", "hand.c"], "hand", library)}
 
 
 def answers(program: str, tape: Written) -> bytes:
@@ -300,6 +291,24 @@ def entry_page(costs: Dict[str, Dict[str, float]]) -> str:
     )
 
 
+def library_page(library: str) -> str:
+    """What the archive is and needs, and its stack."""
+    missing = archive.missing_tools()
+    if missing:
+        return f"\n## The library\n\nWhat the library is and needs was left out: {', '.join(missing)} of gcc's binutils is not there.\n"
+    path = os.path.join(library, "libquicksetter.a")
+    found = archive.library_of(path)
+    stacks = archive.stacks_of(path, found.entries)
+    seen = archive.seen_stack(compiled("stack", ["stack.c"], "qs", library))
+    page = f"\n## The library\n\n{archive.LIBRARY_NOTE}\n\n" + table(["What", "Found"], archive.library_rows(found, stacks))
+    return page + f"\n{archive.STACK_NOTE}\n\n" + table(["Entry", "Bound", "Measured"], archive.stack_rows(stacks, seen))
+
+
+def longest_page(library: str) -> str:
+    head = ["Command", "Poll", "Hand-written C", "Ratio", "Character", "Hand-written C", "Ratio"]
+    return f"\n## A closing poll by command\n\n{longest.NOTE}\n\n" + table(head, longest.rows(call_programs("closing", library), WORK))
+
+
 def tape_page(title: str, note: str, found: Dict[str, Dict[str, float]]) -> str:
     rows = []
     for name, by_program in found.items():
@@ -318,11 +327,11 @@ TIME_NOTE = f"""Processor time of the whole program on {TIMED_TAPE} events, the 
 NO_VALGRIND = "\nInstructions were not counted: valgrind is not there.\n"
 
 
-def measure(programs: Dict[str, str], calls: Dict[str, str]) -> str:
+def measure(programs: Dict[str, str], library: str) -> str:
     """The whole page."""
     machine = platform.machine()
     compiler = run(["gcc", "--version"]).stdout.decode().splitlines()[0]
-    page = HEAD.format(machine=machine, flags=" ".join(FLAGS[:2]), compiler=compiler)
+    page = HEAD.format(machine=machine, flags=" ".join(FLAGS[:2]), compiler=compiler) + library_page(library)
     counts: Dict[str, Dict[str, float]] = {}
     times: Dict[str, Dict[str, float]] = {}
     counting = has_valgrind()
@@ -335,7 +344,8 @@ def measure(programs: Dict[str, str], calls: Dict[str, str]) -> str:
         times[tape.name] = nanoseconds_an_event(programs, timed)
     if counting:
         print("perf: inside the C entry", flush=True)
-        page += entry_page({board: entry_costs(program, board) for board, program in calls.items()})
+        page += entry_page({board: entry_costs(program, board) for board, program in call_programs("calls", library).items()})
+        page += longest_page(library)
         page += tape_page("Instructions a tape event", INSTRUCTION_NOTE, counts)
     else:
         print("perf: valgrind is not there: only times are measured", flush=True)
@@ -349,12 +359,32 @@ def over_limit(key: str, ours: float, theirs: float) -> bool:
     return ours > OTHER_RATIO_LIMIT * theirs
 
 
-def check_limits(library: Optional[str]) -> int:
+def check_archive(library: str) -> int:
+    """The archive held to the header's words on what it needs and keeps, and the stack that is seen to its bound."""
+    missing = archive.missing_tools()
+    if missing:
+        print(f"perf: the check of what the library needs was LEFT OUT, since {', '.join(missing)} of gcc's binutils is not there")
+        return 0
+    path = os.path.join(library, "libquicksetter.a")
+    found = archive.library_of(path)
+    wrong = archive.broken_promises(found)
+    for words in wrong:
+        print(f"perf: {words}")
+    if wrong:
+        return 1
+    seen = archive.seen_stack(compiled("stack", ["stack.c"], "qs", library))
+    rows = archive.stack_rows(archive.stacks_of(path, found.entries), seen)
+    deepest = max(int(bound) for _, bound, _ in rows)
+    print(f"perf: the library needs {', '.join(found.needed)} and keeps nothing; its {len(rows)} entries lay at most {deepest} bytes on the stack")
+    return 0
+
+
+def check_limits(library: str) -> int:
     """Every call of ENTRY_ROWS held to its limit."""
     if not has_valgrind():
         print("perf: the check of the instructions inside the C entries was LEFT OUT, since valgrind is not there")
         return 0
-    costs = {board: entry_costs(program, board) for board, program in call_programs(found_library(library)).items()}
+    costs = {board: entry_costs(program, board) for board, program in call_programs("calls", library).items()}
     status = 0
     for key, words in ENTRY_ROWS:
         ours, theirs = costs["qs"][key], costs["hand"][key]
@@ -365,7 +395,7 @@ def check_limits(library: Optional[str]) -> int:
 
 
 def write_page(answer: Optional[str], library: str) -> int:
-    page = measure(tape_programs(answer, library), call_programs(library))
+    page = measure(tape_programs(answer, library), library)
     with open(PAGE, "w", encoding="utf-8") as file:
         file.write(page)
     print(page)
@@ -398,7 +428,8 @@ def main(arguments: List[str]) -> int:
         return 2
     os.makedirs(WORK, exist_ok=True)
     try:
-        return check_limits(library) if checks else write_page(answer, found_library(library))
+        library = found_library(library)
+        return check_archive(library) | check_limits(library) if checks else write_page(answer, library)
     except Failure as failure:
         sys.stderr.write(f"run.py: {failure}\n")
         return 1
