@@ -75,14 +75,14 @@ module _ (p : Plate) (s : State) (t : ℕ) (m d : List ℕ) (e : p .total ≡ t)
   pub status-told : (from to st : ℕ) → FoundIn t m (arg d 0) (Field from to st) → fieldStatus p s m d ≡ accept (arg d 0 ∷ st ∷ []) s m
   status-told from to st w = status-of ∙ w .chain _ ∙ ap (λ (x : ℕ). accept (arg d 0 ∷ x ∷ []) s m) (sym (w .place .status))
 
-  -- 4Eh
-  memory-of : memoryStatus p s m d ≡ error 0x03 (not ((survey t m 0) .trusted)) (accept (freeByte ((survey t m 0) .free) ∷ (survey t m 0) .fields ∷ []) s m)
-  unfolding memoryStatus
-  memory-of = rw e
+  -- 4Eh, whatever field the walk was to find
+  memory-of : (f : ℕ) → memoryStatus p s m d ≡ error 0x03 (not ((survey t m f) .trusted)) (accept (freeByte ((survey t m f) .free) ∷ (survey t m f) .fields ∷ []) s m)
+  unfolding memoryStatus survey
+  memory-of f = rw e
 
-  module _ (v : Survey) (q : v ≡ survey t m 0) where
+  module _ (f : ℕ) (v : Survey) (q : v ≡ survey t m f) where
     at-survey : memoryStatus p s m d ≡ error 0x03 (not (v .trusted)) (accept (freeByte (v .free) ∷ v .fields ∷ []) s m)
-    at-survey = memory-of ∙ ap (λ (x : Survey). error 0x03 (not (x .trusted)) (accept (freeByte (x .free) ∷ x .fields ∷ []) s m)) (sym q)
+    at-survey = memory-of f ∙ ap (λ (x : Survey). error 0x03 (not (x .trusted)) (accept (freeByte (x .free) ∷ x .fields ∷ []) s m)) (sym q)
 
     pub memory-unsound : v .trusted ≡ false → memoryStatus p s m d ≡ refuse 0x03
     unfolding error

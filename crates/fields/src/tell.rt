@@ -48,7 +48,8 @@ pub fn memory_status(memory: &[u8], total: usize, room: &mut [u8]) -> Answer
     ensures { λ r. ⌜ ((p : Plate) (s : State) (d : List ℕ) → p .total ≡ total
         → Works (memoryStatus p s (now (memory .entry)) d) (now (memory .entry)) (now (room .entry)) r (now (memory .entry)) (now (room .exit))) ⌝ }
 {
-    let seen = survey(memory, total, 0);
+    // No field has that number: the walk goes through without a halt.
+    let seen = survey(memory, total, 0xFF);
     let Trust::Sound = seen.trust() else {
         return Answer::Refuse(TABLE_DESTROYED);
     };

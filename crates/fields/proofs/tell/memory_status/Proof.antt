@@ -26,14 +26,14 @@ returns c =
     let after-survey = after-trust .before in
     let start = after-survey .before .before .before in
     λ p s d e.
-    works-refuse _ (start .args .memory .now) (start .args .room .now) _ (memory-unsound p s (start .args .total) (start .args .memory .now) d e (surveyOf (after-survey .survey .result)) (after-survey .survey .ensures)
+    works-refuse _ (start .args .memory .now) (start .args .room .now) _ (memory-unsound p s (start .args .total) (start .args .memory .now) d e 0xFF (surveyOf (after-survey .survey .result)) (after-survey .survey .ensures)
     (unsound _ (sym (after-trust .trust .ensures) ∙ c .enum-told2 .given .1)))
 
 free-byte-requires : tie.Need-free-byte-requires
 free-byte-requires c κs =
     let after-survey = c .before .before .before in
     let start = after-survey .before .before .before in
-    omega (arith, free-le (start .args .total) (start .args .memory .now) 0 (surveyOf (after-survey .survey .result)) (after-survey .survey .ensures), start .pre .fit .few)
+    omega (arith, free-le (start .args .total) (start .args .memory .now) 0xFF (surveyOf (after-survey .survey .result)) (after-survey .survey .ensures), start .pre .fit .few)
 
 cast-reply-two : tie.Need-cast-reply-two
 cast-reply-two c =
@@ -41,7 +41,7 @@ cast-reply-two c =
     let after-trust = after-enum-told .before .before in
     let after-survey = after-trust .before in
     let start = after-survey .before .before .before in
-    omega (arith, sits (start .args .total) (start .args .memory .now) 0 (surveyOf (after-survey .survey .result)) (after-survey .survey .ensures) (is-sound _ (sym (after-trust .trust .ensures) ∙ after-enum-told .enum-told .given .1)) .room, start .pre .fit .few)
+    omega (arith, sits (start .args .total) (start .args .memory .now) 0xFF (surveyOf (after-survey .survey .result)) (after-survey .survey .ensures) (is-sound _ (sym (after-trust .trust .ensures) ∙ after-enum-told .enum-told .given .1)) .room, start .pre .fit .few)
 
 reply-two-requires : tie.Need-reply-two-requires
 reply-two-requires c κs = search needs
@@ -59,7 +59,7 @@ returns-2 c =
     let start = after-survey .before .before .before in
     λ p s d e.
     works-accept _ (start .args .memory .now) (start .args .room .now) _ s (start .args .memory .now) _ _
-    (memory-told p s (start .args .total) (start .args .memory .now) d e (surveyOf (after-survey .survey .result)) (after-survey .survey .ensures) (is-sound _ (sym (after-trust .trust .ensures) ∙ after-enum-told .enum-told .given .1)))
+    (memory-told p s (start .args .total) (start .args .memory .now) d e 0xFF (surveyOf (after-survey .survey .result)) (after-survey .survey .ensures) (is-sound _ (sym (after-trust .trust .ensures) ∙ after-enum-told .enum-told .given .1)))
     (rw (← after-free-byte .free-byte .ensures) (after-reply-two .reply-two .ensures))
 
 pub memory-status-spec : {M : Type 1} → statement M
