@@ -8,7 +8,7 @@ use borrow.Author.Tests.{eq-eqb, le-leb}
 use lib.Dec.{T, eqb}
 use lib.ListN.{length}
 use lib.Seq.{getD-take, length-take-le}
-use Rattle.meaning.specs.Bytes.{pick, zeros, arg}
+use Rattle.meaning.specs.Bytes.{pick, zeros, among, arg}
 use Rattle.meaning.specs.State as meaning
 use Rattle.meaning.specs.State.{Plate, stateOk, poweredOn, withMeasured}
 use Rattle.meaning.specs.Frames.{still}
@@ -19,7 +19,7 @@ use Rattle.meaning.proofs.Limits.{keeps-limits, replies-fit}
 use Rattle.image.specs.Image.{isOurs, isCore, headIn, coreIn, lastingIn, keptIn, stateBytes, coreOf}
 use Rattle.image.proofs.Round.{good}
 use Rattle.quicksetter.specs.Calls.{isImage, plateHeld, stateHeld, lastingOf, imageAfter, imageOf, startOk, rested, restartOk, Called}
-use Rattle.quicksetter.specs.Lasting.{mayChange, storesBy, Lasts, QsLasts, QsRestartIsPowerOn, QsRestarts}
+use Rattle.quicksetter.specs.Lasting.{mayChange, storesBy, Lasts, StoringBytes, QsLasts, QsRestartIsPowerOn, QsRestarts}
 use Rattle.quicksetter.specs.Promises.{Untouched}
 use Rattle.quicksetter.proofs.Heads.{ours-length, core-of-whole, whole-as-it-was}
 use Rattle.quicksetter.proofs.Starting.{plate-again}
@@ -107,3 +107,7 @@ qs-restarts p img m old r img′ h all f =
     let long : length (lastingOf img) ≡ 12 = length-take-le 12 (coreIn img) (omega (arith, good (coreIn img) core .all)) in
     let s : stateOk p (rested (lastingOf img)) ≡ true = rw (rested-as img) (off-within p (stateHeld img) (k .state)) in
     f .answer ∙ rw (eq-eqb _ _ long, k .plate, eq-eqb _ _ all, s)
+
+pub storing-bytes : StoringBytes
+unfolding mayChange among
+storing-bytes = record { marked = refl; plain = refl; error = refl; marked-error = refl; reading = refl; position = refl }

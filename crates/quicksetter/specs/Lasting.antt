@@ -1,7 +1,7 @@
 -- What must last when the supply is off: which replies come with a change of it, and the image of a board that was off (01, "Power-on"). Assumes nothing.
 use Prim.Native.Nat.{ℕ, _%_, _<_}
 use mathlib.Core.Path.{_≡_}
-use mathlib.Core.Bool.{Bool, false}
+use mathlib.Core.Bool.{Bool, true, false}
 use mathlib.Core.List.{List, [], _∷_}
 use lib.ListN.{length}
 use Rattle.meaning.specs.Bytes.{both, longestReply, among, arg}
@@ -40,3 +40,12 @@ QsRestartIsPowerOn = (img old img′ : List ℕ) → Restarts (plateHeld img) (l
 -- what a host kept of a board is never refused
 abbrev pub QsRestarts : Type 0
 QsRestarts = (p : Plate) (img m old : List ℕ) (r : ℕ) (img′ : List ℕ) → Reached p img m → length old ≡ imageLength → Restarts p (lastingOf img) old r img′ → r ≡ 0
+
+-- the definition at bytes where a wrong one would differ: with and without bit 7, an error reply, a command that stores nothing
+pub record StoringBytes : Type 0 where
+  pub marked : mayChange 0xC7 ≡ true
+  pub plain : mayChange 0x4B ≡ true
+  pub error : mayChange 0x50 ≡ false
+  pub marked-error : mayChange 0xD0 ≡ false
+  pub reading : mayChange 0x4A ≡ false
+  pub position : mayChange 0x42 ≡ false
