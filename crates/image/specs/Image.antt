@@ -20,8 +20,17 @@ abbrev pub headLength : ℕ
 headLength = 6
 
 -- the core: 21 bytes of state, nine of the open frame's numbers, and the places of its kept bytes
+abbrev pub frameAt : ℕ
+frameAt = 21
+
+abbrev pub parityAt : ℕ
+parityAt = 23
+
+abbrev pub keptAt : ℕ
+keptAt = 30
+
 abbrev pub coreLength : ℕ
-coreLength = 30 + longestRequest
+coreLength = keptAt + longestRequest
 
 abbrev pub imageLength : ℕ
 imageLength = headLength + coreLength
@@ -96,7 +105,7 @@ frameIn core =
 
 -- 30 to 164 the kept bytes
 abbrev pub keptIn : List ℕ → List ℕ
-keptIn core = take longestRequest (drop 30 core)
+keptIn core = take longestRequest (drop keptAt core)
 
 -- the meaning's state that a core holds
 abbrev pub heldIn : List ℕ → meaning.State
@@ -138,7 +147,7 @@ pub record PutsState (s : State) (core core′ : List ℕ) : Type 0 where
 
 -- a frame's numbers are written over a core's
 pub record PutsFrame (f : OpenFrame) (core core′ : List ℕ) : Type 0 where
-  pub bytes : core′ ≡ put core 21 (frameBytes f)
+  pub bytes : core′ ≡ put core frameAt (frameBytes f)
   pub holds : frameIn core′ ≡ f
 
 -- both are; the places stay
@@ -151,9 +160,9 @@ pub record PutsBoard (s : State) (f : OpenFrame) (core core′ : List ℕ) : Typ
 -- a core with a frame open
 pub record Open (core : List ℕ) : Type 0 where
   pub bytes : isCore core ≡ true
-  pub begun : arg core 21 ≡ 1
+  pub begun : arg core frameAt ≡ 1
 
 -- a core is left with the open frame l: its numbers and its kept bytes are new, the places past those and the state's bytes are not
 pub record Takes (l : meaning.Line) (core core′ : List ℕ) : Type 0 where
-  pub bytes : core′ ≡ take 21 core ++ (lineBytes l ++ put (keptIn core) 0 (l .kept))
+  pub bytes : core′ ≡ take frameAt core ++ (lineBytes l ++ put (keptIn core) 0 (l .kept))
   pub holds : lineOf (frameIn core′) (keptIn core′) ≡ l

@@ -10,7 +10,7 @@ ghost use Rattle.meaning.specs.Characters.{more};
 ghost use Rattle.line.specs.Line.{lineOf};
 ghost use Rattle.state.specs.State.{stateWith};
 ghost use Rattle.wire.specs.Numbers.{low4};
-ghost use Rattle.image.specs.Image.{coreLength, flagByte, isCore, frameIn, keptIn, stateBytes, frameRow, Open, PutsState, PutsFrame, PutsBoard, Takes};
+ghost use Rattle.image.specs.Image.{frameAt, parityAt, keptAt, coreLength, flagByte, isCore, frameIn, keptIn, stateBytes, frameRow, Open, PutsState, PutsFrame, PutsBoard, Takes};
 use crate::layout::CORE_LENGTH;
 use crate::layout::COUNT;
 use crate::layout::FRAME;
@@ -84,7 +84,7 @@ fn frame_row(frame: OpenFrame, begun: u8, longer: u8, parity: u8) -> [u8; 9]
 }
 
 pub fn put_state(state: State, core: &mut [u8])
-    requires { ⌜ 21 ≤ length (now core) ⌝ }
+    requires { ⌜ frameAt ≤ length (now core) ⌝ }
     ensures { λ _. ⌜ PutsState state (now (core .entry)) (now (core .exit)) ⌝ }
 {
     let faults = state.faults;
@@ -93,7 +93,7 @@ pub fn put_state(state: State, core: &mut [u8])
 }
 
 pub fn put_frame(frame: OpenFrame, core: &mut [u8])
-    requires { ⌜ 30 ≤ length (now core) ⌝ }
+    requires { ⌜ keptAt ≤ length (now core) ⌝ }
     ensures { λ _. ⌜ PutsFrame frame (now (core .entry)) (now (core .exit)) ⌝ }
 {
     let begun = flag_byte(frame.begun);
@@ -123,7 +123,7 @@ fn begin(tick: u32, value: u8, parity: bool, core: &mut [u8])
 // Parity fault, stamp and XOR stand side by side.
 fn put_stamp(parity: u8, tick: u32, sum: u8, core: &mut [u8])
     requires { ⌜ length (now core) ≡ coreLength ⌝ }
-    ensures { λ _. ⌜ now (core .exit) ≡ put (now (core .entry)) 23 (parity ∷ low4 tick (sum ∷ [])) ⌝ }
+    ensures { λ _. ⌜ now (core .exit) ≡ put (now (core .entry)) parityAt (parity ∷ low4 tick (sum ∷ [])) ⌝ }
 {
     let stamp = wire::bytes_of(tick);
     let row = [parity, stamp[0], stamp[1], stamp[2], stamp[3], sum];

@@ -15,7 +15,7 @@ use Rattle.line.specs.Line.{plateOf, lineOf}
 use Rattle.image.specs.Image.{isOurs, isCore, headIn, coreIn, plateIn, frameIn, keptIn, heldIn, Takes}
 use Rattle.image.proofs.Round.{good}
 use Rattle.quicksetter.specs.Calls.{plateHeld, stateHeld, Called}
-use Rattle.quicksetter.specs.Cores.{refusalIn, Unrefused, ShutIn, Workable, Shuts, PollsIn}
+use Rattle.quicksetter.specs.Cores.{refusalIn, Unrefused, ShutIn, ImageUnrefused, ImageShuts, ImagePolls}
 use Rattle.quicksetter.proofs.Heads.{ours-length, head-length, core-of-whole, lent-core, core-back, called-of}
 use Rattle.quicksetter.proofs.Refusing.{refused-as, unrefused}
 use Rattle.quicksetter.proofs.Closing.{nothing-over, core-again, then-taken}
@@ -37,7 +37,7 @@ module _ (img m w : List ℕ) (e : isOurs img ≡ true) {p : line.Plate} (q : p 
       let k : n ≡ refusalIn (plateHeld img) (coreIn img) (length m) (length w) = rw (q, lent-core img all) at r in
       called-of img m w g e (refused-as (plateHeld img) (coreIn img) m w g l k some) (joined img)
 
-  pub workable : 0 ≡ refusalIn (plateOf p) (take 165 (drop 6 img)) (length m) (length w) → Workable img (length m) (length w)
+  pub workable : 0 ≡ refusalIn (plateOf p) (take 165 (drop 6 img)) (length m) (length w) → ImageUnrefused img (length m) (length w)
   workable r =
       let k : 0 ≡ refusalIn (plateHeld img) (coreIn img) (length m) (length w) = rw (q, lent-core img all) at r in
       record { ours = e; core = unrefused (plateHeld img) (coreIn img) (length m) (length w) k }
@@ -49,7 +49,7 @@ module _ (img m w : List ℕ) (e : isOurs img ≡ true) {p : line.Plate} (q : p 
   core-workable u = rw (q, lent-core img all) u
 
   -- the frame is closed in the core
-  pub shuts : {r : ℕ} {core′ m′ w′ : List ℕ} → ShutIn (plateOf p) (take 165 (drop 6 img)) m w r core′ m′ w′ → Shuts img m w r (take 6 img ++ (core′ ++ drop 165 (drop 6 img))) m′ w′
+  pub shuts : {r : ℕ} {core′ m′ w′ : List ℕ} → ShutIn (plateOf p) (take 165 (drop 6 img)) m w r core′ m′ w′ → ImageShuts img m w r (take 6 img ++ (core′ ++ drop 165 (drop 6 img))) m′ w′
   shuts {r} {core′} {m′} {w′} s =
       let k : ShutIn (plateHeld img) (coreIn img) m w r core′ m′ w′ = rw (q, lent-core img all) at s in
       let i : take 6 img ++ (core′ ++ drop 165 (drop 6 img)) ≡ headIn img ++ core′ = core-back img core′ all in
@@ -57,16 +57,16 @@ module _ (img m w : List ℕ) (e : isOurs img ≡ true) {p : line.Plate} (q : p 
       record { core = rw d k; head = rw d i }
 
 -- of an image that is not refused
-module _ (img m w : List ℕ) (u : Workable img (length m) (length w)) (tick : ℕ) where
-  pub polled-over : {r : ℕ} {img′ m′ w′ : List ℕ} → over (plateHeld img) (stateHeld img) tick ≡ true → Shuts img m w r img′ m′ w′ → PollsIn img m w tick r img′ m′ w′
+module _ (img m w : List ℕ) (u : ImageUnrefused img (length m) (length w)) (tick : ℕ) where
+  pub polled-over : {r : ℕ} {img′ m′ w′ : List ℕ} → over (plateHeld img) (stateHeld img) tick ≡ true → ImageShuts img m w r img′ m′ w′ → ImagePolls img m w tick r img′ m′ w′
   polled-over o s = record { core = s .core tick o; head = s .head }
 
-  pub polled-early : ((i : ℕ) → arg img i < 256) → over (plateHeld img) (stateHeld img) tick ≡ false → PollsIn img m w tick 0 img m w
+  pub polled-early : ((i : ℕ) → arg img i < 256) → over (plateHeld img) (stateHeld img) tick ≡ false → ImagePolls img m w tick 0 img m w
   polled-early small o =
       let low : (i : ℕ) → arg (coreIn img) i < 256 = λ i. rw (getD-drop 6 img i 0) (small (6 + i)) in
       record { core = nothing-over (plateHeld img) (coreIn img) m w (u .core) tick low o; head = joined img }
 
-  module _ {r : ℕ} {img′ m′ w′ : List ℕ} (a : PollsIn img m w tick r img′ m′ w′) where
+  module _ {r : ℕ} {img′ m′ w′ : List ℕ} (a : ImagePolls img m w tick r img′ m′ w′) where
     pub poll-whole : Called img m w (poll tick) r img′ m′ w′
     poll-whole = called-of img m w (poll tick) (u .ours) (a .core .called) (a .head)
 

@@ -1,5 +1,5 @@
 -- What a call leaves of the core of an image, for the plate that its head told, and the steps on the way (01, "Named refusals"). Assumes nothing.
-use Prim.Native.Nat.{ℕ, _-_, _≤_, _^_}
+use Prim.Native.Nat.{ℕ, _+_, _-_, _≤_, _^_}
 use mathlib.Core.Path.{_≡_}
 use mathlib.Core.Bool.{Bool, true, not}
 use mathlib.Core.List.{List, _++_}
@@ -16,11 +16,10 @@ use Rattle.board.specs.declared.limits.Board.{Board}
 use Rattle.board.specs.declared.limits.Outcome.{Outcome}
 use Rattle.board.specs.declared.limits.Outcome.the-variants.{R1, R2, R3, Still, Over}
 use Rattle.board.specs.declared.limits.Stepped.{Stepped}
-use Rattle.board.specs.Work as board
-use Rattle.board.specs.Work.{Serves, Closes}
+use Rattle.board.specs.Work.{Workable, Serves, Closes}
 use Rattle.quicksetter.specs.declared.notes.Note.{Note}
 use Rattle.quicksetter.specs.declared.notes.Note.the-variants.{Measured, Fault, PowerOn}
-use Rattle.image.specs.Image.{coreLength, numberAt, isOurs, isCore, headIn, coreIn, stateIn, frameIn, heldIn, keptIn, coreOf, PutsState, PutsBoard}
+use Rattle.image.specs.Image.{keptAt, coreLength, numberAt, isOurs, isCore, headIn, coreIn, stateIn, frameIn, heldIn, keptIn, coreOf, PutsState, PutsBoard}
 use Rattle.quicksetter.specs.Calls.{plateHeld, callNumber}
 
 abbrev pub boardIn : List ℕ → Board
@@ -69,14 +68,14 @@ pub record Unrefused (p : meaning.Plate) (core : List ℕ) (memory room : ℕ) :
 
 -- the data of a kept request that ends before a place of the core
 abbrev pub dataTo : ℕ → List ℕ → List ℕ
-dataTo end core = dataOf (take (end - 30) (drop 30 core))
+dataTo end core = dataOf (take (end - keptAt) (drop keptAt core))
 
 -- a request that the core's board may work
 pub record Servable (p : Plate) (c end : ℕ) (core m w : List ℕ) : Type 0 where
   pub bytes : isCore core ≡ true
-  pub starts : 33 ≤ end
+  pub starts : keptAt + 3 ≤ end
   pub ends : end ≤ coreLength
-  pub works : board.Workable p (stateIn core) c (dataTo end core) m w
+  pub works : Workable p (stateIn core) c (dataTo end core) m w
 
 -- the request c with the data d is worked and answered, and the core holds the state after it; but for the state's bytes it is as it was
 pub record ServedIn (p : meaning.Plate) (c : ℕ) (d core m w : List ℕ) (r : ℕ) (core′ m′ w′ : List ℕ) : Type 0 where
@@ -98,15 +97,15 @@ abbrev pub ShutIn : meaning.Plate → List ℕ → List ℕ → List ℕ → ℕ
 ShutIn p core m w r core′ m′ w′ = (tick : ℕ) → over p (heldIn core) tick ≡ true → Polls p core m w tick r core′ m′ w′
 
 -- ---- of an image: its head is ours, and nothing is refused; afterwards its head is as it was
-pub record Workable (img : List ℕ) (memory room : ℕ) : Type 0 where
+pub record ImageUnrefused (img : List ℕ) (memory room : ℕ) : Type 0 where
   pub ours : isOurs img ≡ true
   pub core : Unrefused (plateHeld img) (coreIn img) memory room
 
-pub record Shuts (img m w : List ℕ) (r : ℕ) (img′ m′ w′ : List ℕ) : Type 0 where
+pub record ImageShuts (img m w : List ℕ) (r : ℕ) (img′ m′ w′ : List ℕ) : Type 0 where
   pub core : ShutIn (plateHeld img) (coreIn img) m w r (coreIn img′) m′ w′
   pub head : img′ ≡ headIn img ++ coreIn img′
 
-pub record PollsIn (img m w : List ℕ) (tick r : ℕ) (img′ m′ w′ : List ℕ) : Type 0 where
+pub record ImagePolls (img m w : List ℕ) (tick r : ℕ) (img′ m′ w′ : List ℕ) : Type 0 where
   pub core : Polls (plateHeld img) (coreIn img) m w tick r (coreIn img′) m′ w′
   pub head : img′ ≡ headIn img ++ coreIn img′
 

@@ -10,7 +10,7 @@ ghost use Rattle.line.specs.Line.{plateOf};
 ghost use Rattle.state.specs.Queue.{queueOf};
 ghost use Rattle.image.specs.Image.{coreLength, stateIn, heldIn};
 ghost use Rattle.quicksetter.specs.Calls.{Called};
-ghost use Rattle.quicksetter.specs.Cores.{possible, dataTo, Unrefused, Servable, ServedIn, ClosedIn, ShutIn, Workable, Shuts, PollsIn};
+ghost use Rattle.quicksetter.specs.Cores.{possible, dataTo, Unrefused, Servable, ServedIn, ClosedIn, ShutIn, ImageUnrefused, ImageShuts, ImagePolls};
 use crate::answer::REFUSED;
 use image::CORE;
 use image::COUNTER;
@@ -113,8 +113,8 @@ fn shut_core(core: &mut [u8], plate: Plate, memory: &mut [u8], room: &mut [u8]) 
 
 // .. of an image: the plate is read where it is needed, so that no call hands it on.
 fn shut(image: &mut [u8], memory: &mut [u8], room: &mut [u8]) -> usize
-    requires { ⌜ Workable (now image) (length (now memory)) (length (now room)) ⌝ }
-    ensures { λ r. ⌜ Shuts (now (image .entry)) (now (memory .entry)) (now (room .entry)) r (now (image .exit)) (now (memory .exit)) (now (room .exit)) ⌝ }
+    requires { ⌜ ImageUnrefused (now image) (length (now memory)) (length (now room)) ⌝ }
+    ensures { λ r. ⌜ ImageShuts (now (image .entry)) (now (memory .entry)) (now (room .entry)) r (now (image .exit)) (now (memory .exit)) (now (room .exit)) ⌝ }
 {
     let plate = image::plate_in(image);
     shut_core(&mut image[CORE..LENGTH], plate, memory, room)
@@ -122,8 +122,8 @@ fn shut(image: &mut [u8], memory: &mut [u8], room: &mut [u8]) -> usize
 
 // What a character finds done by its tick, as a poll would do it.
 fn polled(image: &mut [u8], tick: u32, memory: &mut [u8], room: &mut [u8]) -> usize
-    requires { ⌜ Workable (now image) (length (now memory)) (length (now room)) ⌝ }
-    ensures { λ r. ⌜ PollsIn (now (image .entry)) (now (memory .entry)) (now (room .entry)) tick r (now (image .exit)) (now (memory .exit)) (now (room .exit)) ⌝ }
+    requires { ⌜ ImageUnrefused (now image) (length (now memory)) (length (now room)) ⌝ }
+    ensures { λ r. ⌜ ImagePolls (now (image .entry)) (now (memory .entry)) (now (room .entry)) tick r (now (image .exit)) (now (memory .exit)) (now (room .exit)) ⌝ }
 {
     let plate = image::plate_in(image);
     if is_over(&image[CORE..LENGTH], tick, plate) {

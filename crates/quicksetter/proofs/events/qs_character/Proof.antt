@@ -5,7 +5,7 @@ use native.Mathlib.Omega.{arith}
 use denote.Ref.{now}
 use lib.ListN.{length}
 use Rattle.image.specs.Image.{isOurs}
-use Rattle.quicksetter.specs.Cores.{Workable}
+use Rattle.quicksetter.specs.Cores.{ImageUnrefused}
 use borrow.Author.Tests.{not-true, not-false}
 use Rattle.quicksetter.proofs.Heads.{ours-length, not-ours}
 use Rattle.quicksetter.proofs.Refusing.{lends-character, impossible, unsound, other-size, too-narrow, none-applies}
@@ -39,7 +39,7 @@ ours : (c : tie.Else1) → isOurs (now (start1 c .args .image)) ≡ true
 ours c = sym (c .before .is-ours .ensures) ∙ not-false _ (c .if1 .left)
 
 -- R1 to R3 do not apply
-fine : (c : tie.Else5) → Workable (now (start5 c .args .image)) (length (now (start5 c .args .memory))) (length (now (start5 c .args .room)))
+fine : (c : tie.Else5) → ImageUnrefused (now (start5 c .args .image)) (length (now (start5 c .args .memory))) (length (now (start5 c .args .room)))
 fine c =
     let after-memory-length = c .before .before in
     let after-if3 = after-memory-length .before in
