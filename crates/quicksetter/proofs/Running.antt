@@ -33,10 +33,10 @@ use Rattle.quicksetter.proofs.Starting.{core-again, fresh-holds}
 use Rattle.quicksetter.proofs.Resting.{rested-as, measured-again}
 use Rattle.quicksetter.proofs.Staying.{Holds, steps-so, was-made, starts, starts-again, restart-holds, goes-on}
 
-enough : 134 ≤ length (zeros 134)
+pub enough : 134 ≤ length (zeros 134)
 enough = rw (length-replicate {A = ℕ} 134 0) (omega arith)
 
-stays : (p : Plate) (gs : List Call) (t : List Heard) (img m x : List ℕ) → Ran p gs t img m x → Holds p img m
+pub stays : (p : Plate) (gs : List Call) (t : List Heard) (img m x : List ℕ) → Ran p gs t img m x → Holds p img m
 stays p _ _ img m _ (began old _ f) = starts p old img m f (length-replicate {A = ℕ} (memoryLength (p .total)) 0)
 stays p _ _ img m _ (called gs t img₀ m₀ x w g r _ _ w′ h wide c) = goes-on p img₀ m₀ w g r img m w′ (stays p gs t img₀ m₀ x h) wide c
 stays p _ _ img m _ (restarted gs t img₀ _ x old off n r _ h f c) =

@@ -1,15 +1,16 @@
--- What must last when the supply is off: which replies come with a change of it, and the image of a board that was off (01, "Power-on"). Assumes nothing.
-use Prim.Native.Nat.{ℕ, _%_, _<_}
+-- What must last when the supply is off: which replies come with a change of it, the image of a board that was off, a host with a flash (01, "Power-on"). Assumes nothing.
+use Prim.Native.Nat.{ℕ, _%_, _<_, _≤_}
 use mathlib.Core.Path.{_≡_}
 use mathlib.Core.Bool.{Bool, true, false}
 use mathlib.Core.List.{List, [], _∷_}
-use lib.ListN.{length}
-use Rattle.meaning.specs.Bytes.{both, longestReply, among, arg}
+use lib.ListN.{length, take}
+use Rattle.meaning.specs.Bytes.{pick, both, longestReply, zeros, among, arg}
 use Rattle.meaning.specs.State.{Plate, between, poweredOn, withMeasured}
-use Rattle.meaning.specs.Run.{Call}
+use Rattle.meaning.specs.Fields.{memoryLength}
+use Rattle.meaning.specs.Run.{Call, measured, power-on, Heard, heard}
 use Rattle.image.specs.Image.{imageLength}
-use Rattle.quicksetter.specs.Calls.{plateHeld, stateHeld, lastingOf, Called, Restarts}
-use Rattle.quicksetter.specs.Promises.{Reached}
+use Rattle.quicksetter.specs.Calls.{plateHeld, stateHeld, lastingOf, Called, Freshens, Restarts}
+use Rattle.quicksetter.specs.Promises.{Reached, Ran}
 
 -- 01, "The commands": those that store: 43h the offset, 47h and 49h the counter, 4Bh and 4Dh memory, 4Fh a code; by the command byte of the reply
 unfoldable pub mayChange : ℕ → Bool
@@ -40,6 +41,30 @@ QsRestartIsPowerOn = (img old img′ : List ℕ) → Restarts (plateHeld img) (l
 -- what a host kept of a board is never refused
 abbrev pub QsRestarts : Type 0
 QsRestarts = (p : Plate) (img m old : List ℕ) (r : ℕ) (img′ : List ℕ) → Reached p img m → length old ≡ imageLength → Restarts p (lastingOf img) old r img′ → r ≡ 0
+
+-- a host that keeps memory and lasting bytes in a flash: after a call whose reply may have changed them it writes them, and only then sends the reply; when it was off
+-- it restarts from the flash and gives the measured position. A supply that goes before the flash is written leaves the flash, and so the host, as before that call.
+-- Its calls, newest first; the traffic; image and memory; lasting bytes and memory in the flash. Images are of bytes
+pub data Flashed (p : Plate) : List Call → List Heard → List ℕ → List ℕ → List ℕ → List ℕ → Type 0 where
+  new : (old img : List ℕ) → Freshens p old 0 img → Flashed p [] [] img (zeros (memoryLength (p .total))) (lastingOf img) (zeros (memoryLength (p .total)))
+  works : (gs : List Call) (t : List Heard) (img m lasting memory w : List ℕ) (g : Call) (r : ℕ) (img′ m′ w′ : List ℕ) → Flashed p gs t img m lasting memory
+      → ((i : ℕ) → arg img i < 256) → longestReply ≤ length w → Called img m w g r img′ m′ w′
+      → Flashed p (g ∷ gs) (heard p (stateHeld img) g (take r w′) t) img′ m′ (pick (storesBy r w′) (lastingOf img′) lasting) (pick (storesBy r w′) m′ memory)
+  supplied : (gs : List Call) (t : List Heard) (img m lasting memory old off : List ℕ) (n r : ℕ) (img′ : List ℕ) → Flashed p gs t img m lasting memory
+      → ((i : ℕ) → arg img i < 256) → Restarts p lasting old 0 off → ((y w : List ℕ) → Called off y w (measured n) r img′ y w)
+      → Flashed p (measured n ∷ power-on ∷ gs) t img′ memory lasting memory
+
+-- at any moment the flash has what a restart needs
+pub record Flash (img m kept cells : List ℕ) : Type 0 where
+  pub lasting : kept ≡ lastingOf img
+  pub memory : cells ≡ m
+
+abbrev pub QsFlash : Type 0
+QsFlash = (p : Plate) (gs : List Call) (t : List Heard) (img m lasting memory : List ℕ) → Flashed p gs t img m lasting memory → Flash img m lasting memory
+
+-- and so demand 3 holds of such a host: it runs as one of `Ran`
+abbrev pub QsFlashRuns : Type 0
+QsFlashRuns = (p : Plate) (gs : List Call) (t : List Heard) (img m lasting memory : List ℕ) → Flashed p gs t img m lasting memory → (x : List ℕ) × Ran p gs t img m x
 
 -- the definition at bytes where a wrong one would differ: with and without bit 7, an error reply, a command that stores nothing
 pub record StoringBytes : Type 0 where
