@@ -15,3 +15,4 @@ pub mod Staying
 pub mod Running
 mod Keeping
 pub mod Lasting
+pub mod Examples
