@@ -3,7 +3,7 @@ use Prim.Native.Nat.{ℕ, _≤_}
 use native.Mathlib.Omega.{arith}
 use mathlib.Core.Path.{_≡_, refl}
 use mathlib.Core.Bool.{false}
-use mathlib.Core.List.{List, [], _∷_}
+use mathlib.Core.List.{List, []}
 use lib.Dec.{T}
 use lib.ListN.{length, length-replicate}
 use Rattle.meaning.specs.Bytes.{blank, part, put, zeros, little, xorAll, xorFrom, among}
@@ -13,14 +13,14 @@ use Rattle.meaning.specs.Characters.{over, gap, taken, more, closed, whole}
 use Rattle.meaning.specs.Commands.{commandOf, row, lengthFits, asked, error, freeByte, memoryStatus, worked}
 use Rattle.meaning.specs.Frames as frames
 use Rattle.meaning.specs.Frames.{commandByte, dataOf, ours, judged, ending, sealed, warned, message, still, leaves, work, resting, close, upTo}
-use Rattle.meaning.specs.Run.{Call, character, poll, step, lends, refusedBy, closes, Heard, heard}
+use Rattle.meaning.specs.Run.{Call, character, poll, step, lends, refusedBy, closes, Heard}
 use Rattle.meaning.specs.Run as run
 use Rattle.meaning.specs.Bench.{inRange, allowed, request}
 use Rattle.meaning.specs.Sheet.{sheetPlate}
 use Rattle.state.specs.Queue.{queueOf, waiting}
 use Rattle.image.specs.Image.{flagByte, flagsOk, stateIn, frameIn, plateIn, headOf, isOurs, isCore, stateBytes, lineBytes, coreOf}
 use Rattle.quicksetter.specs.Calls.{isImage, stateHeld, calledBy, callNumber, imageAfter, imageOf, startOk, Called, Freshens}
-use Rattle.quicksetter.specs.Promises.{Ran, began, called, ClosesNext, closes-next, HoldsRequest}
+use Rattle.quicksetter.specs.Promises.{began, called, ClosesNext, closes-next, HoldsRequest}
 
 abbrev board : Plate
 board = sheetPlate 1
