@@ -223,6 +223,20 @@ pub fn write_request(
     result_of(number)
 }
 
+/// B0 to B6 by their numbers; every other number is an error of the library.
+fn bench_refusal(number: u64) -> Refusal {
+    match number {
+        1024 => Refusal::B0,
+        1025 => Refusal::B1,
+        1026 => Refusal::B2,
+        1027 => Refusal::B3,
+        1028 => Refusal::B4,
+        1029 => Refusal::B5,
+        1030 => Refusal::B6,
+        _ => panic!("{number} is no verdict"),
+    }
+}
+
 /// The library's verdict.
 pub fn judge(request: &[u8], reply: &[u8]) -> Result<Verdict, Refusal> {
     // SAFETY: both slices are valid for their lengths and only read.
@@ -239,14 +253,7 @@ pub fn judge(request: &[u8], reply: &[u8]) -> Result<Verdict, Refusal> {
         1 => Ok(Verdict::DoneWithWarning),
         256..=511 => Ok(Verdict::Error((number - 256) as u8)),
         512..=767 => Ok(Verdict::ErrorWithWarning((number - 512) as u8)),
-        1024 => Err(Refusal::B0),
-        1025 => Err(Refusal::B1),
-        1026 => Err(Refusal::B2),
-        1027 => Err(Refusal::B3),
-        1028 => Err(Refusal::B4),
-        1029 => Err(Refusal::B5),
-        1030 => Err(Refusal::B6),
-        _ => panic!("{number} is no verdict"),
+        _ => Err(bench_refusal(number.into())),
     }
 }
 
@@ -277,10 +284,7 @@ pub fn reply_length(request: &[u8], begun: &[u8]) -> Result<usize, Refusal> {
     };
     match number {
         0..=255 => Ok(number as usize),
-        1024 => Err(Refusal::B0),
-        1028 => Err(Refusal::B4),
-        1029 => Err(Refusal::B5),
-        _ => panic!("{number} is no length and no refusal"),
+        _ => Err(bench_refusal(number)),
     }
 }
 
