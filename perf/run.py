@@ -268,7 +268,7 @@ HEAD = """# Performance
 
 Written by perf/run.py (`make bench`), not by hand. Everything is measured on one machine ({machine}), C compiled by `gcc {flags}`
 ({compiler}), Rust by `cargo build --release`.
-The board written in C (perf/hand.c) has the same refusals, the same state image and all commands, unproved; the second program is the independent one in
+The board written in C (perf/hand.c) has the same refusals, the same image and all commands, unproved; the second program is the independent one in
 Rust. Before a tape is measured, all four programs must print the same answers to it.
 """
 

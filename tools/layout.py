@@ -1,10 +1,11 @@
 #!/usr/bin/env python3
-"""Holds the crates to their layout, and fails with file and line of what is over: a line of at most 300 characters, a function of at most 40 lines.
+"""Holds the crates to their layout, and fails with file and line of what is over: a line of at most 300 characters, a function of at most 40 lines, a name of the
+definitions that stands in one file only.
 
 layout.py
 
 Lines are those of the crates' code, definitions, proofs and must-fail edits. A function is counted from its `fn` line to its closing
-brace, which `rt fmt` puts alone on a line, as far in as the `fn` line.
+brace, which `rt fmt` puts alone on a line, as far in as the `fn` line. One word has one meaning, so no two files of specs/ export the same name.
 """
 
 import glob
@@ -15,6 +16,7 @@ import sys
 ROOT = os.path.dirname(os.path.dirname(os.path.abspath(__file__)))
 LONGEST_LINE = 300
 LONGEST_FUNCTION = 40
+EXPORTED = re.compile(r"^(?:abbrev |unfoldable )?pub (?!mod )(?:record |data )?(\S+)")
 FUNCTION = re.compile(r"^(\s*)(?:pub(?:\(\w+\))? )?(?:extern \"C\" )?fn (\w+)")
 
 
@@ -50,11 +52,21 @@ def long_functions():
                 yield "%s:%d: %s has %d lines" % (name, number, function, length)
 
 
+def twice_named():
+    """Names that two files of specs/ export, the second file of each."""
+    first = {}
+    for name, lines in files("*/specs/*.antt"):
+        for number, line in enumerate(lines, 1):
+            found = EXPORTED.match(line)
+            if found and first.setdefault(found.group(1), name) != name:
+                yield "%s:%d: %s stands in %s too" % (name, number, found.group(1), first[found.group(1)])
+
+
 def main():
-    wrong = list(long_lines()) + list(long_functions())
+    wrong = list(long_lines()) + list(long_functions()) + list(twice_named())
     if wrong:
         sys.exit("\n".join(wrong))
-    print("layout: no line over %d characters, no function over %d lines" % (LONGEST_LINE, LONGEST_FUNCTION))
+    print("layout: no line over %d characters, no function over %d lines, no name of specs/ in two files" % (LONGEST_LINE, LONGEST_FUNCTION))
 
 
 if __name__ == "__main__":

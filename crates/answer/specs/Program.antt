@@ -12,14 +12,14 @@ use Rattle.passes.specs.declared.session.Session.{Session}
 use Rattle.passes.specs.Sessions.{largestMemory, ReadyForPass}
 use Rattle.answer.specs.declared.Fed.{Fed}
 
-abbrev pub isEnded : Phase → Bool
-isEnded Opening = false
-isEnded Running = false
-isEnded Ended = true
+abbrev pub isLast : Phase → Bool
+isLast Opening = false
+isLast Running = false
+isLast Ended = true
 
 -- a record was bad, or the place is one that no tape has
 abbrev pub isOver : Session → Bool
-isOver s = cond (leb 9223372036854775808 (s .place)) true (isEnded (s .phase))
+isOver s = cond (leb 9223372036854775808 (s .place)) true (isLast (s .phase))
 
 -- after a window the board is ready for the next, unless a record was bad; the output may have failed or not
 pub record Leaves (r : Fed) (window kept m w out : List ℕ) : Type 0 where

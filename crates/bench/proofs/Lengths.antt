@@ -23,7 +23,7 @@ use Rattle.wire.specs.declared.table.Row.{Row}
 use Rattle.bench.specs.declared.reply.Refusal.the-variants.{B0, B4}
 use Rattle.bench.specs.declared.length.Expected.{Expected}
 use Rattle.bench.specs.declared.length.Expected.the-variants.{Unknown, Bytes, Refused}
-use Rattle.bench.specs.Lengths.{framed, doneLength, replyLength, LengthTold, LengthWithin, TakenFits, PieceFits}
+use Rattle.bench.specs.Lengths.{framed, doneLength, expectedLength, LengthTold, LengthWithin, TakenFits, PieceFits}
 use Rattle.bench.proofs.Laws.{data-length}
 
 -- ---- by the code's row
@@ -65,34 +65,34 @@ module _ (r : Row) (c : ℕ) (l : Length) (e : rowOf r ≡ row (commandOf c)) (f
 -- ---- its checks in order
 
 module _ (q s : List ℕ) where
-  pub not-a-request : written q ≡ false → replyLength q s ≡ Refused B0
-  unfolding replyLength
+  pub not-a-request : written q ≡ false → expectedLength q s ≡ Refused B0
+  unfolding expectedLength
   not-a-request e = simp e
 
   module _ (w : written q ≡ true) where
-    pub too-early : length s < 2 → replyLength q s ≡ Unknown
-    unfolding replyLength
+    pub too-early : length s < 2 → expectedLength q s ≡ Unknown
+    unfolding expectedLength
     too-early h = simp (w, lt-ltb (length s) 2 h)
 
     module _ (l : 2 ≤ length s) where
-      pub other-command : either (eqb (arg s 1 % 128) (arg q 1)) (eqb (arg s 1 % 128) 0x50) ≡ false → replyLength q s ≡ Refused B4
-      unfolding replyLength bare commandByte
+      pub other-command : either (eqb (arg s 1 % 128) (arg q 1)) (eqb (arg s 1 % 128) 0x50) ≡ false → expectedLength q s ≡ Refused B4
+      unfolding expectedLength bare commandByte
       other-command c = simp (w, le-ltb (length s) 2 l, c)
 
       module _ (c : either (eqb (arg s 1 % 128) (arg q 1)) (eqb (arg s 1 % 128) 0x50) ≡ true) where
-        pub error-length : both (eqb (arg s 1 % 128) 0x50) (not (eqb (arg q 1) 0x50)) ≡ true → replyLength q s ≡ Bytes 4
-        unfolding replyLength errorReply bare commandByte
+        pub error-length : both (eqb (arg s 1 % 128) 0x50) (not (eqb (arg q 1) 0x50)) ≡ true → expectedLength q s ≡ Bytes 4
+        unfolding expectedLength errorReply bare commandByte
         error-length e = simp (w, le-ltb (length s) 2 l, c, e)
 
-        pub done-length : both (eqb (arg s 1 % 128) 0x50) (not (eqb (arg q 1) 0x50)) ≡ false → replyLength q s ≡ doneLength (arg q 1) (dataOf q)
-        unfolding replyLength errorReply bare commandByte
+        pub done-length : both (eqb (arg s 1 % 128) 0x50) (not (eqb (arg q 1) 0x50)) ≡ false → expectedLength q s ≡ doneLength (arg q 1) (dataOf q)
+        unfolding expectedLength errorReply bare commandByte
         done-length e = simp (w, le-ltb (length s) 2 l, c, e)
 
 -- ---- of a reply that the bench takes
 
 -- more of the reply changes nothing
-begun-same : (q r : List ℕ) (n : ℕ) → 2 ≤ n → 2 ≤ length r → replyLength q (take n r) ≡ replyLength q r
-unfolding replyLength errorReply bare
+begun-same : (q r : List ℕ) (n : ℕ) → 2 ≤ n → 2 ≤ length r → expectedLength q (take n r) ≡ expectedLength q r
+unfolding expectedLength errorReply bare
 begun-same q r n h l =
     let k : 2 ≤ length (take n r) = rw (length-take n r) (omega arith) in
     simp (getD-take n r 1 0 (omega arith), le-ltb (length (take n r)) 2 k, le-ltb (length r) 2 l)
@@ -120,7 +120,7 @@ module _ (q r : List ℕ) where
   own-passes true = refl
   own-passes false = refl
 
-  told-by : (v : Verdict) → Grounds q r v → T (accepts v) → replyLength q r ≡ Bytes (length r)
+  told-by : (v : Verdict) → Grounds q r v → T (accepts v) → expectedLength q r ≡ Bytes (length r)
   unfolding accepts rightLength commandByte bare
   told-by (refusal n) g h = absurd h
   told-by (done w d) g h =
@@ -139,7 +139,7 @@ module _ (q r : List ℕ) where
       fits : either (eqb (arg r 1 % 128) (arg q 1)) (eqb (arg r 1 % 128) 0x50) ≡ true
       fits = rw (g .command) (either-true (eqb 0x50 (arg q 1)))
 
-      go : (b : Bool) → eqb (arg q 1) 0x50 ≡ b → replyLength q r ≡ Bytes (length r)
+      go : (b : Bool) → eqb (arg q 1) 0x50 ≡ b → expectedLength q r ≡ Bytes (length r)
       go true z =
           done-length q r (told-true (written q) (g .fit .asked-well)) (omega (arith, g .fit .long)) fits (rw (g .command, z))
           ∙ fault-length (arg q 1) (dataOf q) (eqb→eq (arg q 1) 0x50 (true-told (eqb (arg q 1) 0x50) z)) ∙ ap Bytes (sym four)
@@ -187,8 +187,8 @@ done-within c50 d h = few 1 tt
 done-within c53 d h = tt
 done-within unknown d h = tt
 
-all-within : (q s : List ℕ) → Within (replyLength q s)
-unfolding replyLength doneLength
+all-within : (q s : List ℕ) → Within (expectedLength q s)
+unfolding expectedLength doneLength
 all-within q s = go (written q) (ltb (length s) 2) (either (eqb (bare s) (commandByte q)) (eqb (bare s) 0x50)) (errorReply q s) allowed-then
   where
     allowed-then : T (written q) → T (allowed (commandOf (commandByte q)) (dataOf q))

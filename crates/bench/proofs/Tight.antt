@@ -7,7 +7,7 @@ use Rattle.meaning.specs.Bytes.{pick}
 use Rattle.meaning.specs.Bench as meaning
 use Rattle.wire.proofs.Tight.{one-outcome, same-outcome}
 use Rattle.bench.specs.Outcomes.{writtenOf, checkNumber, verdictOf, withoutData, pieceFrom}
-use Rattle.bench.specs.Lengths.{replyLength}
+use Rattle.bench.specs.Lengths.{expectedLength}
 use Rattle.bench.specs.declared.length.Expected.{Expected}
 use Rattle.bench.specs.declared.request.Written.{Written}
 use Rattle.bench.specs.declared.request.Written.the-variants.{Request, R4, R5}
@@ -68,5 +68,5 @@ pub piece-tight : (h : meaning.Piece) (a b : Piece) → pieceFrom a ≡ h → pi
 piece-tight h a b =
     one-outcome pieceFrom (λ (x : meaning.Piece). record { from = x .from; count = x .count }) (λ (x : Piece). refl) h a b
 
-pub reply-length-tight : (q s : List ℕ) (a b : Expected) → a ≡ replyLength q s → b ≡ replyLength q s → a ≡ b
-reply-length-tight q s = same-outcome (replyLength q s)
+pub reply-length-tight : (q s : List ℕ) (a b : Expected) → a ≡ expectedLength q s → b ≡ expectedLength q s → a ≡ b
+reply-length-tight q s = same-outcome (expectedLength q s)

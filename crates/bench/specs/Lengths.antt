@@ -25,8 +25,8 @@ unfoldable pub doneLength : ℕ → List ℕ → Expected  -- 01, column "Reply 
 doneLength c d = framed ((row (commandOf c)) .reply) d
 
 -- B0, B4 and B5 as far as the begun reply s decides them (its address, B3, tells nothing of the length); an error reply has its code as data
-unfoldable pub replyLength : List ℕ → List ℕ → Expected
-replyLength q s =
+unfoldable pub expectedLength : List ℕ → List ℕ → Expected
+expectedLength q s =
     pick (not (written q)) (Refused B0)
     (pick (ltb (length s) 2) Unknown
     (pick (not (either (eqb (bare s) (commandByte q)) (eqb (bare s) 0x50))) (Refused B4)
@@ -35,11 +35,11 @@ replyLength q s =
 
 -- a reply that the bench takes is as long as was told when two or more of its bytes had come
 abbrev pub LengthTold : Type 0
-LengthTold = (q r : List ℕ) (n : ℕ) → 2 ≤ n → T (accepts (judge q r)) → replyLength q (take n r) ≡ Bytes (length r)
+LengthTold = (q r : List ℕ) (n : ℕ) → 2 ≤ n → T (accepts (judge q r)) → expectedLength q (take n r) ≡ Bytes (length r)
 
 -- 01, R3: the length that is told is 3 to 134
 abbrev pub LengthWithin : Type 0
-LengthWithin = (q s : List ℕ) (n : ℕ) → replyLength q s ≡ Bytes n → (3 ≤ n) × (n ≤ longestReply)
+LengthWithin = (q s : List ℕ) (n : ℕ) → expectedLength q s ≡ Bytes n → (3 ≤ n) × (n ≤ longestReply)
 
 -- .. and so of a reply that the bench takes
 abbrev pub TakenFits : Type 0

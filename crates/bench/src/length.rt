@@ -1,7 +1,7 @@
 // How long a reply will be, told by the request and the reply's first two bytes (01, column "Reply data").
 ghost use mathlib.Core.Path.{_≡_};
 ghost use Prim.Native.Nat.{_<_};
-ghost use Rattle.bench.specs.Lengths.{doneLength, replyLength};
+ghost use Rattle.bench.specs.Lengths.{doneLength, expectedLength};
 use crate::reply::Refusal;
 use crate::reply::command_fits;
 use crate::reply::is_error;
@@ -37,7 +37,7 @@ fn done_length(command: u8, asked: &[u8]) -> Expected
 
 // B0, B4 and B5 as far as the first two bytes decide them; the address, B3, tells nothing of the length. An error reply has one byte of data, its code.
 pub fn reply_length(request: &[u8], begun: &[u8]) -> Expected
-    ensures { λ r. ⌜ r ≡ replyLength (now (request .entry)) (now (begun .entry)) ⌝ }
+    ensures { λ r. ⌜ r ≡ expectedLength (now (request .entry)) (now (begun .entry)) ⌝ }
 {
     if !is_written(request) {
         return Expected::Refused(Refusal::B0);

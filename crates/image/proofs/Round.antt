@@ -1,4 +1,4 @@
--- An core is read and written without loss: of a board of the code's types, and of a core's own bytes. Assumes nothing.
+-- A core is read and written without loss: of a board of the code's types, and of a core's own bytes. Assumes nothing.
 use Prim.Native.Nat.{ℕ, _+_, _<_, _≤_, _^_}
 use native.Mathlib.Omega.{arith}
 use native.Mathlib.Nat.{zero-add}

@@ -1,4 +1,4 @@
--- No two differing outcomes satisfy a public contract of the core; those that are plain equations are `same-outcome` itself (01, "How tightly the contracts bind"). Assumes nothing.
+-- No two differing outcomes satisfy a public contract of the image; those that are plain equations are `same-outcome` itself (01, "How tightly the contracts bind"). Assumes nothing.
 use mathlib.Core.Path.{_≡_}
 use mathlib.Core.List.{List, _++_}
 use Prim.Native.Nat.{ℕ}

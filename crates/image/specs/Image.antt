@@ -46,8 +46,8 @@ abbrev pub layoutNumber : ℕ
 layoutNumber = 1
 
 -- 0 the layout number; 1 total blocks; 2 position bits; 3 address; 4 ticks per bit; 5 pause
-unfoldable pub plateIn : List ℕ → Plate
-plateIn img = record { total = arg img 1; bits = arg img 2; address = arg img 3; ticks = arg img 4; pause = arg img 5 }
+unfoldable pub plateOfHead : List ℕ → Plate
+plateOfHead img = record { total = arg img 1; bits = arg img 2; address = arg img 3; ticks = arg img 4; pause = arg img 5 }
 
 unfoldable pub headOf : meaning.Plate → List ℕ
 headOf p = layoutNumber ∷ p .total ∷ p .bits ∷ p .address ∷ p .ticks ∷ p .pause ∷ []

@@ -6,7 +6,7 @@ ghost use lib.ListN.{length};
 ghost use Rattle.meaning.specs.Bytes.{put};
 ghost use Rattle.meaning.specs.State.{plateOk};
 ghost use Rattle.line.specs.Line.{plateOf};
-ghost use Rattle.image.specs.Image.{imageLength, isOurs, plateIn, headOf};
+ghost use Rattle.image.specs.Image.{imageLength, isOurs, plateOfHead, headOf};
 use crate::layout::ADDRESS;
 use crate::layout::BITS;
 use crate::layout::LAYOUT;
@@ -35,7 +35,7 @@ fn number(byte: u8) -> u32
 
 pub fn plate_in(image: &[u8]) -> Plate
     requires { ⌜ imageLength ≤ length (now image) ⌝ }
-    ensures { λ r. ⌜ r ≡ plateIn (now (image .entry)) ⌝ }
+    ensures { λ r. ⌜ r ≡ plateOfHead (now (image .entry)) ⌝ }
 {
     Plate {
         total: number(image[TOTAL]),

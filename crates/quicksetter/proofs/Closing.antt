@@ -1,4 +1,4 @@
--- An core that is not refused: what a poll leaves of it, and a character after that. Assumes nothing.
+-- A core that is not refused: what a poll leaves of it, and a character after that. Assumes nothing.
 use Prim.Native.Nat.{ℕ, _+_, _-_, _<_, _≤_, _^_}
 use native.Mathlib.Omega.{arith}
 use mathlib.Core.Path.{_≡_, refl, sym, ap, _∙_}

@@ -18,7 +18,7 @@ use Rattle.meaning.specs.Run as run
 use Rattle.meaning.specs.Bench.{inRange, allowed, request}
 use Rattle.meaning.specs.Sheet.{sheetPlate}
 use Rattle.state.specs.Queue.{queueOf, waiting}
-use Rattle.image.specs.Image.{flagByte, flagsOk, stateIn, frameIn, plateIn, headOf, isOurs, isCore, stateBytes, lineBytes, coreOf}
+use Rattle.image.specs.Image.{flagByte, flagsOk, stateIn, frameIn, plateOfHead, headOf, isOurs, isCore, stateBytes, lineBytes, coreOf}
 use Rattle.quicksetter.specs.Calls.{isImage, stateHeld, calledBy, callNumber, imageAfter, imageOf, startOk, Called, Freshens}
 use Rattle.quicksetter.specs.Promises.{began, called, ClosesNext, closes-next, HoldsRequest}
 
@@ -95,7 +95,7 @@ record Steps : Type 0 where
 
 computed : Steps
 unfolding imageAfter calledBy isImage isOurs isCore flagsOk run.called refusedBy lends step upTo over gap still taken more withLine plateOk among stateOk apart fresh none
-    imageOf headOf plateIn coreOf stateBytes lineBytes flagByte put stateIn frameIn part little queueOf waiting xorAll xorFrom closed whole request sealed ownByte allowed
+    imageOf headOf plateOfHead coreOf stateBytes lineBytes flagByte put stateIn frameIn part little queueOf waiting xorAll xorFrom closed whole request sealed ownByte allowed
     asked row lengthFits commandOf inRange closes close resting work ending ours leaves judged frames.outcome message warned dataOf commandByte worked memoryStatus error
     survey table sound blank fieldCount used exists blocks freeBlocks statusAt freeByte
 computed = record { one = refl; two = refl; three = refl; four = refl; request-4E = record { frame = refl; ours = tt; may = tt }; closing = tt }

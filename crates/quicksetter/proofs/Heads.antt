@@ -13,7 +13,7 @@ use Rattle.meaning.specs.Run.{Call, Held}
 use Rattle.meaning.proofs.Choices.{both-left, both-right}
 use Rattle.line.specs.declared.plate.Plate as line
 use Rattle.line.specs.Line.{plateOf}
-use Rattle.image.specs.Image.{isOurs, isCore, headIn, coreIn, plateIn, keptIn, coreOf}
+use Rattle.image.specs.Image.{isOurs, isCore, headIn, coreIn, plateOfHead, keptIn, coreOf}
 use Rattle.image.proofs.Round.{core-as-it-was}
 use Rattle.quicksetter.specs.Calls.{isImage, plateHeld, stateHeld, calledBy, callNumber, imageAfter, Called}
 use Rattle.quicksetter.specs.Cores.{coreCalled, coreAfter, CoreCalled}
@@ -36,8 +36,8 @@ core-back img core all =
     ap (λ (x : List ℕ). take 6 img ++ (core ++ x)) (drop-drop 165 6 img ∙ drop-of-length-le img {i = 171} (omega arith)) ∙ ap (λ (x : List ℕ). take 6 img ++ x) (append-nil core)
 
 -- the plate and the layout number are read from the head alone
-plate-front : (img : List ℕ) → plateIn (headIn img) ≡ plateIn img
-unfolding plateIn
+plate-front : (img : List ℕ) → plateOfHead (headIn img) ≡ plateOfHead img
+unfolding plateOfHead
 plate-front img =
     let front : (i : ℕ) → i < 6 → arg (headIn img) i ≡ arg img i = λ i h. getD-take 6 img i 0 h in
     rw (front 1 (omega arith), front 2 (omega arith), front 3 (omega arith), front 4 (omega arith), front 5 (omega arith))
@@ -46,8 +46,8 @@ module _ (img core : List ℕ) (all : length img ≡ 171) where
   head-of-whole : headIn (headIn img ++ core) ≡ headIn img
   head-of-whole = take-at (headIn img) core 6 (head-length img all)
 
-  pub plate-stays : plateIn (headIn img ++ core) ≡ plateIn img
-  plate-stays = sym (plate-front (headIn img ++ core)) ∙ ap plateIn head-of-whole ∙ plate-front img
+  pub plate-stays : plateOfHead (headIn img ++ core) ≡ plateOfHead img
+  plate-stays = sym (plate-front (headIn img ++ core)) ∙ ap plateOfHead head-of-whole ∙ plate-front img
 
   layout-stays : arg (headIn img ++ core) 0 ≡ arg img 0
   layout-stays =
@@ -105,7 +105,7 @@ module _ (img m w : List ℕ) (g : Call) where
       }
 
   -- the core is lent and comes back
-  pub called-whole : {p : line.Plate} {r : ℕ} {core′ m′ w′ : List ℕ} → isOurs img ≡ true → p ≡ plateIn img → CoreCalled (plateOf p) (take 165 (drop 6 img)) m w g r core′ m′ w′
+  pub called-whole : {p : line.Plate} {r : ℕ} {core′ m′ w′ : List ℕ} → isOurs img ≡ true → p ≡ plateOfHead img → CoreCalled (plateOf p) (take 165 (drop 6 img)) m w g r core′ m′ w′
       → Called img m w g r (take 6 img ++ (core′ ++ drop 165 (drop 6 img))) m′ w′
   called-whole {p} {r} {core′} {m′} {w′} e q lent =
       let all : length img ≡ 171 = ours-length img e in

@@ -9,7 +9,7 @@ use Rattle.meaning.specs.Bench as meaning
 use Rattle.meaning.specs.Demands.{accepts}
 use Rattle.bench.specs.declared.length.Expected.{Expected}
 use Rattle.bench.specs.declared.length.Expected.the-variants.{Unknown, Bytes, Refused}
-use Rattle.bench.specs.Lengths.{replyLength}
+use Rattle.bench.specs.Lengths.{expectedLength}
 use Rattle.bench.proofs.Lengths.{length-told, length-within, taken-fits, piece-fits}
 use Rattle.quicksetter.specs.Verdicts.{verdictNumber, expectedNumber, pieceNumber, PieceParts, QsLengthTold, QsLengthWithin, QsNoneBeginsSo}
 
@@ -43,9 +43,9 @@ qs-none-begins-so q r n v t h e k l = subst (λ (x : ℕ). 1024 ≤ x) (sym e) (
     never a = let f : t ≡ length r = k ∙ ap expectedNumber (length-told q r n h a) in omega (arith, taken-fits q r a)
 
 pub qs-length-within : QsLengthWithin
-qs-length-within q s t e some few = go (replyLength q s) refl e
+qs-length-within q s t e some few = go (expectedLength q s) refl e
   where
-    go : (x : Expected) → replyLength q s ≡ x → t ≡ expectedNumber x → (3 ≤ t) × (t ≤ 134)
+    go : (x : Expected) → expectedLength q s ≡ x → t ≡ expectedNumber x → (3 ≤ t) × (t ≤ 134)
     go Unknown k e = (omega arith, omega arith)
     go (Bytes n) k e = subst (λ (i : ℕ). (3 ≤ i) × (i ≤ 134)) (sym e) (length-within q s n k)
     go (Refused b) k e = (omega arith, omega arith)

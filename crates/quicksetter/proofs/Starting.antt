@@ -19,12 +19,12 @@ use Rattle.state.specs.declared.state.State.{State}
 use Rattle.state.specs.State.{stateWith}
 use Rattle.state.specs.Queue.{queueOf, waiting}
 use Rattle.state.proofs.Answering.{put-nothing}
-use Rattle.image.specs.Image.{flagByte, stateIn, frameIn, keptIn, heldIn, stateBytes, lineBytes, frameRow, frameBytes, headOf, coreIn, plateIn, coreOf, PutsBoard}
+use Rattle.image.specs.Image.{flagByte, stateIn, frameIn, keptIn, heldIn, stateBytes, lineBytes, frameRow, frameBytes, headOf, coreIn, plateOfHead, coreOf, PutsBoard}
 use Rattle.image.proofs.Standing.{put-whole, Typed}
 use Rattle.image.proofs.Parts.{kept-length}
 use Rattle.image.proofs.Round.{state-round-trip, frame-round-trip, kept-round-trip}
 use Rattle.quicksetter.proofs.Heads.{core-back}
-use Rattle.quicksetter.specs.Calls.{plateHeld, imageOf, startOk, Starts, rested, restartOk, Restarts}
+use Rattle.quicksetter.specs.Calls.{plateHeld, imageOf, startOk, Makes, rested, restartOk, Restarts}
 
 nothing-open : frameBytes noFrame ≡ lineBytes none
 unfolding frameRow lineBytes none flagByte
@@ -56,22 +56,22 @@ core-made core {s} {f} {after} {core′} all a c d =
     d .bytes none ∙ ap (λ (v : List ℕ). stateBytes (stateWith s none) ++ (frameBytes f ++ v)) x ∙ rw (c, nothing-open, nothing-kept)
 
 module _ (p : line.Plate) (s : State) (img : List ℕ) where
-  pub no-plate : plateOk (plateOf p) ≡ false → Starts (plateOf p) (stateWith s none) img 257 img
+  pub no-plate : plateOk (plateOf p) ≡ false → Makes (plateOf p) (stateWith s none) img 257 img
   unfolding startOk
   no-plate e = record { answer = rw e; image = rw e }
 
   module _ (e : plateOk (plateOf p) ≡ true) where
-    pub no-length : (length img ≡ 171 → ⊥) → Starts (plateOf p) (stateWith s none) img 257 img
+    pub no-length : (length img ≡ 171 → ⊥) → Makes (plateOf p) (stateWith s none) img 257 img
     unfolding startOk
     no-length n = let z : eqb (length img) 171 ≡ false = ne-eqb _ _ n in record { answer = rw (e, z); image = rw (e, z) }
 
     module _ (all : length img ≡ 171) where
-      pub no-state : stateOk (plateOf p) (stateWith s none) ≡ false → Starts (plateOf p) (stateWith s none) img 257 img
+      pub no-state : stateOk (plateOf p) (stateWith s none) ≡ false → Makes (plateOf p) (stateWith s none) img 257 img
       unfolding startOk
       no-state n = let z : eqb (length img) 171 ≡ true = eq-eqb _ _ all in record { answer = rw (e, z, n); image = rw (e, z, n) }
 
       pub started : {mid core′ : List ℕ} → stateOk (plateOf p) (stateWith s none) ≡ true → mid ≡ put img 0 (headOf (plateOf p))
-          → core′ ≡ coreOf (stateWith s none) (zeros 135) → Starts (plateOf p) (stateWith s none) img 0 (take 6 mid ++ (core′ ++ drop 165 (drop 6 mid)))
+          → core′ ≡ coreOf (stateWith s none) (zeros 135) → Makes (plateOf p) (stateWith s none) img 0 (take 6 mid ++ (core′ ++ drop 165 (drop 6 mid)))
       unfolding startOk imageOf put headOf
       started {mid} {core′} n a b =
           let z : eqb (length img) 171 ≡ true = eq-eqb _ _ all in
@@ -83,7 +83,7 @@ pub no-lasting : (p : Plate) (lasting img : List ℕ) → (length lasting ≡ 12
 unfolding restartOk
 no-lasting p lasting img n = let z : eqb (length lasting) 12 ≡ false = ne-eqb _ _ n in record { answer = rw z; image = rw z }
 
-pub restarts : (p : Plate) (lasting img : List ℕ) {r : ℕ} {img′ : List ℕ} → length lasting ≡ 12 → Starts p (rested lasting) img r img′ → Restarts p lasting img r img′
+pub restarts : (p : Plate) (lasting img : List ℕ) {r : ℕ} {img′ : List ℕ} → length lasting ≡ 12 → Makes p (rested lasting) img r img′ → Restarts p lasting img r img′
 unfolding restartOk
 restarts p lasting img n s = let z : eqb (length lasting) 12 ≡ true = eq-eqb _ _ n in record { answer = rw z (s .answer); image = rw z (s .image) }
 
@@ -93,7 +93,7 @@ unfolding coreOf stateBytes lineBytes fresh none flagByte put stateIn frameIn pa
 fresh-holds p = refl
 
 pub plate-again : (p : Plate) (s : meaning.State) (places : List ℕ) → plateHeld (imageOf p s places) ≡ p
-unfolding imageOf headOf plateIn
+unfolding imageOf headOf plateOfHead
 plate-again p s places = refl
 
 pub core-again : (p : Plate) (s : meaning.State) (places : List ℕ) → coreIn (imageOf p s places) ≡ coreOf s places

@@ -25,7 +25,7 @@ use Rattle.image.specs.Image.{flagByte, flagsOk, isOurs, isCore, headIn, coreIn
 use Rattle.image.proofs.Standing.{Typed}
 use Rattle.image.proofs.Parts.{kept-length}
 use Rattle.image.proofs.Round.{good}
-use Rattle.quicksetter.specs.Calls.{isImage, plateHeld, stateHeld, lastingOf, imageAfter, imageOf, startOk, rested, restartOk, Called, Starts, Freshens, Restarts}
+use Rattle.quicksetter.specs.Calls.{isImage, plateHeld, stateHeld, lastingOf, imageAfter, imageOf, startOk, rested, restartOk, Called, Makes, Freshens, Restarts}
 use Rattle.quicksetter.specs.Promises.{Reached, start, next, off, QsNeverRefused}
 use Rattle.quicksetter.proofs.Heads.{ours-length, core-of-whole, plate-stays, still-ours}
 use Rattle.quicksetter.proofs.Starting.{nothing-long, fresh-holds, made-holds, plate-again, core-again}
@@ -73,7 +73,7 @@ whole-image p s few =
     rw (n, c)
 
 -- a made image holds what it was made of
-made : (p : Plate) (s : meaning.State) (old img m : List ℕ) → Starts p s old 0 img → heldIn (coreOf s (zeros 135)) ≡ s → length (s .line .kept) ≤ 135
+made : (p : Plate) (s : meaning.State) (old img m : List ℕ) → Makes p s old 0 img → heldIn (coreOf s (zeros 135)) ≡ s → length (s .line .kept) ≤ 135
     → length m ≡ memoryLength (p .total) → Holds p img m
 unfolding startOk
 made p s old img m f again few l =
@@ -93,7 +93,7 @@ unfolding fresh none
 starts p old img m f l = made p (fresh p) old img m f (fresh-holds p) (omega arith) l
 
 -- a restart starts from what lasted
-pub starts-so : (p : Plate) (lasting old img : List ℕ) → Restarts p lasting old 0 img → Starts p (rested lasting) old 0 img
+pub starts-so : (p : Plate) (lasting old img : List ℕ) → Restarts p lasting old 0 img → Makes p (rested lasting) old 0 img
 unfolding restartOk
 starts-so p lasting old img f =
     let k : restartOk p lasting old ≡ true = was-made (restartOk p lasting old) (f .answer) in

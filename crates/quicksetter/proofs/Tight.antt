@@ -5,7 +5,7 @@ use Prim.Native.Nat.{ℕ}
 use Rattle.meaning.specs.State.{Plate}
 use Rattle.meaning.specs.Run.{Call}
 use Rattle.meaning.specs.Bench as meaning
-use Rattle.bench.specs.Lengths.{replyLength}
+use Rattle.bench.specs.Lengths.{expectedLength}
 use Rattle.wire.proofs.Tight.{same-outcome}
 use Rattle.quicksetter.specs.Calls.{Called, Freshens, Restarts}
 use Rattle.quicksetter.specs.Verdicts.{Writes, verdictNumber, expectedNumber, pieceNumber}
@@ -48,5 +48,5 @@ judge-tight q a = same-outcome (verdictNumber (meaning.judge q a))
 pub data-part-tight : (q a : List ℕ) (r t : ℕ) → r ≡ pieceNumber (meaning.handed q a) → t ≡ pieceNumber (meaning.handed q a) → r ≡ t
 data-part-tight q a = same-outcome (pieceNumber (meaning.handed q a))
 
-pub reply-length-tight : (q s : List ℕ) (r t : ℕ) → r ≡ expectedNumber (replyLength q s) → t ≡ expectedNumber (replyLength q s) → r ≡ t
-reply-length-tight q s = same-outcome (expectedNumber (replyLength q s))
+pub reply-length-tight : (q s : List ℕ) (r t : ℕ) → r ≡ expectedNumber (expectedLength q s) → t ≡ expectedNumber (expectedLength q s) → r ≡ t
+reply-length-tight q s = same-outcome (expectedNumber (expectedLength q s))

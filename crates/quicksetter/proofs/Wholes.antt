@@ -12,7 +12,7 @@ use Rattle.meaning.specs.Characters.{over, more}
 use Rattle.meaning.specs.Run.{Call, character, poll, lends}
 use Rattle.line.specs.declared.plate.Plate as line
 use Rattle.line.specs.Line.{plateOf, lineOf}
-use Rattle.image.specs.Image.{isOurs, isCore, headIn, coreIn, plateIn, frameIn, keptIn, heldIn, Takes}
+use Rattle.image.specs.Image.{isOurs, isCore, headIn, coreIn, plateOfHead, frameIn, keptIn, heldIn, Takes}
 use Rattle.image.proofs.Round.{good}
 use Rattle.quicksetter.specs.Calls.{plateHeld, stateHeld, Called}
 use Rattle.quicksetter.specs.Cores.{refusalIn, Unrefused, ShutIn, ImageUnrefused, ImageShuts, ImagePolls}
@@ -27,7 +27,7 @@ joined : (img : List ℕ) → img ≡ headIn img ++ coreIn img
 joined img = sym (take-append-drop 6 img)
 
 -- of an image with our head, whose plate was read and whose core was lent
-module _ (img m w : List ℕ) (e : isOurs img ≡ true) {p : line.Plate} (q : p ≡ plateIn img) where
+module _ (img m w : List ℕ) (e : isOurs img ≡ true) {p : line.Plate} (q : p ≡ plateOfHead img) where
   all : length img ≡ 171
   all = ours-length img e
 

@@ -11,7 +11,7 @@ use Rattle.meaning.specs.Run.{Call, Held, called}
 use Rattle.line.specs.declared.plate.Plate.{Plate}
 use Rattle.line.specs.Line.{plateOf}
 use Rattle.state.specs.State.{stateWith}
-use Rattle.image.specs.Image.{imageLength, lastingLength, isOurs, isCore, headIn, coreIn, plateIn, heldIn, lastingIn, restedIn, keptIn, headOf, coreOf}
+use Rattle.image.specs.Image.{imageLength, lastingLength, isOurs, isCore, headIn, coreIn, plateOfHead, heldIn, lastingIn, restedIn, keptIn, headOf, coreOf}
 
 -- the plate by its numbers, in the order of document 01
 abbrev pub plateFrom : ℕ → ℕ → ℕ → ℕ → ℕ → Plate
@@ -23,7 +23,7 @@ isImage img = both (isOurs img) (isCore (coreIn img))
 
 -- the plate and the state that it holds
 abbrev pub plateHeld : List ℕ → meaning.Plate
-plateHeld img = plateOf (plateIn img)
+plateHeld img = plateOf (plateOfHead img)
 
 abbrev pub stateHeld : List ℕ → meaning.State
 stateHeld img = heldIn (coreIn img)
@@ -61,13 +61,13 @@ imageOf p s places = headOf p ++ coreOf s places
 unfoldable pub startOk : meaning.Plate → meaning.State → List ℕ → Bool
 startOk p s img = both (meaning.plateOk p) (both (eqb (length img) imageLength) (meaning.stateOk p s))
 
-pub record Starts (p : meaning.Plate) (s : meaning.State) (img : List ℕ) (r : ℕ) (img′ : List ℕ) : Type 0 where
+pub record Makes (p : meaning.Plate) (s : meaning.State) (img : List ℕ) (r : ℕ) (img′ : List ℕ) : Type 0 where
   pub answer : r ≡ pick (startOk p s img) 0 257
   pub image : img′ ≡ pick (startOk p s img) (imageOf p s (zeros longestRequest)) img
 
 -- 01, "Fresh state"
 abbrev pub Freshens : meaning.Plate → List ℕ → ℕ → List ℕ → Type 0
-Freshens p img r img′ = Starts p (meaning.fresh p) img r img′
+Freshens p img r img′ = Makes p (meaning.fresh p) img r img′
 
 -- the state of a board that was off, from the bytes that last
 abbrev pub rested : List ℕ → meaning.State

@@ -15,7 +15,7 @@ use Rattle.bench.specs.Outcomes.{checkNumber}
 use Rattle.bench.specs.declared.length.Expected.{Expected}
 use Rattle.bench.specs.declared.length.Expected.the-variants as expected
 use Rattle.bench.specs.declared.length.Expected.the-variants.{Unknown, Bytes}
-use Rattle.bench.specs.Lengths.{replyLength}
+use Rattle.bench.specs.Lengths.{expectedLength}
 
 -- a request's length, or 256 + n for Rn
 unfoldable pub requestNumber : meaning.Written → ℕ
@@ -66,12 +66,12 @@ PieceParts = (q r : List ℕ) → Parts (meaning.handed q r) (pieceNumber (meani
 
 -- 01, column "Reply data": v is the verdict's number on a reply, t the length's number when two or more of its bytes had come: if v is no refusal, t is the reply's length
 abbrev pub QsLengthTold : Type 0
-QsLengthTold = (q r : List ℕ) (n v t : ℕ) → 2 ≤ n → v ≡ verdictNumber (meaning.judge q r) → v < 1024 → t ≡ expectedNumber (replyLength q (take n r)) → t ≡ length r
+QsLengthTold = (q r : List ℕ) (n v t : ℕ) → 2 ≤ n → v ≡ verdictNumber (meaning.judge q r) → v < 1024 → t ≡ expectedNumber (expectedLength q (take n r)) → t ≡ length r
 
 -- B0, B4, B5: and if t is a refusal, so is v
 abbrev pub QsNoneBeginsSo : Type 0
-QsNoneBeginsSo = (q r : List ℕ) (n v t : ℕ) → 2 ≤ n → v ≡ verdictNumber (meaning.judge q r) → t ≡ expectedNumber (replyLength q (take n r)) → 1024 ≤ t → 1024 ≤ v
+QsNoneBeginsSo = (q r : List ℕ) (n v t : ℕ) → 2 ≤ n → v ≡ verdictNumber (meaning.judge q r) → t ≡ expectedNumber (expectedLength q (take n r)) → 1024 ≤ t → 1024 ≤ v
 
 -- 01, R3: a number that is neither 0 nor a refusal is a length of 3 to 134
 abbrev pub QsLengthWithin : Type 0
-QsLengthWithin = (q s : List ℕ) (t : ℕ) → t ≡ expectedNumber (replyLength q s) → 0 < t → t < 1024 → (3 ≤ t) × (t ≤ longestReply)
+QsLengthWithin = (q s : List ℕ) (t : ℕ) → t ≡ expectedNumber (expectedLength q s) → 0 < t → t < 1024 → (3 ≤ t) × (t ≤ longestReply)

@@ -4,7 +4,7 @@ ghost use Prim.Native.Nat.{_<_};
 ghost use lib.ListN.{length};
 ghost use Rattle.meaning.specs.Bench as meaning;
 ghost use Rattle.bench.specs.Outcomes.{checkNumber};
-ghost use Rattle.bench.specs.Lengths.{replyLength};
+ghost use Rattle.bench.specs.Lengths.{expectedLength};
 ghost use Rattle.quicksetter.specs.Verdicts.{writtenNumber, verdictNumber, verdictCode, expectedNumber, pieceNumber, Writes};
 use crate::answer::REFUSED;
 use bench::Expected;
@@ -94,7 +94,7 @@ fn expected_number(expected: Expected) -> u64
 // How long the reply will be that begins so, 0 while that is not known, or B0, B4, B5.
 #[no_mangle]
 pub extern "C" fn qs_reply_length(request: &[u8], reply: &[u8]) -> u64
-    ensures { λ r. ⌜ r ≡ expectedNumber (replyLength (now (request .entry)) (now (reply .entry))) ⌝ }
+    ensures { λ r. ⌜ r ≡ expectedNumber (expectedLength (now (request .entry)) (now (reply .entry))) ⌝ }
 {
     expected_number(bench::reply_length(request, reply))
 }

@@ -6,7 +6,7 @@ ghost use Rattle.meaning.specs.State.{none};
 ghost use Rattle.line.specs.Line.{plateOf};
 ghost use Rattle.state.specs.State.{stateWith};
 ghost use Rattle.image.specs.Image.{coreLength, coreOf};
-ghost use Rattle.quicksetter.specs.Calls.{plateFrom, Starts, Freshens, Restarts};
+ghost use Rattle.quicksetter.specs.Calls.{plateFrom, Makes, Freshens, Restarts};
 use crate::answer::REFUSED;
 use crate::given::plate_from;
 use image::CORE;
@@ -30,7 +30,7 @@ fn put_core(state: State, core: &mut [u8])
 }
 
 fn make(plate: Plate, state: State, image: &mut [u8]) -> usize
-    ensures { λ r. ⌜ Starts (plateOf plate) (stateWith state none) (now (image .entry)) r (now (image .exit)) ⌝ }
+    ensures { λ r. ⌜ Makes (plateOf plate) (stateWith state none) (now (image .entry)) r (now (image .exit)) ⌝ }
 {
     if !plate.is_ok() {
         return REFUSED + 1;

@@ -1,5 +1,5 @@
 -- `image::head::plate_in` meets its contract. Assumes nothing.
-use Rattle.image.specs.Image.{plateIn}
+use Rattle.image.specs.Image.{plateOfHead}
 use borrow.Author.Needs.{needs}
 use Rattle.image.proofs.head.plate_in.Statement.{statement}
 use Rattle.image.proofs.head.plate_in.Tie as tie
@@ -38,7 +38,7 @@ number-requires-5 : tie.Need-number-requires-5
 number-requires-5 c κs = search needs
 
 returns : tie.Need-returns
-unfolding plateIn
+unfolding plateOfHead
 returns c =
     let after-number4 = c .before .before in
     let after-number3 = after-number4 .before .before in
