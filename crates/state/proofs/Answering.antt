@@ -8,15 +8,18 @@ use mathlib.Core.List.{List, [], _∷_}
 use lib.Dec.{eqb}
 use lib.ListN.{length, getD, take, set, take-append-drop}
 use Rattle.meaning.specs.Bytes.{longestReply, arg, put, bytes3, bytes4}
-use Rattle.meaning.specs.State.{Line}
-use Rattle.meaning.specs.Commands as commands
+use Rattle.meaning.specs.State.{Plate, Line}
+use Rattle.meaning.specs.Commands.{Command, refuse, accept, worked}
 use Rattle.wire.specs.Numbers.{low4}
-use Rattle.wire.specs.declared.answer.Answer.the-variants.{Refuse, Accept, Quiet}
+use Rattle.wire.specs.declared.answer.Answer.the-variants.{Refuse, Accept}
 use Rattle.state.specs.declared.state.State.{State}
 use Rattle.state.specs.declared.rows.Worked.{Worked}
 use Rattle.state.specs.declared.rows.Check.{Check}
 use Rattle.state.specs.declared.rows.Check.the-variants.{Passed, Failed}
 use Rattle.state.specs.State.{stateWith}
+use Rattle.state.specs.declared.effects.Effect.{Effect}
+use Rattle.state.specs.declared.effects.Effect.the-variants.{Nothing}
+use Rattle.state.specs.Effects.{Placed, effectOn, rowEffect}
 use Rattle.state.specs.Rows.{checkOf, Answers}
 use Rattle.meaning.proofs.Puts.{stored-is-put}
 
@@ -24,21 +27,20 @@ pub put-nothing : (w : List ℕ) (i : ℕ) → w ≡ put w i []
 unfolding put
 put-nothing w i = rw (add-zero i) (sym (take-append-drop i w))
 
-module _ (a : commands.Answer) (s : State) (l : Line) (w : List ℕ) where
-  pub refuses : {e : ℕ} {r : Worked} → r ≡ (record { state = s; answer = Refuse e }) → a ≡ commands.refuse e → Answers a s l w r w
-  refuses k q = rw (q, k) (record { answer = refl; state = refl; room = refl })
+module _ (k : Command) (p : Plate) (s : State) (l : Line) (m d w : List ℕ) where
+  pub refuses : {e : ℕ} {r : Worked} → r ≡ (record { effect = Nothing; answer = Refuse e }) → worked k p (stateWith s l) m d ≡ refuse e → Answers k p s l m d w r w
+  unfolding effectOn
+  refuses h q = rw h (record { answer = rw q; effect = rw q; placed = tt; state = rw q; room = rw q })
 
-  pub accepts : {t : State} {n : ℕ} {r : Worked} {w′ : List ℕ} (d : List ℕ) (m : List ℕ) → r ≡ (record { state = t; answer = Accept n })
-      → a ≡ commands.accept d (stateWith t l) m → n ≡ length d → w′ ≡ put w 2 d → Answers a s l w r w′
-  accepts d m k q n h = rw (q, k) (record { answer = ap Accept n; state = refl; room = h })
+  pub accepts : {x : Effect} {n : ℕ} {r : Worked} {w′ : List ℕ} (z : List ℕ) → r ≡ (record { effect = x; answer = Accept n })
+      → worked k p (stateWith s l) m d ≡ accept z (effectOn x (stateWith s l)) m → rowEffect k p (stateWith s l) d ≡ x → Placed x → n ≡ length z → w′ ≡ put w 2 z
+      → Answers k p s l m d w r w′
+  accepts z h q x t n o = rw h (record { answer = rw q (ap Accept n); effect = rw q (sym x); placed = t; state = rw q; room = rw q o })
 
   -- without reply data the room is as it was
-  pub accepts-bare : {t : State} {r : Worked} (m : List ℕ) → r ≡ (record { state = t; answer = Accept 0 })
-      → a ≡ commands.accept [] (stateWith t l) m → Answers a s l w r w
-  accepts-bare m k q = accepts [] m k q refl (put-nothing w 2)
-
-  pub quiets : {t : State} (m : List ℕ) → a ≡ commands.quiet (stateWith t l) m → Answers a s l w (record { state = t; answer = Quiet }) w
-  quiets m q = rw q (record { answer = refl; state = refl; room = refl })
+  pub accepts-bare : {x : Effect} {r : Worked} → r ≡ (record { effect = x; answer = Accept 0 }) → worked k p (stateWith s l) m d ≡ accept [] (effectOn x (stateWith s l)) m
+      → rowEffect k p (stateWith s l) d ≡ x → Placed x → Answers k p s l m d w r w
+  accepts-bare h q x t = accepts [] h q x t refl (put-nothing w 2)
 
 stands : Check → Bool
 stands Passed = false

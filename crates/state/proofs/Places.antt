@@ -2,7 +2,7 @@
 use Prim.Native.Nat.{ℕ, _+_, _<_, _%_}
 use native.Mathlib.Omega.{arith}
 use mathlib.Core.Path.{_≡_, refl, sym, ap, _∙_}
-use mathlib.Core.Bool.{Bool, true, false, not, false≢true}
+use mathlib.Core.Bool.{Bool, true, false, not, _||_, false≢true}
 use mathlib.Core.List.{List, [], _∷_, _++_}
 use borrow.Author.Tests.{eqb-true, eqb-false, ne-eqb}
 use lib.Dec.{eqb, leb}
@@ -110,11 +110,19 @@ pub precedes-none : (c : ℕ) (q : List ℕ) {t : Bool} → eqb c 0 ≡ true →
 unfolding mayPrecede
 precedes-none c q e h = rw e h
 
-pub may-precede : (c x y z : ℕ) {t : Bool} → eqb c 0 ≡ false
-    → both (not (either (eqb c 0x22) (eqb c 0x24))) (not (either (eqb c x) (either (eqb c y) (eqb c z)))) ≡ t
+pub may-precede : (c x y z : ℕ) {t : Bool} → eqb c 0 ≡ false → both (not (locks c)) (not (either (eqb c x) (either (eqb c y) (eqb c z)))) ≡ t
     → t ≡ mayPrecede c (waiting x (waiting y (waiting z [])))
-unfolding mayPrecede queueable locks
+unfolding mayPrecede queueable
 may-precede c x y z h e = rw (h, among-three c x y z (positive c h)) (sym e)
+
+-- 01, "22h and 24h lock the position": both tests at once
+pub either-locks : (c : ℕ) → (eqb c 0x22 || eqb c 0x24) ≡ locks c
+unfolding locks
+either-locks c = go (eqb c 0x22) (eqb c 0x24)
+  where
+    go : (a b : Bool) → (a || b) ≡ either a b
+    go true b = refl
+    go false b = refl
 
 -- 01, "State limits", one place more in front
 pub apart-more : (c : ℕ) (q : List ℕ) → apart (waiting c q) ≡ both (mayPrecede c q) (apart q)
@@ -135,25 +143,6 @@ apart-more c (x ∷ q) = go (eqb c 0) (locks c) (among c (x ∷ q)) (apart (x �
 apart-last : (d : ℕ) → apart (waiting d []) ≡ mayPrecede d []
 unfolding apart
 apart-last d = apart-more d [] ∙ both-true (mayPrecede d [])
-
-empty-first : (c : ℕ) (q : List ℕ) → eqb c 0 ≡ true → apart (waiting c q) ≡ not (waits q)
-unfolding apart waiting waits queueable
-empty-first c [] e = rw e
-empty-first c (x ∷ q) e = rw e
-
-pub sound-empty : (f : Faults) {t : Bool} → eqb (f .first) 0 ≡ true → t ≡ not (waits (waiting (f .second) (waiting (f .third) (waiting (f .fourth) []))))
-    → t ≡ apart (queueOf f)
-unfolding queueOf
-sound-empty f e h = h ∙ sym (empty-first (f .first) (waiting (f .second) (waiting (f .third) (waiting (f .fourth) []))) e)
-
--- one code waits: the other places are empty
-pub sound-one : (f : Faults) {t : Bool} → mayPrecede (f .first) (waiting (f .second) (waiting (f .third) (waiting (f .fourth) []))) ≡ true → eqb (f .second) 0 ≡ true
-    → t ≡ not (waits (waiting (f .third) (waiting (f .fourth) (waiting 0 [])))) → t ≡ apart (queueOf f)
-unfolding queueOf waiting
-sound-one f p e h =
-    h ∙ sym (apart-more (f .first) (waiting (f .second) (waiting (f .third) (waiting (f .fourth) [])))
-    ∙ ap (λ (b : Bool). both b (apart (waiting (f .second) (waiting (f .third) (waiting (f .fourth) []))))) p
-    ∙ empty-first (f .second) (waiting (f .third) (waiting (f .fourth) [])) e)
 
 pub sound-four : (f : Faults) {t : Bool}
     → both (mayPrecede (f .first) (waiting (f .second) (waiting (f .third) (waiting (f .fourth) []))))
@@ -251,11 +240,11 @@ module _ (s : State) (f : Faults) (c : ℕ) where
   ignored e = rw e
 
   module _ (n : eqb c 0 ≡ false) where
-    pub locking : either (eqb c 0x22) (eqb c 0x24) ≡ true
+    pub locking : locks c ≡ true
         → holding s (record { first = f .first; second = f .second; third = f .third; fourth = f .fourth; locked = true }) ≡ noted (holding s f) c
-    unfolding noted locks holding withLock withQueue queueOf
+    unfolding noted holding withLock withQueue queueOf
     locking e = rw (n, e)
 
-    pub queueing : {r : Faults} → either (eqb c 0x22) (eqb c 0x24) ≡ false → Queues f (queued (queueOf f) c) r → holding s r ≡ noted (holding s f) c
-    unfolding noted locks holding withLock withQueue
+    pub queueing : {r : Faults} → locks c ≡ false → Queues f (queued (queueOf f) c) r → holding s r ≡ noted (holding s f) c
+    unfolding noted holding withLock withQueue
     queueing e h = rw (n, e, h .queue, h .lock)

@@ -8,12 +8,13 @@ use lib.ListN.{length, drop}
 use Rattle.meaning.specs.Bytes.{arg}
 use Rattle.meaning.specs.State as meaning
 use Rattle.meaning.specs.State.{withLock, withQueue, none, stateOk}
-use Rattle.meaning.specs.Commands as commands
+use Rattle.meaning.specs.Commands.{Command}
 use Rattle.wire.specs.declared.answer.Answer.{Answer}
 use Rattle.state.specs.declared.faults.Faults.{Faults}
 use Rattle.state.specs.declared.faults.Oldest.{Oldest}
 use Rattle.state.specs.declared.state.State.{State}
 use Rattle.state.specs.declared.rows.Worked.{Worked}
+use Rattle.state.specs.declared.effects.Effect.{Effect}
 use Rattle.state.specs.Queue.{waiting, queueOf, holding, Queues, Reads}
 use Rattle.state.specs.State.{stateWith}
 use Rattle.state.specs.Rows.{Answers}
@@ -73,9 +74,9 @@ oldest i j = rw (i, j)
 pub reads-tight : (f : Faults) (r t : Oldest) → Reads f r → Reads f t → r ≡ t
 reads-tight f r t h i = oldest (h .oldest ∙ sym (i .oldest)) (queues-tight f _ (r .faults) (t .faults) (h .rest) (i .rest))
 
-outcomes : {s t : State} {x y : Answer} → s ≡ t → x ≡ y → _≡_ {A = Worked} (record { state = s; answer = x }) (record { state = t; answer = y })
+outcomes : {e f : Effect} {x y : Answer} → e ≡ f → x ≡ y → _≡_ {A = Worked} (record { effect = e; answer = x }) (record { effect = f; answer = y })
 outcomes i j = rw (i, j)
 
-pub row-tight : (a : commands.Answer) (s : State) (l : meaning.Line) (w : List ℕ) (r t : Worked) (u v : List ℕ) → Answers a s l w r u → Answers a s l w t v → (r ≡ t) × (u ≡ v)
-row-tight a s l w r t u v h i =
-    (outcomes (same-state (r .state) (t .state) l l (h .state ∙ sym (i .state))) (h .answer ∙ sym (i .answer)), h .room ∙ sym (i .room))
+pub row-tight : (k : Command) (p : meaning.Plate) (s : State) (l : meaning.Line) (m d w : List ℕ) (r t : Worked) (u v : List ℕ) → Answers k p s l m d w r u → Answers k p s l m d w t v
+    → (r ≡ t) × (u ≡ v)
+row-tight k p s l m d w r t u v h i = (outcomes (h .effect ∙ sym (i .effect)) (h .answer ∙ sym (i .answer)), h .room ∙ sym (i .room))

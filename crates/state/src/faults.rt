@@ -4,7 +4,7 @@ ghost use mathlib.Core.Bool.{not};
 ghost use mathlib.Core.List.{List, []};
 ghost use Prim.Native.Nat.{ℕ, _<_};
 ghost use Rattle.meaning.specs.Bytes.{among};
-ghost use Rattle.meaning.specs.State.{State, queued, noted, apart};
+ghost use Rattle.meaning.specs.State.{State, queued, noted, apart, locks};
 ghost use Rattle.meaning.specs.Frames.{warned};
 ghost use Rattle.meaning.specs.Demands.{waits};
 ghost use Rattle.state.specs.Queue.{queueOf, waiting, mayPrecede, noFaults, holding, Queues, Reads};
@@ -56,7 +56,7 @@ impl Faults {
     }
 
     // 01, "a queue of four, oldest first; one already waiting, or a fifth, is dropped".
-    pub(crate) fn queued(self, code: u8) -> Faults
+    pub fn queued(self, code: u8) -> Faults
         requires { ⌜ 0 < code ⌝ }
         ensures { λ r. ⌜ Queues self (queued (queueOf self) code) r ⌝ }
     {
@@ -84,25 +84,22 @@ impl Faults {
     }
 
     // 01, "00h is ignored. 22h and 24h lock the position until power-on and are not queued".
-    pub(crate) fn note(self, code: u8) -> Faults
+    pub fn note(self, code: u8) -> Faults
         ensures { λ r. ⌜ ((s : State) → holding s r ≡ noted (holding s self) code) ⌝ }
     {
         if code == 0 {
             return self;
         }
-        let mut locked = self;
-        locked.locked = true;
-        if code == 0x22 {
-            return locked;
-        }
-        if code == 0x24 {
+        if locks(code) {
+            let mut locked = self;
+            locked.locked = true;
             return locked;
         }
         self.queued(code)
     }
 
     // 01, row 50h: the oldest is handed back, and the others move up.
-    pub(crate) fn read(self) -> Oldest
+    pub fn read(self) -> Oldest
         ensures { λ r. ⌜ Reads self r ⌝ }
     {
         let rest = Faults {
@@ -119,7 +116,7 @@ impl Faults {
     }
 
     // 01, row 53h. The lock lasts until power-on.
-    pub(crate) fn emptied(self) -> Faults
+    pub fn emptied(self) -> Faults
         ensures { λ r. ⌜ Queues self [] r ⌝ }
     {
         let mut next = Faults::none();
@@ -147,14 +144,8 @@ impl Faults {
     pub fn is_sound(self) -> bool
         ensures { λ r. ⌜ r ≡ apart (queueOf self) ⌝ }
     {
-        if self.first == 0 {
-            return no_more(self.second, self.third, self.fourth);
-        }
         if !may_precede(self.first, self.second, self.third, self.fourth) {
             return false;
-        }
-        if self.second == 0 {
-            return no_more(self.third, self.fourth, 0);
         }
         if !may_precede(self.second, self.third, self.fourth, 0) {
             return false;
@@ -175,6 +166,13 @@ pub fn marked(command: u8, waiting: bool) -> u8
         return low + 128;
     }
     low
+}
+
+// 01, "22h and 24h lock the position". Both tests at once: the compiler makes one of them.
+pub fn locks(code: u8) -> bool
+    ensures { λ r. ⌜ r ≡ locks code ⌝ }
+{
+    (code == 0x22) | (code == 0x24)
 }
 
 fn no_more(second: u8, third: u8, fourth: u8) -> bool
@@ -199,10 +197,7 @@ fn may_precede(code: u8, second: u8, third: u8, fourth: u8) -> bool
     if code == 0 {
         return no_more(second, third, fourth);
     }
-    if code == 0x22 {
-        return false;
-    }
-    if code == 0x24 {
+    if locks(code) {
         return false;
     }
     if code == second {

@@ -1,9 +1,13 @@
 // The fault queue, the board's state, and the commands that work on it alone (01, "Fresh state", "Faults", "The commands").
+mod effects;
 mod faults;
 mod rows;
 mod state;
 
+pub use effects::Effect;
 pub use faults::Faults;
+pub use faults::Oldest;
+pub use faults::locks;
 pub use faults::marked;
 pub use rows::Worked;
 pub use rows::clear_counter;

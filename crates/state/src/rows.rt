@@ -6,21 +6,21 @@ ghost use lib.Dec.{leb, ltb};
 ghost use lib.ListN.{length, getD};
 ghost use Rattle.meaning.specs.Bytes.{differ, longestReply, put, number, bytes3, bytes4};
 ghost use Rattle.meaning.specs.State.{Plate, Line, lastCount, position, offsetFor};
-ghost use Rattle.meaning.specs.Commands.{readPosition, setPosition, readCounter, stepCounter, clearCounter, setCode, readFault, reset};
+ghost use Rattle.meaning.specs.Commands.{c42, c43, c46, c47, c49, c4F, c50, c53};
 ghost use Rattle.state.specs.State.{stateWith};
 ghost use Rattle.state.specs.Rows.{checkOf, Answers};
+use crate::effects::Effect;
 use crate::state::LAST_COUNT;
 use crate::state::State;
 use crate::state::size;
 use wire::Answer;
-use wire::codes::COUNTER_OVERFLOW;
 use wire::codes::POSITION_LOCKED;
 use wire::codes::WRONG_ARGUMENT;
 use wire::codes::WRONG_CODE;
 
-// The state after a command, and what the command comes to.
+// What a command changes in the state, and what it comes to.
 pub struct Worked {
-    pub state: State,
+    pub effect: Effect,
     pub answer: Answer,
 }
 
@@ -30,20 +30,20 @@ enum Check {
     Failed,
 }
 
-fn refused(state: State, code: u8) -> Worked
-    ensures { λ r. ⌜ r ≡ record { state = state; answer = Answer.Refuse code } ⌝ }
+fn refused(code: u8) -> Worked
+    ensures { λ r. ⌜ r ≡ record { effect = Effect.Nothing; answer = Answer.Refuse code } ⌝ }
 {
     Worked {
-        state,
+        effect: Effect::Nothing,
         answer: Answer::Refuse(code),
     }
 }
 
-fn accepted(state: State, count: usize) -> Worked
-    ensures { λ r. ⌜ r ≡ record { state = state; answer = Answer.Accept count } ⌝ }
+fn accepted(effect: Effect, count: usize) -> Worked
+    ensures { λ r. ⌜ r ≡ record { effect = effect; answer = Answer.Accept count } ⌝ }
 {
     Worked {
-        state,
+        effect,
         answer: Answer::Accept(count),
     }
 }
@@ -59,11 +59,11 @@ fn check_unlocked(state: State) -> Check
 }
 
 // 01, "0Fh unless".
-fn check_code(state: State, number: usize, given: u8) -> Check
+fn check_code(codes: [u8; 4], number: usize, given: u8) -> Check
     requires { ⌜ number < 4 ⌝ }
-    ensures { λ r. ⌜ r ≡ checkOf (differ given (getD (state .codes) number 0)) ⌝ }
+    ensures { λ r. ⌜ r ≡ checkOf (differ given (getD codes number 0)) ⌝ }
 {
-    if given == state.codes[number] {
+    if given == codes[number] {
         return Check::Passed;
     }
     Check::Failed
@@ -139,99 +139,99 @@ fn put_bytes3(x: u32, room: &mut [u8])
 // 42h: 02h if locked.
 pub fn read_position(bits: u32, state: State, room: &mut [u8]) -> Worked
     requires { ⌜ (bits ≤ 32) × (longestReply ≤ length (now room)) ⌝ }
-    ensures { λ r. ⌜ ((p : Plate) (l : Line) (m d : List ℕ) → p .bits ≡ bits → Answers (readPosition p (stateWith state l) m d) state l (now (room .entry)) r (now (room .exit))) ⌝ }
+    ensures { λ r. ⌜ ((p : Plate) (l : Line) (m d : List ℕ) → p .bits ≡ bits → Answers c42 p state l m d (now (room .entry)) r (now (room .exit))) ⌝ }
 {
     let Check::Passed = check_unlocked(state) else {
-        return refused(state, POSITION_LOCKED);
+        return refused(POSITION_LOCKED);
     };
     put_bytes4(position(bits, state), room);
-    accepted(state, 4)
+    accepted(Effect::Nothing, 4)
 }
 
 // 43h: 02h if locked; 0Fh unless Code0; 0Dh if position ≥ 2^P.
 pub fn set_position(bits: u32, state: State, request: &[u8]) -> Worked
     requires { ⌜ (bits ≤ 32) × (length (now request) ≡ 5) ⌝ }
-    ensures { λ r. ⌜ ((p : Plate) (l : Line) (m w : List ℕ) → p .bits ≡ bits → Answers (setPosition p (stateWith state l) m (now (request .entry))) state l w r w) ⌝ }
+    ensures { λ r. ⌜ ((p : Plate) (l : Line) (m w : List ℕ) → p .bits ≡ bits → Answers c43 p state l m (now (request .entry)) w r w) ⌝ }
 {
     let Check::Passed = check_unlocked(state) else {
-        return refused(state, POSITION_LOCKED);
+        return refused(POSITION_LOCKED);
     };
-    let Check::Passed = check_code(state, 0, request[4]) else {
-        return refused(state, WRONG_CODE);
+    let codes = state.codes;
+    let Check::Passed = check_code(codes, 0, request[4]) else {
+        return refused(WRONG_CODE);
     };
     let wanted = number_of(request[0], request[1], request[2], request[3]);
     let Check::Passed = check_position(bits, wanted) else {
-        return refused(state, WRONG_ARGUMENT);
+        return refused(WRONG_ARGUMENT);
     };
     let offset = offset_for(bits, state, wanted);
-    accepted(state.with_offset(offset), 0)
+    accepted(Effect::Offset(offset), 0)
 }
 
 // 46h
 pub fn read_counter(state: State, room: &mut [u8]) -> Worked
     requires { ⌜ longestReply ≤ length (now room) ⌝ }
-    ensures { λ r. ⌜ ((p : Plate) (l : Line) (m d : List ℕ) → Answers (readCounter p (stateWith state l) m d) state l (now (room .entry)) r (now (room .exit))) ⌝ }
+    ensures { λ r. ⌜ ((p : Plate) (l : Line) (m d : List ℕ) → Answers c46 p state l m d (now (room .entry)) r (now (room .exit))) ⌝ }
 {
     put_bytes3(state.counter, room);
-    accepted(state, 3)
+    accepted(Effect::Nothing, 3)
 }
 
 // 47h: from FFFFFFh the counter goes to 0 and 08h is queued.
 pub fn step_counter(state: State) -> Worked
     requires { ⌜ state .counter ≤ lastCount ⌝ }
-    ensures { λ r. ⌜ ((p : Plate) (l : Line) (m d w : List ℕ) → Answers (stepCounter p (stateWith state l) m d) state l w r w) ⌝ }
+    ensures { λ r. ⌜ ((p : Plate) (l : Line) (m d w : List ℕ) → Answers c47 p state l m d w r w) ⌝ }
 {
     if state.counter == LAST_COUNT {
-        let faults = state.faults.queued(COUNTER_OVERFLOW);
-        return accepted(state.with_counter(0).with_faults(faults), 0);
+        return accepted(Effect::Overflow, 0);
     }
-    accepted(state.with_counter(state.counter + 1), 0)
+    accepted(Effect::Counter(state.counter + 1), 0)
 }
 
 // 49h: 0Fh unless Code0.
 pub fn clear_counter(state: State, request: &[u8]) -> Worked
-    ensures { λ r. ⌜ ((p : Plate) (l : Line) (m w : List ℕ) → Answers (clearCounter p (stateWith state l) m (now (request .entry))) state l w r w) ⌝ }
+    ensures { λ r. ⌜ ((p : Plate) (l : Line) (m w : List ℕ) → Answers c49 p state l m (now (request .entry)) w r w) ⌝ }
 {
-    let Check::Passed = check_code(state, 0, wire::byte_at(request, 0)) else {
-        return refused(state, WRONG_CODE);
+    let codes = state.codes;
+    let Check::Passed = check_code(codes, 0, wire::byte_at(request, 0)) else {
+        return refused(WRONG_CODE);
     };
-    accepted(state.with_counter(0), 0)
+    accepted(Effect::Counter(0), 0)
 }
 
 // 4Fh: 0Dh if the number is over 3; 0Fh if the old code differs.
 pub fn set_code(state: State, request: &[u8], room: &mut [u8]) -> Worked
     requires { ⌜ (length (now request) ≡ 3) × (longestReply ≤ length (now room)) ⌝ }
-    ensures { λ r. ⌜ ((p : Plate) (l : Line) (m : List ℕ) → Answers (setCode p (stateWith state l) m (now (request .entry))) state l (now (room .entry)) r (now (room .exit))) ⌝ }
+    ensures { λ r. ⌜ ((p : Plate) (l : Line) (m : List ℕ) → Answers c4F p state l m (now (request .entry)) (now (room .entry)) r (now (room .exit))) ⌝ }
 {
     let number = request[0];
     let Check::Passed = check_number(number) else {
-        return refused(state, WRONG_ARGUMENT);
+        return refused(WRONG_ARGUMENT);
     };
-    let Check::Passed = check_code(state, number as usize, request[1]) else {
-        return refused(state, WRONG_CODE);
+    let codes = state.codes;
+    let Check::Passed = check_code(codes, number as usize, request[1]) else {
+        return refused(WRONG_CODE);
     };
     room[2] = number;
-    accepted(state.with_code(number as usize, request[2]), 1)
+    accepted(Effect::Code(number as usize, request[2]), 1)
 }
 
 // 50h: the oldest code, or 00h, which is then removed.
 pub fn read_fault(state: State, room: &mut [u8]) -> Worked
     requires { ⌜ longestReply ≤ length (now room) ⌝ }
-    ensures { λ r. ⌜ ((p : Plate) (l : Line) (m d : List ℕ) → Answers (readFault p (stateWith state l) m d) state l (now (room .entry)) r (now (room .exit))) ⌝ }
+    ensures { λ r. ⌜ ((p : Plate) (l : Line) (m d : List ℕ) → Answers c50 p state l m d (now (room .entry)) r (now (room .exit))) ⌝ }
 {
     let oldest = state.read();
-    let next = oldest.state;
     room[2] = oldest.code;
-    accepted(next, 1)
+    accepted(Effect::OldestRead, 1)
 }
 
 // 53h: the queue is emptied, and no reply follows (000, "Encoder Reset").
 pub fn reset(state: State) -> Worked
-    ensures { λ r. ⌜ ((p : Plate) (l : Line) (m d w : List ℕ) → Answers (reset p (stateWith state l) m d) state l w r w) ⌝ }
+    ensures { λ r. ⌜ ((p : Plate) (l : Line) (m d w : List ℕ) → Answers c53 p state l m d w r w) ⌝ }
 {
-    let faults = state.faults.emptied();
     Worked {
-        state: state.with_faults(faults),
+        effect: Effect::Emptied,
         answer: Answer::Quiet,
     }
 }

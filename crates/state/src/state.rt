@@ -6,8 +6,11 @@ ghost use lib.Dec.{ltb};
 ghost use Rattle.meaning.specs.Bytes.{longestRequest};
 ghost use Rattle.meaning.specs.State.{Plate, Line, fresh, stateOk, withCodes, withCounter, withOffset, withMeasured, none, noted, poweredOn};
 ghost use Rattle.state.specs.State.{stateWith, ReadsOut};
+ghost use Rattle.state.specs.Effects.{Placed, effectOn};
 ghost use Rattle.state.specs.Queue.{holding};
+use crate::effects::Effect;
 use crate::faults::Faults;
+use wire::codes::COUNTER_OVERFLOW;
 
 // 01, "counter at most FFFFFFh".
 pub const LAST_COUNT: u32 = 0xFFFFFF;
@@ -39,7 +42,7 @@ impl State {
         }
     }
 
-    pub(crate) fn with_code(self, number: usize, code: u8) -> State
+    fn with_code(self, number: usize, code: u8) -> State
         requires { ⌜ number < 4 ⌝ }
         ensures { λ r. ⌜ ((l : Line) → stateWith r l ≡ withCodes (stateWith self l) (set (self .codes) number code)) ⌝ }
     {
@@ -48,7 +51,7 @@ impl State {
         next
     }
 
-    pub(crate) fn with_counter(self, counter: u32) -> State
+    fn with_counter(self, counter: u32) -> State
         ensures { λ r. ⌜ ((l : Line) → stateWith r l ≡ withCounter (stateWith self l) counter) ⌝ }
     {
         let mut next = self;
@@ -56,7 +59,7 @@ impl State {
         next
     }
 
-    pub(crate) fn with_offset(self, offset: u32) -> State
+    fn with_offset(self, offset: u32) -> State
         ensures { λ r. ⌜ ((l : Line) → stateWith r l ≡ withOffset (stateWith self l) offset) ⌝ }
     {
         let mut next = self;
@@ -72,12 +75,34 @@ impl State {
         next
     }
 
-    pub(crate) fn with_faults(self, faults: Faults) -> State
+    fn with_faults(self, faults: Faults) -> State
         ensures { λ r. ⌜ ((l : Line) → stateWith r l ≡ holding (stateWith self l) faults) ⌝ }
     {
         let mut next = self;
         next.faults = faults;
         next
+    }
+
+    // What a command changes, changed; all else stays.
+    pub fn after(self, effect: Effect) -> State
+        requires { ⌜ Placed effect ⌝ }
+        ensures { λ r. ⌜ ((l : Line) → stateWith r l ≡ effectOn effect (stateWith self l)) ⌝ }
+    {
+        match effect {
+            Effect::Nothing => self,
+            Effect::Code(number, code) => self.with_code(number, code),
+            Effect::Counter(counter) => self.with_counter(counter),
+            Effect::Offset(offset) => self.with_offset(offset),
+            Effect::Overflow => {
+                let faults = self.faults.queued(COUNTER_OVERFLOW);
+                self.with_counter(0).with_faults(faults)
+            }
+            Effect::OldestRead => {
+                let oldest = self.read();
+                oldest.state
+            }
+            Effect::Emptied => self.with_faults(self.faults.emptied()),
+        }
     }
 
     // 01, "The host notes codes".

@@ -1,54 +1,66 @@
 -- `state::faults::may_precede` meets its contract. Assumes nothing.
+use mathlib.Core.Path.{sym, _∙_}
 use borrow.Author.Tests.{eq-eqb, ne-eqb}
-use Rattle.state.proofs.Places.{may-precede, precedes-none}
+use Rattle.state.proofs.Places.{precedes-none, may-precede}
 use borrow.Author.Needs.{needs}
 use Rattle.state.proofs.faults.may_precede.Statement.{statement}
 use Rattle.state.proofs.faults.may_precede.Tie as tie
-
+use Rattle.state.proofs.faults.may_precede.Reads as reads
+use Rattle.state.proofs.faults.may_precede.Lts as lts
+use Rattle.state.proofs.faults.locks.Reads as locks-reads
+use Rattle.state.proofs.faults.no_more.Reads as no-more-reads
 no-more-requires : tie.Need-no-more-requires
 no-more-requires c κs = search needs
-
 returns : tie.Need-returns
-returns c = precedes-none _ _ (eq-eqb _ _ (c .before .if1 .taken)) (c .no-more .ensures)
-
+returns c =
+    let after-if1 = c .before in
+    precedes-none _ _ (eq-eqb _ _ (after-if1 .if1 .taken)) (c .no-more .ensures)
+locks-requires : tie.Need-locks-requires
+locks-requires c κs = search needs
 returns-2 : tie.Need-returns-2
-returns-2 c = may-precede _ _ _ _ (ne-eqb _ _ (c .before .if1 .left)) (simp (eq-eqb _ _ (c .if2 .taken)))
-
+returns-2 c =
+    let after-locks = c .before in
+    let after-if1 = after-locks .before in
+    may-precede _ _ _ _ (ne-eqb _ _ (after-if1 .if1 .left)) (simp (sym (after-locks .locks .ensures) ∙ c .if2 .taken))
 returns-3 : tie.Need-returns-3
 returns-3 c =
-    let after-else1 = c .before .before in
-    may-precede _ _ _ _ (ne-eqb _ _ (after-else1 .if1 .left)) (simp (ne-eqb _ _ (c .before .if2 .left), eq-eqb _ _ (c .if3 .taken)))
-
+    let after-if2 = c .before in
+    let after-locks = after-if2 .before in
+    let after-if1 = after-locks .before in
+    may-precede _ _ _ _ (ne-eqb _ _ (after-if1 .if1 .left)) (simp (sym (after-locks .locks .ensures) ∙ after-if2 .if2 .left, eq-eqb _ _ (c .if3 .taken)))
 returns-4 : tie.Need-returns-4
 returns-4 c =
-    let after-else2 = c .before .before in
-    let after-else1 = after-else2 .before in
-    may-precede _ _ _ _ (ne-eqb _ _ (after-else1 .if1 .left)) (simp (ne-eqb _ _ (after-else2 .if2 .left), ne-eqb _ _ (c .before .if3 .left), eq-eqb _ _ (c .if4 .taken)))
-
+    let after-if3 = c .before in
+    let after-if2 = after-if3 .before in
+    let after-locks = after-if2 .before in
+    let after-if1 = after-locks .before in
+    may-precede _ _ _ _ (ne-eqb _ _ (after-if1 .if1 .left)) (simp (sym (after-locks .locks .ensures) ∙ after-if2 .if2 .left, ne-eqb _ _ (after-if3 .if3 .left), eq-eqb _ _ (c .if4 .taken)))
 returns-5 : tie.Need-returns-5
 returns-5 c =
-    let after-else3 = c .before .before in
-    let after-else2 = after-else3 .before in
-    let after-else1 = after-else2 .before in
-    may-precede _ _ _ _ (ne-eqb _ _ (after-else1 .if1 .left)) (simp (ne-eqb _ _ (after-else2 .if2 .left), ne-eqb _ _ (after-else3 .if3 .left), ne-eqb _ _ (c .before .if4 .left), eq-eqb _ _ (c .if5 .taken)))
-
+    let after-if4 = c .before in
+    let after-if3 = after-if4 .before in
+    let after-if2 = after-if3 .before in
+    let after-locks = after-if2 .before in
+    let after-if1 = after-locks .before in
+    may-precede _ _ _ _ (ne-eqb _ _ (after-if1 .if1 .left)) (simp (sym (after-locks .locks .ensures) ∙ after-if2 .if2 .left, ne-eqb _ _ (after-if3 .if3 .left), ne-eqb _ _ (after-if4 .if4 .left), eq-eqb _ _ (c .if5 .taken)))
 returns-6 : tie.Need-returns-6
 returns-6 c =
-    let after-else4 = c .before .before in
-    let after-else3 = after-else4 .before in
-    let after-else2 = after-else3 .before in
-    let after-else1 = after-else2 .before in
-    may-precede _ _ _ _ (ne-eqb _ _ (after-else1 .if1 .left)) (simp (ne-eqb _ _ (after-else2 .if2 .left), ne-eqb _ _ (after-else3 .if3 .left), ne-eqb _ _ (after-else4 .if4 .left), ne-eqb _ _ (c .before .if5 .left), eq-eqb _ _ (c .if6 .taken)))
-
-returns-7 : tie.Need-returns-7
-returns-7 c =
-    let after-else4 = c .before .before in
-    let after-else3 = after-else4 .before in
-    let after-else2 = after-else3 .before in
-    let after-else1 = after-else2 .before in
-    may-precede _ _ _ _ (ne-eqb _ _ (after-else1 .if1 .left)) (simp (ne-eqb _ _ (after-else2 .if2 .left), ne-eqb _ _ (after-else3 .if3 .left), ne-eqb _ _ (after-else4 .if4 .left), ne-eqb _ _ (c .before .if5 .left), ne-eqb _ _ (c .if6 .left)))
+    let after-if4 = c .before in
+    let after-if3 = after-if4 .before in
+    let after-if2 = after-if3 .before in
+    let after-locks = after-if2 .before in
+    let after-if1 = after-locks .before in
+    may-precede _ _ _ _ (ne-eqb _ _ (after-if1 .if1 .left)) (simp (sym (after-locks .locks .ensures) ∙ after-if2 .if2 .left, ne-eqb _ _ (after-if3 .if3 .left), ne-eqb _ _ (after-if4 .if4 .left), ne-eqb _ _ (c .if5 .left)))
 
 pub may-precede-spec : {M : Type 1} → statement M
 may-precede-spec =
     tie.close
-    (tie.spec no-more-requires returns returns-2 returns-3 returns-4 returns-5 returns-6 returns-7)
+    (tie.spec
+    no-more-requires
+    returns
+    locks-requires
+    returns-2
+    returns-3
+    returns-4
+    returns-5
+    returns-6)

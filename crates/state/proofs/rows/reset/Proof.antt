@@ -1,17 +1,12 @@
 -- `state::rows::reset` meets its contract. Assumes nothing.
+use mathlib.Core.Path.{refl}
 use Rattle.state.proofs.Ways.{quiet-53}
-use borrow.Author.Needs.{needs}
 use Rattle.state.proofs.rows.reset.Statement.{statement}
 use Rattle.state.proofs.rows.reset.Tie as tie
-
-emptied-requires : tie.Need-emptied-requires
-emptied-requires c κs = search needs
-
-with-faults-requires : tie.Need-with-faults-requires
-with-faults-requires c κs = search needs
-
+use Rattle.state.proofs.rows.reset.Reads as reads
+use Rattle.state.proofs.rows.reset.Lts as lts
 returns : tie.Need-returns
-returns c = λ p l m d w. quiet-53 p _ l m d w (c .before .emptied .result) (c .before .emptied .ensures) (c .with-faults .ensures l)
+returns c = λ p l m d w. quiet-53 p _ l m d w refl
 
 pub reset-spec : {M : Type 1} → statement M
-reset-spec = tie.close (tie.spec emptied-requires with-faults-requires returns)
+reset-spec = tie.close (tie.spec returns)

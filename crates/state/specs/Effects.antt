@@ -1,0 +1,53 @@
+-- What a command changes in the state, and what the state is then (01, "The commands"). Assumes nothing.
+use Prim.Native.Nat.{ℕ, _+_, _<_}
+use mathlib.Core.List.{List, []}
+use lib.Dec.{eqb}
+use lib.ListN.{set, drop, take}
+use Rattle.meaning.specs.Bytes.{pick, arg, number}
+use Rattle.meaning.specs.State.{Plate, State, lastCount, queued, offsetFor, withCodes, withCounter, withOffset, withQueue}
+use Rattle.meaning.specs.Commands.{Command, Answer, refuse, accept, quiet, c42, c43, c46, c47, c49, c4A, c4B, c4C, c4D, c4E, c4F, c50, c53, unknown}
+use Rattle.state.specs.declared.effects.Effect.{Effect}
+use Rattle.state.specs.declared.effects.Effect.the-variants.{Nothing, Code, Counter, Offset, Overflow, OldestRead, Emptied}
+
+-- the codes are four
+abbrev pub Placed : Effect → Type 0
+Placed Nothing = Unit
+Placed (Code n c) = n < 4
+Placed (Counter n) = Unit
+Placed (Offset n) = Unit
+Placed Overflow = Unit
+Placed OldestRead = Unit
+Placed Emptied = Unit
+
+-- the state after it; all else stays
+unfoldable pub effectOn : Effect → State → State
+effectOn Nothing s = s
+effectOn (Code n c) s = withCodes s (set (s .codes) n c)
+effectOn (Counter n) s = withCounter s n
+effectOn (Offset n) s = withOffset s n
+effectOn Overflow s = withQueue (withCounter s 0) (queued (s .queue) 0x08)
+effectOn OldestRead s = withQueue s (drop 1 (s .queue))
+effectOn Emptied s = withQueue s []
+
+-- the rows that change the state, where they are not refused
+unfoldable pub rowEffect : Command → Plate → State → List ℕ → Effect
+rowEffect c42 p s d = Nothing
+rowEffect c43 p s d = Offset (offsetFor p s (number (take 4 d) 0))
+rowEffect c46 p s d = Nothing
+rowEffect c47 p s d = pick (eqb (s .counter) lastCount) Overflow (Counter (s .counter + 1))
+rowEffect c49 p s d = Counter 0
+rowEffect c4A p s d = Nothing
+rowEffect c4B p s d = Nothing
+rowEffect c4C p s d = Nothing
+rowEffect c4D p s d = Nothing
+rowEffect c4E p s d = Nothing
+rowEffect c4F p s d = Code (arg d 0) (arg d 2)
+rowEffect c50 p s d = OldestRead
+rowEffect c53 p s d = Emptied
+rowEffect unknown p s d = Nothing
+
+-- 01, "An error reply .. changes nothing else"
+abbrev pub granted : Answer → Effect → Effect
+granted (refuse c) e = Nothing
+granted (accept d s m) e = e
+granted (quiet s m) e = e
