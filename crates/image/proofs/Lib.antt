@@ -3,5 +3,6 @@ pub mod Standing
 mod Flags
 pub mod Parts
 pub mod Round
+pub mod Placing
 mod Going
 pub mod Tight

@@ -55,6 +55,20 @@ pub fn is_core(core: &[u8]) -> bool
     true
 }
 
+// The waiting codes and the lock.
+pub fn faults_in(core: &[u8]) -> Faults
+    requires { ⌜ coreLength ≤ length (now core) ⌝ }
+    ensures { λ r. ⌜ r ≡ stateIn (now (core .entry)) .faults ⌝ }
+{
+    Faults {
+        first: core[WAITING],
+        second: core[WAITING + 1],
+        third: core[WAITING + 2],
+        fourth: core[WAITING + 3],
+        locked: is_one(core[LOCKED]),
+    }
+}
+
 pub fn state_in(core: &[u8]) -> State
     requires { ⌜ coreLength ≤ length (now core) ⌝ }
     ensures { λ r. ⌜ r ≡ stateIn (now (core .entry)) ⌝ }
@@ -65,13 +79,7 @@ pub fn state_in(core: &[u8]) -> State
         core[CODES + 2],
         core[CODES + 3],
     ];
-    let faults = Faults {
-        first: core[WAITING],
-        second: core[WAITING + 1],
-        third: core[WAITING + 2],
-        fourth: core[WAITING + 3],
-        locked: is_one(core[LOCKED]),
-    };
+    let faults = faults_in(core);
     State {
         codes: codes,
         counter: wire::number_at(core, COUNTER),

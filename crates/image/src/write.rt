@@ -9,17 +9,26 @@ ghost use Rattle.meaning.specs.State.{Line, none};
 ghost use Rattle.meaning.specs.Characters.{more};
 ghost use Rattle.line.specs.Line.{lineOf};
 ghost use Rattle.state.specs.State.{stateWith};
+ghost use Rattle.state.specs.Effects.{Placed};
 ghost use Rattle.wire.specs.Numbers.{low4};
-ghost use Rattle.image.specs.Image.{frameAt, parityAt, keptAt, coreLength, flagByte, isCore, frameIn, keptIn, stateBytes, frameRow, Open, PutsState, PutsFrame, PutsBoard, Takes};
+ghost use Rattle.image.specs.Image.{frameAt, parityAt, keptAt, coreLength, flagByte, isCore, stateIn, frameIn, keptIn, stateBytes, frameRow, measuredSet, faultsSet, counterSet, offsetSet, HoldsState, Open, PutsState, PutsEffect, PutsFrame, PutsBoard, Takes};
 use crate::layout::CORE_LENGTH;
 use crate::layout::COUNT;
+use crate::layout::COUNTER;
 use crate::layout::FRAME;
 use crate::layout::KEPT;
 use crate::layout::LONGER;
+use crate::layout::MEASURED;
+use crate::layout::OFFSET;
 use crate::layout::PARITY;
 use crate::layout::SUM;
+use crate::layout::WAITING;
+use crate::read::faults_in;
 use line::OpenFrame;
+use state::Effect;
+use state::Faults;
 use state::State;
+use wire::codes::COUNTER_OVERFLOW;
 use wire::codes::LONGEST_REQUEST;
 
 fn flag_byte(on: bool) -> u8
@@ -90,6 +99,77 @@ pub fn put_state(state: State, core: &mut [u8])
     let faults = state.faults;
     let row = state_row(state, flag_byte(faults.locked));
     wire::fill(&row, core);
+}
+
+fn put_number(number: u32, place: &mut [u8])
+    requires { ⌜ length (now place) ≡ 4 ⌝ }
+    ensures { λ _. ⌜ now (place .exit) ≡ put (now (place .entry)) 0 (low4 number []) ⌝ }
+{
+    let bytes = wire::bytes_of(number);
+    wire::fill(&bytes, place);
+}
+
+pub fn put_measured(measured: u32, core: &mut [u8])
+    requires { ⌜ HoldsState (now core) ⌝ }
+    ensures { λ _. ⌜ PutsState (measuredSet (stateIn (now (core .entry))) measured) (now (core .entry)) (now (core .exit)) ⌝ }
+{
+    put_number(measured, &mut core[MEASURED..WAITING]);
+}
+
+// The waiting codes and the lock.
+pub fn put_faults(faults: Faults, core: &mut [u8])
+    requires { ⌜ HoldsState (now core) ⌝ }
+    ensures { λ _. ⌜ PutsState (faultsSet (stateIn (now (core .entry))) faults) (now (core .entry)) (now (core .exit)) ⌝ }
+{
+    let locked = flag_byte(faults.locked);
+    let row = [
+        faults.first,
+        faults.second,
+        faults.third,
+        faults.fourth,
+        locked,
+    ];
+    wire::fill(&row, &mut core[WAITING..FRAME]);
+}
+
+fn put_counter(counter: u32, core: &mut [u8])
+    requires { ⌜ HoldsState (now core) ⌝ }
+    ensures { λ _. ⌜ PutsState (counterSet (stateIn (now (core .entry))) counter) (now (core .entry)) (now (core .exit)) ⌝ }
+{
+    put_number(counter, &mut core[COUNTER..OFFSET]);
+}
+
+fn put_offset(offset: u32, core: &mut [u8])
+    requires { ⌜ HoldsState (now core) ⌝ }
+    ensures { λ _. ⌜ PutsState (offsetSet (stateIn (now (core .entry))) offset) (now (core .entry)) (now (core .exit)) ⌝ }
+{
+    put_number(offset, &mut core[OFFSET..MEASURED]);
+}
+
+// What a command changes, in place: nothing is written that does not change.
+pub fn put_effect(effect: Effect, core: &mut [u8])
+    requires { ⌜ Placed effect ⌝ }
+    requires { ⌜ HoldsState (now core) ⌝ }
+    ensures { λ _. ⌜ PutsEffect effect (now (core .entry)) (now (core .exit)) ⌝ }
+{
+    match effect {
+        Effect::Nothing => {}
+        Effect::Code(number, code) => {
+            core[number] = code;
+        }
+        Effect::Counter(counter) => put_counter(counter, core),
+        Effect::Offset(offset) => put_offset(offset, core),
+        Effect::Overflow => {
+            let faults = faults_in(core).queued(COUNTER_OVERFLOW);
+            put_counter(0, core);
+            put_faults(faults, core);
+        }
+        Effect::OldestRead => {
+            let oldest = faults_in(core).read();
+            put_faults(oldest.faults, core);
+        }
+        Effect::Emptied => put_faults(faults_in(core).emptied(), core),
+    }
 }
 
 pub fn put_frame(frame: OpenFrame, core: &mut [u8])

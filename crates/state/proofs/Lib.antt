@@ -3,5 +3,5 @@ pub mod Places
 pub mod States
 mod Turns
 pub mod Answering
-mod Ways
+pub mod Ways
 pub mod Same

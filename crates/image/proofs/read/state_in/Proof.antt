@@ -5,73 +5,37 @@ use Rattle.image.proofs.read.state_in.Statement.{statement}
 use Rattle.image.proofs.read.state_in.Tie as tie
 use Rattle.image.proofs.read.state_in.Reads as reads
 use Rattle.image.proofs.read.state_in.Lts as lts
-use Rattle.image.proofs.read.is_one.Reads as is-one-reads
+use Rattle.image.proofs.read.faults_in.Reads as faults-in-reads
 use Rattle.wire.proofs.number_at.Reads as number-at-reads
-
 shared-slice-read-t5 : tie.Need-shared-slice-read-t5
 shared-slice-read-t5 c = search needs
-
 add-t6 : tie.Need-add-t6
 add-t6 c = search needs
-
 shared-slice-read-t8 : tie.Need-shared-slice-read-t8
 shared-slice-read-t8 c = search needs
-
 add-t9 : tie.Need-add-t9
 add-t9 c = search needs
-
 shared-slice-read-t11 : tie.Need-shared-slice-read-t11
 shared-slice-read-t11 c = search needs
-
 add-t12 : tie.Need-add-t12
 add-t12 c = search needs
-
 shared-slice-read-t14 : tie.Need-shared-slice-read-t14
 shared-slice-read-t14 c = search needs
-
-shared-slice-read-t5-2 : tie.Need-shared-slice-read-t5-2
-shared-slice-read-t5-2 c = search needs
-
-add-t6-2 : tie.Need-add-t6-2
-add-t6-2 c = search needs
-
-shared-slice-read-t14-2 : tie.Need-shared-slice-read-t14-2
-shared-slice-read-t14-2 c = search needs
-
-add-t12-2 : tie.Need-add-t12-2
-add-t12-2 c = search needs
-
-shared-slice-read-t11-2 : tie.Need-shared-slice-read-t11-2
-shared-slice-read-t11-2 c = search needs
-
-add-t9-2 : tie.Need-add-t9-2
-add-t9-2 c = search needs
-
-shared-slice-read-t8-2 : tie.Need-shared-slice-read-t8-2
-shared-slice-read-t8-2 c = search needs
-
-shared-slice-read-is-one : tie.Need-shared-slice-read-is-one
-shared-slice-read-is-one c = search needs
-
-is-one-requires : tie.Need-is-one-requires
-is-one-requires c κs = search needs
-
+faults-in-requires : tie.Need-faults-in-requires
+faults-in-requires c κs = search needs
 number-at-requires : tie.Need-number-at-requires
 number-at-requires c κs = search needs
-
 number-at-requires-2 : tie.Need-number-at-requires-2
 number-at-requires-2 c κs = search needs
-
 number-at-requires-3 : tie.Need-number-at-requires-3
 number-at-requires-3 c κs = search needs
-
 returns : tie.Need-returns
 unfolding stateIn
 returns c =
-    let after-number-at = c .before .before in
-    let after-is-one = after-number-at .before in
-    rw (after-is-one .is-one .ensures, after-number-at .number-at .ensures, c .before .number-at2 .ensures, c .number-at3 .ensures)
-
+    let after-number-at2 = c .before in
+    let after-number-at = after-number-at2 .before in
+    let after-faults-in = after-number-at .before in
+    rw (after-faults-in .faults-in .ensures, after-number-at .number-at .ensures, after-number-at2 .number-at2 .ensures, c .number-at3 .ensures)
 pub state-in-spec : {M : Type 1} → statement M
 state-in-spec =
     tie.close
@@ -83,15 +47,7 @@ state-in-spec =
     shared-slice-read-t11
     add-t12
     shared-slice-read-t14
-    shared-slice-read-t5-2
-    add-t6-2
-    shared-slice-read-t14-2
-    add-t12-2
-    shared-slice-read-t11-2
-    add-t9-2
-    shared-slice-read-t8-2
-    shared-slice-read-is-one
-    is-one-requires
+    faults-in-requires
     number-at-requires
     number-at-requires-2
     number-at-requires-3

@@ -1,0 +1,167 @@
+-- One part of a state written where it stands in a core: the rest of the state is as it was. Assumes nothing.
+use Prim.Native.Nat.{ℕ, zero, suc, _+_, _<_, _≤_, _^_}
+use native.Mathlib.Omega.{arith}
+use native.Mathlib.Nat.{zero-add}
+use mathlib.Core.Path.{_≡_, refl, sym, ap, _∙_}
+use mathlib.Core.Bool.{Bool, true, false}
+use mathlib.Core.List.{List, [], _∷_, _++_, append-assoc}
+use lib.ListN.{length, take, drop, set, take-append-drop}
+use lib.Seq.{take-take, drop-append-le, length-take-le}
+use Rattle.meaning.specs.Bytes.{arg, part, put, little}
+use Rattle.meaning.specs.State.{Line, none, queued, withCodes, withCounter, withOffset, withQueue, withLock}
+use Rattle.meaning.proofs.Puts.{length-put, put-one}
+use Rattle.wire.specs.Numbers.{low4}
+use Rattle.wire.proofs.Numbers.{little-at}
+use Rattle.state.specs.declared.faults.Faults.{Faults}
+use Rattle.state.specs.declared.faults.Oldest.{Oldest}
+use Rattle.state.specs.declared.state.State.{State}
+use Rattle.state.specs.declared.effects.Effect.{Effect}
+use Rattle.state.specs.declared.effects.Effect.the-variants.{Nothing, Code, Counter, Offset, Overflow, OldestRead, Emptied}
+use Rattle.state.specs.Queue.{queueOf, holding, Queues, Reads}
+use Rattle.state.specs.State.{stateWith}
+use Rattle.state.specs.Effects.{effectOn}
+use Rattle.state.proofs.Ways.{with-one-code, counts, turns, overflows, moves-up, empties, read-out, stays-so}
+use Rattle.image.specs.Image.{flagByte, stateIn, stateBytes, HoldsState, measuredSet, faultsSet, codeSet, counterSet, offsetSet, PutsState, PutsEffect}
+use Rattle.image.proofs.Standing.{places, Typed, puts-state, part-filled}
+use Rattle.image.proofs.Parts.{state-as-it-was, state-length}
+
+-- bytes put inside the front of a list
+front-put : (core : List ℕ) (i : ℕ) (ys : List ℕ) → 21 ≤ length core → i + length ys ≤ 21 → put core 0 (put (take 21 core) i ys) ≡ put core i ys
+unfolding put
+front-put core i ys h k =
+    let f : List ℕ = take 21 core in
+    let n : ℕ = i + length ys in
+    let a : length f ≡ 21 = length-take-le 21 core h in
+    let z : length (take i f ++ (ys ++ drop n f)) ≡ 21 = length-put f i ys (omega arith) ∙ a in
+    let t : take i f ≡ take i core = take-take i 21 core (omega arith) in
+    let d : drop n core ≡ drop n f ++ drop 21 core = ap (drop n) (sym (take-append-drop 21 core)) ∙ drop-append-le n f (drop 21 core) (omega arith) in
+    rw (z, zero-add, d, ← t) (append-assoc (take i f) (ys ++ drop n f) (drop 21 core) ∙ ap (λ (x : List ℕ). take i f ++ x) (append-assoc ys (drop n f) (drop 21 core)))
+
+pub number-fits : (core : List ℕ) → ((i : ℕ) → arg core i < 256) → (i : ℕ) → little (part core i 4) < 2 ^ 32
+unfolding little
+number-fits core small i = rw (little-at core i) (omega (arith, small i, small (i + 1), small (i + 2), small (i + 3)))
+
+-- a state t that is the core's but for the bytes ys at place i
+module _ (core : List ℕ) (h : HoldsState core) (small : (i : ℕ) → arg core i < 256) where
+  placed : (t : State) (i : ℕ) (ys : List ℕ) {core′ : List ℕ} → Typed t → i + length ys ≤ 21
+      → ((l : Line) → put (stateBytes (stateWith (stateIn core) l)) i ys ≡ stateBytes (stateWith t l)) → core′ ≡ put core i ys → PutsState t core core′
+  placed t i ys g k q e =
+      puts-state t core g (λ l. ap (λ (x : List ℕ). put x i ys) (sym (state-as-it-was core (h .all) small (h .lock) l)) ∙ q l) (e ∙ sym (front-put core i ys (omega (arith, h .all)) k))
+
+  abbrev s : State
+  s = stateIn core
+
+  pub with-measured : (n : ℕ) {place : List ℕ} → n < 2 ^ 32 → place ≡ put (take 4 (drop 12 core)) 0 (low4 n [])
+      → PutsState (measuredSet s n) core (take 12 core ++ (place ++ drop 4 (drop 12 core)))
+  unfolding stateBytes stateIn put
+  with-measured n low e =
+      placed (measuredSet s n) 12 (low4 n []) (record { codes = refl; counter = number-fits core small 4; offset = number-fits core small 8; measured = low }) (omega arith) (λ l. refl)
+      (part-filled core 12 4 (low4 n []) (omega (arith, h .all)) refl e)
+
+  pub with-counter : (n : ℕ) {place : List ℕ} → n < 2 ^ 32 → place ≡ put (take 4 (drop 4 core)) 0 (low4 n [])
+      → PutsState (counterSet s n) core (take 4 core ++ (place ++ drop 4 (drop 4 core)))
+  unfolding stateBytes stateIn put
+  with-counter n low e =
+      placed (counterSet s n) 4 (low4 n []) (record { codes = refl; counter = low; offset = number-fits core small 8; measured = number-fits core small 12 }) (omega arith) (λ l. refl)
+      (part-filled core 4 4 (low4 n []) (omega (arith, h .all)) refl e)
+
+  pub with-offset : (n : ℕ) {place : List ℕ} → n < 2 ^ 32 → place ≡ put (take 4 (drop 8 core)) 0 (low4 n [])
+      → PutsState (offsetSet s n) core (take 8 core ++ (place ++ drop 4 (drop 8 core)))
+  unfolding stateBytes stateIn put
+  with-offset n low e =
+      placed (offsetSet s n) 8 (low4 n []) (record { codes = refl; counter = number-fits core small 4; offset = low; measured = number-fits core small 12 }) (omega arith) (λ l. refl)
+      (part-filled core 8 4 (low4 n []) (omega (arith, h .all)) refl e)
+
+  pub with-faults : (f : Faults) {b : ℕ} {place : List ℕ} → b ≡ flagByte (f .locked)
+      → place ≡ put (take 5 (drop 16 core)) 0 (f .first ∷ f .second ∷ f .third ∷ f .fourth ∷ b ∷ [])
+      → PutsState (faultsSet s f) core (take 16 core ++ (place ++ drop 5 (drop 16 core)))
+  unfolding stateBytes stateIn put
+  with-faults f {b} x e =
+      let row : List ℕ = f .first ∷ f .second ∷ f .third ∷ f .fourth ∷ b ∷ [] in
+      let q = places f in
+      placed (faultsSet s f) 16 row (record { codes = refl; counter = number-fits core small 4; offset = number-fits core small 8; measured = number-fits core small 12 }) (omega arith)
+      (λ l. rw (q .first, q .second, q .third, q .fourth, x)) (part-filled core 16 5 row (omega (arith, h .all)) refl e)
+
+  pub with-code : (n c : ℕ) → n < 4 → PutsState (codeSet s n c) core (set core n c)
+  unfolding stateBytes stateIn put
+  with-code n c k =
+      placed (codeSet s n c) n (c ∷ []) (typed n) (omega arith) (λ l. go l n k) (put-one core n c (omega (arith, h .all)))
+    where
+      typed : (n : ℕ) → Typed (codeSet s n c)
+      typed n = record { codes = four n; counter = number-fits core small 4; offset = number-fits core small 8; measured = number-fits core small 12 }
+        where
+          four : (n : ℕ) → length (set (stateIn core .codes) n c) ≡ 4
+          four zero = refl
+          four (suc zero) = refl
+          four (suc (suc zero)) = refl
+          four (suc (suc (suc zero))) = refl
+          four (suc (suc (suc (suc n)))) = refl
+      go : (l : Line) (n : ℕ) → n < 4 → put (stateBytes (stateWith (stateIn core) l)) n (c ∷ []) ≡ stateBytes (stateWith (codeSet (stateIn core) n c) l)
+      go l zero k = refl
+      go l (suc zero) k = refl
+      go l (suc (suc zero)) k = refl
+      go l (suc (suc (suc zero))) k = refl
+      go l (suc (suc (suc (suc n)))) k = absurd (omega arith)
+
+-- one part after the other
+flag-low : (b : Bool) → flagByte b ≤ 1
+unfolding flagByte
+flag-low true = omega arith
+flag-low false = omega arith
+
+pub still-holds : (t : State) {core core′ : List ℕ} → HoldsState core → PutsState t core core′ → HoldsState core′
+unfolding stateBytes put
+still-holds t {core} {core′} h p =
+    record {
+      all = ap length (p .bytes none) ∙ length-put core 0 (stateBytes (stateWith t none)) (omega (arith, h .all, state-length t none)) ∙ h .all;
+      lock = rw (p .bytes none) (flag-low (t .faults .locked));
+    }
+
+pub one-then-other : (t u : State) {core mid core′ : List ℕ} → PutsState t core mid → PutsState u mid core′ → PutsState u core core′
+unfolding stateBytes put
+one-then-other t u p q = record { bytes = λ l. q .bytes l ∙ rw (p .bytes l); holds = q .holds }
+
+-- ---- what a command changes
+module _ {x : Effect} {core core′ : List ℕ} where
+  puts-effect : (t : State) → PutsState t core core′ → ((l : Line) → stateWith t l ≡ effectOn x (stateWith (stateIn core) l)) → PutsEffect x core core′
+  puts-effect t p e = record { holds = λ l. ap (λ (z : State). stateWith z l) (p .holds) ∙ e l; bytes = rw (p .holds) p }
+
+  pub put-code : {n c : ℕ} → x ≡ Code n c → PutsState (codeSet (stateIn core) n c) core core′ → PutsEffect x core core′
+  unfolding withCodes
+  put-code {n} {c} e p = puts-effect (codeSet (stateIn core) n c) p (λ l. with-one-code (stateIn core) l e refl)
+
+  pub put-counter : {n : ℕ} → x ≡ Counter n → PutsState (counterSet (stateIn core) n) core core′ → PutsEffect x core core′
+  unfolding withCounter
+  put-counter {n} e p = puts-effect (counterSet (stateIn core) n) p (λ l. counts (stateIn core) l e refl)
+
+  pub put-offset : {n : ℕ} → x ≡ Offset n → PutsState (offsetSet (stateIn core) n) core core′ → PutsEffect x core core′
+  unfolding withOffset
+  put-offset {n} e p = puts-effect (offsetSet (stateIn core) n) p (λ l. turns (stateIn core) l e refl)
+
+  module _ {f : Faults} (same : f ≡ stateIn core .faults) where
+    pub put-oldest : {o : Oldest} → x ≡ OldestRead → Reads f o → PutsState (faultsSet (stateIn core) (o .faults)) core core′ → PutsEffect x core core′
+    unfolding holding withQueue withLock
+    put-oldest {o} e r p =
+        let t : State = faultsSet (stateIn core) (o .faults) in
+        puts-effect t p (λ l. moves-up (stateIn core) l e (read-out (stateIn core) l t o (rw same at r) refl))
+
+    pub put-emptied : {g : Faults} → x ≡ Emptied → Queues f [] g → PutsState (faultsSet (stateIn core) g) core core′ → PutsEffect x core core′
+    unfolding holding withQueue withLock
+    put-emptied {g} e r p = puts-effect (faultsSet (stateIn core) g) p (λ l. empties (stateIn core) l g e (rw same at r) refl)
+
+    pub put-overflow : {g : Faults} {mid : List ℕ} → x ≡ Overflow → Queues f (queued (queueOf f) 0x08) g → PutsState (counterSet (stateIn core) 0) core mid
+        → PutsState (faultsSet (stateIn mid) g) mid core′ → PutsEffect x core core′
+    unfolding holding withQueue withLock withCounter
+    put-overflow {g} e r p q =
+        let u : State = counterSet (stateIn core) 0 in
+        let t : State = faultsSet u g in
+        let z : PutsState t core core′ = one-then-other u t p (rw (p .holds) at q) in
+        puts-effect t z (λ l. overflows (stateIn core) l (stateWith u l) g e (rw same at r) refl refl)
+
+-- nothing is written
+pub put-nothing : {x : Effect} (core : List ℕ) → x ≡ Nothing → HoldsState core → ((i : ℕ) → arg core i < 256) → PutsEffect x core core
+unfolding put
+put-nothing core e h small =
+    let b : (l : Line) → core ≡ put core 0 (stateBytes (stateWith (stateIn core) l)) = λ l.
+    rw (state-as-it-was core (h .all) small (h .lock) l, length-take-le 21 core (omega (arith, h .all))) (sym (take-append-drop 21 core)) in
+    record { holds = λ l. stays-so (stateIn core) l e; bytes = record { bytes = b; holds = refl } }
