@@ -11,7 +11,7 @@ use Rattle.meaning.specs.Bytes.{pick, both}
 use Rattle.meaning.specs.State as meaning
 use Rattle.meaning.specs.State.{none}
 use Rattle.meaning.specs.Commands as commands
-use Rattle.meaning.specs.Commands.{Command, c43, c49, c4A, c4B, c4C, c4D, c4F, c53, unknown, commandOf, asked, row, lengthFits, error, choose, onField}
+use Rattle.meaning.specs.Commands.{Command, c42, c43, c46, c47, c49, c4A, c4B, c4C, c4D, c4F, c50, c53, unknown, commandOf, asked, row, lengthFits, error, choose, onField}
 use Rattle.meaning.specs.Commands.{readPosition, setPosition, readCounter, stepCounter, clearCounter, readField, storeField, fieldStatus, create, modify, delete, shapeField, memoryStatus, setCode, readFault, reset, worked}
 use Rattle.meaning.proofs.Choices.{both-left, both-right}
 use Rattle.wire.specs.declared.answer.Answer.{Answer}
@@ -102,6 +102,11 @@ module _ (m : List ℕ) where
   keeps e true a h = refl
   keeps e false a h = h
 
+  either-keeps : (t : Bool) (a b : commands.Answer) → memoryAfter a m ≡ m → memoryAfter b m ≡ m → memoryAfter (choose t a b) m ≡ m
+  unfolding choose
+  either-keeps true a b h k = h
+  either-keeps false a b h k = k
+
 module _ (s : meaning.State) where
   stays : (e : ℕ) (t : Bool) (a : commands.Answer) → stateAfter a s ≡ s → stateAfter (error e t a) s ≡ s
   unfolding error
@@ -114,39 +119,35 @@ module _ (s : meaning.State) where
   chosen false a b h k = k
 
 module _ (p : meaning.Plate) (s : State) {c : ℕ} (d m w : List ℕ) {r : Worked} {w′ : List ℕ} where
-  pub told-42 : c ≡ 0x42 → Answers (readPosition p (stateWith s none) m d) s none w r w′ → Tells (worked (commandOf c) p (stateWith s none) m d) (stateWith s none) m w (r .answer) m w′
+  pub told-42 : c ≡ 0x42 → Answers c42 p s none m d w r w′ → Tells (worked (commandOf c) p (stateWith s none) m d) (stateWith s none) m w (r .answer) m w′
   unfolding commandOf worked readPosition
   told-42 e h = rw e (record { works = record { answer = h .answer; memory = sym (keeps m _ _ _ refl); room = h .room }; state = stays (stateWith s none) _ _ _ refl })
 
-  pub told-46 : c ≡ 0x46 → Answers (readCounter p (stateWith s none) m d) s none w r w′ → Tells (worked (commandOf c) p (stateWith s none) m d) (stateWith s none) m w (r .answer) m w′
+  pub told-46 : c ≡ 0x46 → Answers c46 p s none m d w r w′ → Tells (worked (commandOf c) p (stateWith s none) m d) (stateWith s none) m w (r .answer) m w′
   unfolding commandOf worked readCounter
   told-46 e h = rw e (record { works = record { answer = h .answer; memory = refl; room = h .room }; state = refl })
 
-  pub row-43 : c ≡ 0x43 → Answers (setPosition p (stateWith s none) m d) s none w r w′ → WorksOn (worked (commandOf c) p (stateWith s none) m d) s m w r m w′
+  pub row-43 : c ≡ 0x43 → Answers c43 p s none m d w r w′ → WorksOn (commandOf c) p s d m w r m w′
   unfolding commandOf worked setPosition
   row-43 e h = rw e (record { row = h; memory = sym (keeps m _ _ _ (keeps m _ _ _ (keeps m _ _ _ refl))) })
 
-  pub row-47 : c ≡ 0x47 → Answers (stepCounter p (stateWith s none) m d) s none w r w′ → WorksOn (worked (commandOf c) p (stateWith s none) m d) s m w r m w′
-  unfolding commandOf worked stepCounter choose
-  row-47 e h = rw e (record { row = h; memory = go (eqb (s .counter) 0xFFFFFF) })
-    where
-      go : (t : Bool) → m ≡ memoryAfter (choose t (commands.accept [] (meaning.withQueue (meaning.withCounter (stateWith s none) 0) (meaning.queued ((stateWith s none) .queue) 0x08)) m) (commands.accept [] (meaning.withCounter (stateWith s none) (Prim.Native.Nat._+_ (s .counter) 1)) m)) m
-      go true = refl
-      go false = refl
+  pub row-47 : c ≡ 0x47 → Answers c47 p s none m d w r w′ → WorksOn (commandOf c) p s d m w r m w′
+  unfolding commandOf worked stepCounter
+  row-47 e h = rw e (record { row = h; memory = sym (either-keeps m _ _ _ refl refl) })
 
-  pub row-49 : c ≡ 0x49 → Answers (clearCounter p (stateWith s none) m d) s none w r w′ → WorksOn (worked (commandOf c) p (stateWith s none) m d) s m w r m w′
+  pub row-49 : c ≡ 0x49 → Answers c49 p s none m d w r w′ → WorksOn (commandOf c) p s d m w r m w′
   unfolding commandOf worked clearCounter
   row-49 e h = rw e (record { row = h; memory = sym (keeps m _ _ _ refl) })
 
-  pub row-4F : c ≡ 0x4F → Answers (setCode p (stateWith s none) m d) s none w r w′ → WorksOn (worked (commandOf c) p (stateWith s none) m d) s m w r m w′
+  pub row-4F : c ≡ 0x4F → Answers c4F p s none m d w r w′ → WorksOn (commandOf c) p s d m w r m w′
   unfolding commandOf worked setCode
   row-4F e h = rw e (record { row = h; memory = sym (keeps m _ _ _ (keeps m _ _ _ refl)) })
 
-  pub row-50 : c ≡ 0x50 → Answers (readFault p (stateWith s none) m d) s none w r w′ → WorksOn (worked (commandOf c) p (stateWith s none) m d) s m w r m w′
+  pub row-50 : c ≡ 0x50 → Answers c50 p s none m d w r w′ → WorksOn (commandOf c) p s d m w r m w′
   unfolding commandOf worked readFault
   row-50 e h = rw e (record { row = h; memory = refl })
 
-  pub row-53 : c ≡ 0x53 → Answers (reset p (stateWith s none) m d) s none w r w′ → WorksOn (worked (commandOf c) p (stateWith s none) m d) s m w r m w′
+  pub row-53 : c ≡ 0x53 → Answers c53 p s none m d w r w′ → WorksOn (commandOf c) p s d m w r m w′
   unfolding commandOf worked reset
   row-53 e h = rw e (record { row = h; memory = refl })
 
@@ -176,7 +177,3 @@ module _ (p : meaning.Plate) (s : meaning.State) {c : ℕ} (d m w : List ℕ) {r
   pub row-4E : c ≡ 0x4E → Works (memoryStatus p s m d) m w r m′ w′ → Tells (worked (commandOf c) p s m d) s m w r m′ w′
   unfolding commandOf worked memoryStatus
   row-4E e h = rw e (record { works = h; state = stays s _ _ _ refl })
-
-pub as-worked : (a : commands.Answer) (s : State) (m w : List ℕ) {r : Answer} {m′ w′ : List ℕ} → Tells a (stateWith s none) m w r m′ w′
-    → WorksOn a s m w (record { state = s; answer = r }) m′ w′
-as-worked a s m w h = record { row = record { answer = h .works .answer; state = sym (h .state); room = h .works .room }; memory = h .works .memory }

@@ -31,11 +31,13 @@ use Rattle.line.proofs.Judging.{ends-as-judged, request-fits, some-fault, askin
 use Rattle.line.proofs.Limits.{low-address}
 use Rattle.state.specs.declared.state.State.{State}
 use Rattle.state.specs.declared.rows.Worked.{Worked}
+use Rattle.state.specs.declared.effects.Effect.{Effect}
+use Rattle.state.specs.Effects.{effectOn}
 use Rattle.board.specs.declared.closing.Closed.{Closed}
 use Rattle.state.specs.State.{stateWith}
 use Rattle.state.proofs.Answering.{put-nothing}
 use Rattle.state.proofs.Same.{same-state}
-use Rattle.board.specs.Work.{Ready, Workable, WorksOn, replyOf, Brief, Answerable, Sendable, Sends, faultReply, Refused, Serves, Closes}
+use Rattle.board.specs.Work.{Ready, Workable, WorksOn, Tells, replyOf, Brief, Answerable, Sendable, Sends, faultReply, Refused, Serves, Closes}
 use Rattle.board.proofs.Sending.{part-length, sealed-length}
 
 pub unknown-never : (d : List ℕ) → asked unknown d ≡ false
@@ -120,14 +122,25 @@ module _ (p : meaning.Plate) (s : State) (f : OpenFrame) (k m w : List ℕ) {own
       let b : commandByte (take (f .len) k) ≡ c = (request-fits own (frameOf f (take (f .len) k)) e) .byte in
       record { state = rw (worked-as e, b) (y .state); sent = rw (worked-as e, b) (y .sent); memory = rw (worked-as e, b) (y .memory); room = rw (worked-as e, b) (y .room) }
 
--- a request, worked and answered
-pub served : (p : meaning.Plate) (s : State) (c : ℕ) (d m w : List ℕ) {r : Worked} {n : ℕ} {m′ v w′ : List ℕ} → longestReply ≤ length w
-    → WorksOn (worked (commandOf c) p (stateWith s none) m d) s m w r m′ v → Sends p (r .state) c (r .answer) v n w′ → Serves p s c d m w (r .state) n m′ w′
-served p s c d m w {r} {n} {m′} {v} {w′} wide x h =
-    let q : meaning.State = stateWith s none in
-    let y : Left p q c m w (worked (commandOf c) p q m d) (r .state) n m′ w′ =
-    left p q c m w (worked (commandOf c) p q m d) (r .state) (r .answer) (limits.brief p q m d (commandOf c)) wide (x .row .answer) (x .row .state) (x .memory) (x .row .room) h in
-    record { state = y .state; sent = y .sent; memory = y .memory; room = y .room }
+-- a request, worked and answered: x is what it came to, v the room with its data, t the state after it
+module _ (p : meaning.Plate) (s : State) (c : ℕ) (d m w : List ℕ) where
+  abbrev a : commands.Answer
+  a = worked (commandOf c) p (stateWith s none) m d
+
+  module _ {x : Answer} {n : ℕ} {m′ v w′ : List ℕ} (wide : longestReply ≤ length w) where
+    answered : (t : State) → x ≡ told a → stateWith t none ≡ stateAfter a (stateWith s none) → m′ ≡ memoryAfter a m → v ≡ dataIn a w → Sends p t c x v n w′
+        → Serves p s c d m w t n m′ w′
+    answered t i j k l h =
+        let y : Left p (stateWith s none) c m w a t n m′ w′ =
+        left p (stateWith s none) c m w a t x (limits.brief p (stateWith s none) m d (commandOf c)) wide i j k l h in
+        record { state = y .state; sent = y .sent; memory = y .memory; room = y .room }
+
+    pub served : (t : State) {e : Effect} → WorksOn (commandOf c) p s d m w (record { effect = e; answer = x }) m′ v → stateWith t none ≡ effectOn e (stateWith s none)
+        → Sends p t c x v n w′ → Serves p s c d m w t n m′ w′
+    served t y e h = answered t (y .row .answer) (e ∙ y .row .state) (y .memory) (y .row .room) h
+
+    pub told-served : Tells a (stateWith s none) m w x m′ v → Sends p s c x v n w′ → Serves p s c d m w s n m′ w′
+    told-served y h = answered s (y .works .answer) (sym (y .state)) (y .works .memory) (y .works .room) h
 
 -- what a reply asks, from what a request asks
 pub sendable : (p : Plate) (s : State) (c : ℕ) (d m w : List ℕ) → Workable p s c d m w → {x : Answer} {u : List ℕ}

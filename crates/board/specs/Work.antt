@@ -9,7 +9,7 @@ use Rattle.meaning.specs.Bytes.{pick, both, either, longestReply, part, put}
 use Rattle.meaning.specs.State as meaning
 use Rattle.meaning.specs.State.{none, lastCount, plateOk}
 use Rattle.meaning.specs.Fields.{memoryLength}
-use Rattle.meaning.specs.Commands.{commandOf, asked, worked}
+use Rattle.meaning.specs.Commands.{Command, commandOf, asked, worked}
 use Rattle.meaning.specs.Commands as commands
 use Rattle.meaning.specs.Characters.{closed}
 use Rattle.meaning.specs.Frames.{message, outcome, work}
@@ -41,10 +41,10 @@ pub record Workable (p : Plate) (s : State) (c : ℕ) (d m w : List ℕ) : Type 
   pub room : longestReply ≤ length w
   pub fits : asked (commandOf c) d ≡ true
 
--- the answer a of the meaning, worked on state, memory and room
-pub record WorksOn (a : commands.Answer) (s : State) (m w : List ℕ) (r : Worked) (m′ w′ : List ℕ) : Type 0 where
-  pub row : Answers a s none w r w′
-  pub memory : m′ ≡ memoryAfter a m
+-- the command k with the data d, worked on state, memory and room
+pub record WorksOn (k : Command) (p : meaning.Plate) (s : State) (d m w : List ℕ) (r : Worked) (m′ w′ : List ℕ) : Type 0 where
+  pub row : Answers k p s none m d w r w′
+  pub memory : m′ ≡ memoryAfter (worked k p (stateWith s none) m d) m
 
 -- 01, rows 42h, 46h, 4Ah to 4Eh
 unfoldable pub leavesState : ℕ → Bool

@@ -3,7 +3,7 @@ ghost use mathlib.Core.Path.{_≡_};
 ghost use mathlib.Core.Bool.{true, false};
 ghost use Rattle.line.specs.Line.{plateOf};
 ghost use Rattle.board.specs.Work.{leavesState, Ready, Workable, Answerable, Refused, Serves, Closes};
-use crate::reply::reply;
+use crate::reply::send;
 use crate::rows::change;
 use crate::rows::leaves_state;
 use crate::rows::tell;
@@ -29,7 +29,7 @@ pub fn refuse(plate: Plate, state: State, code: u8, room: &mut [u8]) -> usize
         return 0;
     }
     let waiting = state.faults.waits();
-    reply(plate, waiting, ERROR_REPLY, Answer::Refuse(code), room)
+    send(plate, waiting, ERROR_REPLY, Answer::Refuse(code), room)
 }
 
 // A request that leaves the state as it is.
@@ -46,11 +46,11 @@ pub fn ask(
 {
     let waiting = state.faults.waits();
     let answer = tell(plate, state, command, request, memory, room);
-    reply(plate, waiting, command, answer, room)
+    send(plate, waiting, command, answer, room)
 }
 
 // Any other request; the memory is not touched.
-pub fn order(
+fn order(
     plate: Plate,
     state: State,
     command: u8,
@@ -62,10 +62,11 @@ pub fn order(
     ensures { λ r. ⌜ Serves (plateOf plate) state command (now (request .entry)) (now (memory .entry)) (now (room .entry)) (r .state) (r .sent) (now (memory .entry)) (now (room .exit)) ⌝ }
 {
     let worked = change(plate.bits, state, command, request, room);
-    let next = worked.state;
+    let effect = worked.effect;
     let answer = worked.answer;
+    let next = state.after(effect);
     let waiting = next.faults.waits();
-    let sent = reply(plate, waiting, command, answer, room);
+    let sent = send(plate, waiting, command, answer, room);
     Closed { state: next, sent }
 }
 

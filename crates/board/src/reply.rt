@@ -10,7 +10,7 @@ use wire::Answer;
 use wire::codes::ERROR_REPLY;
 
 // `waiting` is whether a code waits after the work. The reply's data stands at place 2 of the room on; its length comes back, 0 being silence.
-pub(crate) fn reply(
+pub fn send(
     plate: Plate,
     waiting: bool,
     command: u8,

@@ -66,8 +66,8 @@ pub(crate) fn tell(
     fields::memory_status(memory, total, room)
 }
 
-// The commands that change the state; the memory stays as it is.
-pub(crate) fn change(
+// The commands that change the state, which is left to who holds it; the memory stays as it is.
+pub fn change(
     bits: u32,
     state: State,
     command: u8,
@@ -75,7 +75,7 @@ pub(crate) fn change(
     room: &mut [u8],
 ) -> Worked
     requires { ⌜ Changeable bits state command (now request) (now room) ⌝ }
-    ensures { λ r. ⌜ ((p : meaning.Plate) (m : List ℕ) → p .bits ≡ bits → WorksOn (worked (commandOf command) p (stateWith state none) m (now (request .entry))) state m (now (room .entry)) r m (now (room .exit))) ⌝ }
+    ensures { λ r. ⌜ ((p : meaning.Plate) (m : List ℕ) → p .bits ≡ bits → WorksOn (commandOf command) p state (now (request .entry)) m (now (room .entry)) r m (now (room .exit))) ⌝ }
 {
     if command == 0x43 {
         return state::set_position(bits, state, request);

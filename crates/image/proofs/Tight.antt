@@ -8,12 +8,20 @@ use Rattle.meaning.specs.State.{Line, none}
 use Rattle.wire.proofs.Tight.{same-outcome}
 use Rattle.state.specs.declared.state.State.{State}
 use Rattle.state.specs.State.{stateWith}
+use Rattle.state.specs.declared.effects.Effect.{Effect}
+use Rattle.state.specs.Effects.{effectOn}
+use Rattle.state.proofs.Same.{state-tight}
 use Rattle.line.specs.declared.characters.OpenFrame.{OpenFrame}
-use Rattle.image.specs.Image.{keptIn, stateBytes, lineBytes, frameBytes, PutsState, PutsFrame, PutsBoard, Takes}
+use Rattle.image.specs.Image.{stateIn, keptIn, stateBytes, lineBytes, frameBytes, PutsState, PutsEffect, PutsFrame, PutsBoard, Takes}
 
 module _ (core a b : List ℕ) where
   pub put-state-tight : (s : State) → PutsState s core a → PutsState s core b → a ≡ b
   put-state-tight s x y = same-outcome (put core 0 (stateBytes (stateWith s none))) a b (x .bytes none) (y .bytes none)
+
+  pub put-effect-tight : (x : Effect) → PutsEffect x core a → PutsEffect x core b → a ≡ b
+  put-effect-tight x p q =
+      let same : stateIn a ≡ stateIn b = state-tight none (effectOn x (stateWith (stateIn core) none)) (stateIn a) (stateIn b) (p .holds none) (q .holds none) in
+      put-state-tight (stateIn b) (rw same at (p .bytes)) (q .bytes)
 
   pub put-frame-tight : (f : OpenFrame) → PutsFrame f core a → PutsFrame f core b → a ≡ b
   put-frame-tight f x y = same-outcome (put core 21 (frameBytes f)) a b (x .bytes) (y .bytes)

@@ -1,12 +1,11 @@
 -- `board::closing::ask` meets its contract. Assumes nothing.
-use Rattle.board.proofs.Dispatch.{as-worked}
-use Rattle.board.proofs.Endings.{served, sendable}
+use Rattle.board.proofs.Endings.{told-served, sendable}
 use borrow.Author.Needs.{needs}
 use Rattle.board.proofs.closing.ask.Statement.{statement}
 use Rattle.board.proofs.closing.ask.Tie as tie
 use Rattle.board.proofs.closing.ask.Reads as reads
 use Rattle.board.proofs.closing.ask.Lts as lts
-use Rattle.board.proofs.reply.reply.Reads as reply-reads
+use Rattle.board.proofs.reply.send.Reads as send-reads
 use Rattle.board.proofs.rows.tell.Reads as tell-reads
 use Rattle.state.proofs.faults.Faults.waits.Reads as waits-reads
 
@@ -16,8 +15,8 @@ waits-requires c κs = search needs
 tell-requires : tie.Need-tell-requires
 tell-requires c κs = search needs
 
-reply-requires : tie.Need-reply-requires
-reply-requires c κs =
+send-requires : tie.Need-send-requires
+send-requires c κs =
     let after-tell = c .before .before .before .before .before in
     let start = after-tell .before .before .before .before .before .before .before in
     sendable _ _ _ _ _ _ (start .pre .0) (after-tell .tell .ensures .works .answer) (search needs)
@@ -30,13 +29,13 @@ same-length-2 c = search needs
 
 returns : tie.Need-returns
 returns c =
-    let after-reply = c .before .before in
-    let after-tell = after-reply .before .before .before .before .before .before in
+    let after-send = c .before .before in
+    let after-tell = after-send .before .before .before .before .before .before in
     let after-waits = after-tell .before .before .before in
     let start = after-waits .before .before .before .before in
-    served _ _ _ _ _ _ (start .pre .0 .room) (as-worked _ _ _ _ (after-tell .tell .ensures)) (after-reply .reply .ensures (start .args .state) (after-waits .waits .ensures))
+    told-served _ _ _ _ _ _ (start .pre .0 .room) (after-tell .tell .ensures) (after-send .send .ensures (start .args .state) (after-waits .waits .ensures))
 
 pub ask-spec : {M : Type 1} → statement M
 ask-spec =
     tie.close
-    (tie.spec waits-requires tell-requires reply-requires same-length same-length-2 returns)
+    (tie.spec waits-requires tell-requires send-requires same-length same-length-2 returns)

@@ -2,6 +2,7 @@
 use mathlib.Core.Path.{refl}
 use denote.Ref.{now}
 use Rattle.line.specs.Line.{plateOf}
+use Rattle.meaning.specs.State.{none}
 use Rattle.board.proofs.Dispatch.{changeable}
 use Rattle.board.proofs.Endings.{served, sendable}
 use borrow.Author.Needs.{needs}
@@ -9,34 +10,38 @@ use Rattle.board.proofs.closing.order.Statement.{statement}
 use Rattle.board.proofs.closing.order.Tie as tie
 use Rattle.board.proofs.closing.order.Reads as reads
 use Rattle.board.proofs.closing.order.Lts as lts
-use Rattle.board.proofs.reply.reply.Reads as reply-reads
+use Rattle.board.proofs.reply.send.Reads as send-reads
 use Rattle.board.proofs.rows.change.Reads as change-reads
 use Rattle.state.proofs.faults.Faults.waits.Reads as waits-reads
-
+use Rattle.state.proofs.state.State.after.Reads as after-reads
 change-requires : tie.Need-change-requires
 change-requires c κs =
     let start = c .before .before .before .before in
     changeable _ _ _ _ _ (start .pre .0) (start .pre .1)
-
+after-requires : tie.Need-after-requires
+after-requires c κs =
+    let after-change = c .before .before in
+    let start = after-change .before .before .before .before .before in
+    (after-change .change .ensures (plateOf (start .args .plate)) (now (start .args .memory)) refl) .row .placed
 waits-requires : tie.Need-waits-requires
 waits-requires c κs = search needs
-
-reply-requires : tie.Need-reply-requires
-reply-requires c κs =
+send-requires : tie.Need-send-requires
+send-requires c κs =
     let after-change = c .before .before .before .before .before in
     let start = after-change .before .before .before .before .before in
-    sendable _ _ _ _ _ _ (start .pre .0) (after-change .change .ensures (plateOf (start .args .plate)) (now (start .args .memory)) refl .row .answer) (search needs)
-
+    sendable _ _ _ _ _ _ (start .pre .0) ((after-change .change .ensures (plateOf (start .args .plate)) (now (start .args .memory)) refl) .row .answer) (search needs)
 same-length : tie.Need-same-length
 same-length c = search needs
-
 returns : tie.Need-returns
 returns c =
-    let after-reply = c .before .before in
-    let after-waits = after-reply .before .before in
-    let after-change = after-waits .before .before .before .before in
+    let after-send = c .before .before in
+    let after-waits = after-send .before .before in
+    let after-after = after-waits .before in
+    let after-change = after-after .before .before .before in
     let start = after-change .before .before .before .before .before in
-    served _ _ _ _ _ _ (start .pre .0 .room) (after-change .change .ensures (plateOf (start .args .plate)) (now (start .args .memory)) refl) (after-reply .reply .ensures (after-change .change .result .state) (after-waits .waits .ensures))
+    served _ _ _ _ _ _ (start .pre .0 .room) (after-after .after .result) (after-change .change .ensures (plateOf (start .args .plate)) (now (start .args .memory)) refl) (after-after .after .ensures none) (after-send .send .ensures (after-after .after .result) (after-waits .waits .ensures))
 
 pub order-spec : {M : Type 1} → statement M
-order-spec = tie.close (tie.spec change-requires waits-requires reply-requires same-length returns)
+order-spec =
+    tie.close
+    (tie.spec change-requires after-requires waits-requires send-requires same-length returns)

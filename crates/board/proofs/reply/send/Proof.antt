@@ -1,11 +1,11 @@
--- `board::reply::reply` meets its contract. Assumes nothing.
+-- `board::reply::send` meets its contract. Assumes nothing.
 use native.Mathlib.Omega.{arith}
 use Rattle.board.proofs.Sending.{brief-data, enough-room, error-sent, data-sent, none-sent}
 use borrow.Author.Needs.{needs}
-use Rattle.board.proofs.reply.reply.Statement.{statement}
-use Rattle.board.proofs.reply.reply.Tie as tie
-use Rattle.board.proofs.reply.reply.Reads as reads
-use Rattle.board.proofs.reply.reply.Lts as lts
+use Rattle.board.proofs.reply.send.Statement.{statement}
+use Rattle.board.proofs.reply.send.Tie as tie
+use Rattle.board.proofs.reply.send.Reads as reads
+use Rattle.board.proofs.reply.send.Lts as lts
 use Rattle.line.proofs.own_byte.Reads as own-byte-reads
 use Rattle.state.proofs.marked.Reads as marked-reads
 use Rattle.wire.proofs.seal.Reads as seal-reads
@@ -73,8 +73,8 @@ returns-2 c =
 returns-3 : tie.Need-returns-3
 returns-3 c = λ s e. none-sent _ s _ _ (c .enum-told .given .1)
 
-pub reply-spec : {M : Type 1} → statement M
-reply-spec =
+pub send-spec : {M : Type 1} → statement M
+send-spec =
     tie.close
     (tie.spec
     own-byte-requires
