@@ -122,6 +122,17 @@ module _ (p : meaning.Plate) (s : State) (f : OpenFrame) (k m w : List ℕ) {own
       let b : commandByte (take (f .len) k) ≡ c = (request-fits own (frameOf f (take (f .len) k)) e) .byte in
       record { state = rw (worked-as e, b) (y .state); sent = rw (worked-as e, b) (y .sent); memory = rw (worked-as e, b) (y .memory); room = rw (worked-as e, b) (y .room) }
 
+-- reply data leaves the room as long as it was
+data-length : (a : commands.Answer) (w : List ℕ) → Few a → longestReply ≤ length w → length (dataIn a w) ≡ length w
+data-length (commands.refuse e) w few wide = refl
+data-length (commands.accept d s m) w few wide = length-put w 2 d (omega arith)
+data-length (commands.quiet s m) w few wide = refl
+
+pub still-wide : (p : meaning.Plate) (s : State) (c : ℕ) (d m w : List ℕ) {r : Worked} {m′ v : List ℕ} → longestReply ≤ length w → WorksOn (commandOf c) p s d m w r m′ v → longestReply ≤ length v
+still-wide p s c d m w wide h =
+    let q : meaning.State = stateWith s none in
+    rw (h .row .room, data-length (worked (commandOf c) p q m d) w (limits.brief p q m d (commandOf c)) wide) wide
+
 -- a request, worked and answered: x is what it came to, v the room with its data, t the state after it
 module _ (p : meaning.Plate) (s : State) (c : ℕ) (d m w : List ℕ) where
   abbrev a : commands.Answer
@@ -135,9 +146,9 @@ module _ (p : meaning.Plate) (s : State) (c : ℕ) (d m w : List ℕ) where
         left p (stateWith s none) c m w a t x (limits.brief p (stateWith s none) m d (commandOf c)) wide i j k l h in
         record { state = y .state; sent = y .sent; memory = y .memory; room = y .room }
 
-    pub served : (t : State) {e : Effect} → WorksOn (commandOf c) p s d m w (record { effect = e; answer = x }) m′ v → stateWith t none ≡ effectOn e (stateWith s none)
+    pub worked-served : (t : State) {e : Effect} → WorksOn (commandOf c) p s d m w (record { effect = e; answer = x }) m′ v → stateWith t none ≡ effectOn e (stateWith s none)
         → Sends p t c x v n w′ → Serves p s c d m w t n m′ w′
-    served t y e h = answered t (y .row .answer) (e ∙ y .row .state) (y .memory) (y .row .room) h
+    worked-served t y e h = answered t (y .row .answer) (e ∙ y .row .state) (y .memory) (y .row .room) h
 
     pub told-served : Tells a (stateWith s none) m w x m′ v → Sends p s c x v n w′ → Serves p s c d m w s n m′ w′
     told-served y h = answered s (y .works .answer) (sym (y .state)) (y .works .memory) (y .works .room) h

@@ -3,6 +3,6 @@ pub mod Bounding
 pub mod Stepping
 mod Sending
 pub mod Endings
-mod Dispatch
+pub mod Dispatch
 pub mod Quickening
 pub mod Promises

@@ -67,13 +67,7 @@ pub(crate) fn tell(
 }
 
 // The commands that change the state, which is left to who holds it; the memory stays as it is.
-pub fn change(
-    bits: u32,
-    state: State,
-    command: u8,
-    request: &[u8],
-    room: &mut [u8],
-) -> Worked
+pub fn change(bits: u32, state: State, command: u8, request: &[u8], room: &mut [u8]) -> Worked
     requires { ⌜ Changeable bits state command (now request) (now room) ⌝ }
     ensures { λ r. ⌜ ((p : meaning.Plate) (m : List ℕ) → p .bits ≡ bits → WorksOn (commandOf command) p state (now (request .entry)) m (now (room .entry)) r m (now (room .exit))) ⌝ }
 {

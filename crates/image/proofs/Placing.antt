@@ -6,10 +6,10 @@ use mathlib.Core.Path.{_≡_, refl, sym, ap, _∙_}
 use mathlib.Core.Bool.{Bool, true, false}
 use mathlib.Core.List.{List, [], _∷_, _++_, append-assoc}
 use lib.ListN.{length, take, drop, set, take-append-drop}
-use lib.Seq.{take-take, drop-append-le, length-take-le}
+use lib.Seq.{take-take, drop-append-le, drop-at, length-take-le}
 use Rattle.meaning.specs.Bytes.{arg, part, put, little}
 use Rattle.meaning.specs.State.{Line, none, queued, withCodes, withCounter, withOffset, withQueue, withLock}
-use Rattle.meaning.proofs.Puts.{length-put, put-one}
+use Rattle.meaning.proofs.Puts.{length-put, put-after, drop-put-low, put-one}
 use Rattle.wire.specs.Numbers.{low4}
 use Rattle.wire.proofs.Numbers.{little-at}
 use Rattle.state.specs.declared.faults.Faults.{Faults}
@@ -21,9 +21,10 @@ use Rattle.state.specs.Queue.{queueOf, holding, Queues, Reads}
 use Rattle.state.specs.State.{stateWith}
 use Rattle.state.specs.Effects.{effectOn}
 use Rattle.state.proofs.Ways.{with-one-code, counts, turns, overflows, moves-up, empties, read-out, stays-so}
-use Rattle.image.specs.Image.{flagByte, stateIn, stateBytes, HoldsState, measuredSet, faultsSet, codeSet, counterSet, offsetSet, PutsState, PutsEffect}
-use Rattle.image.proofs.Standing.{places, Typed, puts-state, part-filled}
-use Rattle.image.proofs.Parts.{state-as-it-was, state-length}
+use Rattle.image.specs.Image.{flagByte, stateIn, frameIn, keptIn, stateBytes, frameBytes, HoldsState, measuredSet, faultsSet, codeSet, counterSet, offsetSet, PutsState, PutsEffect, PutsBoard}
+use Rattle.image.proofs.Standing.{places, Typed, puts-state, part-filled, line-row}
+use Rattle.image.proofs.Parts.{state-as-it-was, frame-as-it-was, parts-joined, front-length, kept-length, state-length}
+use Rattle.image.proofs.Round.{Good}
 
 -- bytes put inside the front of a list
 front-put : (core : List ℕ) (i : ℕ) (ys : List ℕ) → 21 ≤ length core → i + length ys ≤ 21 → put core 0 (put (take 21 core) i ys) ≡ put core i ys
@@ -96,6 +97,7 @@ module _ (core : List ℕ) (h : HoldsState core) (small : (i : ℕ) → arg core
           four (suc (suc zero)) = refl
           four (suc (suc (suc zero))) = refl
           four (suc (suc (suc (suc n)))) = refl
+
       go : (l : Line) (n : ℕ) → n < 4 → put (stateBytes (stateWith (stateIn core) l)) n (c ∷ []) ≡ stateBytes (stateWith (codeSet (stateIn core) n c) l)
       go l zero k = refl
       go l (suc zero) k = refl
@@ -104,6 +106,10 @@ module _ (core : List ℕ) (h : HoldsState core) (small : (i : ℕ) → arg core
       go l (suc (suc (suc (suc n)))) k = absurd (omega arith)
 
 -- one part after the other
+few-kept : {core : List ℕ} → Good core → frameIn core .len ≤ 135
+unfolding frameIn
+few-kept g = g .few
+
 flag-low : (b : Bool) → flagByte b ≤ 1
 unfolding flagByte
 flag-low true = omega arith
@@ -120,6 +126,46 @@ still-holds t {core} {core′} h p =
 pub one-then-other : (t u : State) {core mid core′ : List ℕ} → PutsState t core mid → PutsState u mid core′ → PutsState u core core′
 unfolding stateBytes put
 one-then-other t u p q = record { bytes = λ l. q .bytes l ∙ rw (p .bytes l); holds = q .holds }
+
+-- the bytes past the state's are as they were
+module _ (s : State) (core : List ℕ) {core′ : List ℕ} (g : Good core) (p : PutsState s core core′) where
+  fits : 0 + length (stateBytes (stateWith s none)) ≤ length core
+  fits = omega (arith, g .all, state-length s none)
+
+  same-at : (j : ℕ) → 21 ≤ j → arg core′ j ≡ arg core j
+  same-at j k = ap (λ (x : List ℕ). arg x j) (p .bytes none) ∙ put-after core 0 (stateBytes (stateWith s none)) fits j (omega (arith, state-length s none))
+
+  same-frame : frameIn core′ ≡ frameIn core
+  unfolding frameIn
+  same-frame =
+      rw (
+        little-at core′ 24,
+        little-at core 24,
+        same-at 21 (omega arith),
+        same-at 22 (omega arith),
+        same-at 23 (omega arith),
+        same-at 24 (omega arith),
+        same-at 25 (omega arith),
+        same-at 26 (omega arith),
+        same-at 27 (omega arith),
+        same-at 28 (omega arith),
+        same-at 29 (omega arith),
+      )
+
+  pub only-state : ((i : ℕ) → arg core i < 256) → PutsBoard s (frameIn core) core core′
+  unfolding put
+  only-state small =
+      let k : length (keptIn core) ≡ 135 = kept-length core (g .all) in
+      let few : frameIn core .len ≤ 135 = few-kept g in
+      let f : frameBytes (frameIn core) ≡ part core 21 9 =
+      sym (line-row (frameIn core) (keptIn core) (record { few = few; all = k })) ∙ frame-as-it-was core (g .all) small (g .begun) (g .longer) (g .parity) (keptIn core) k (g .few) in
+      let d : drop 21 core ≡ part core 21 9 ++ keptIn core = ap (drop 21) (sym (parts-joined core (g .all))) ∙ drop-at (take 21 core) (part core 21 9 ++ keptIn core) 21 (front-length core (g .all)) in
+      record {
+        bytes = λ l. p .bytes l ∙ rw (state-length s l, d, f);
+        state = p .holds;
+        frame = same-frame;
+        kept = ap (take 135) (ap (drop 30) (p .bytes none) ∙ drop-put-low core 0 (stateBytes (stateWith s none)) fits 30 (omega (arith, state-length s none)));
+      }
 
 -- ---- what a command changes
 module _ {x : Effect} {core core′ : List ℕ} where

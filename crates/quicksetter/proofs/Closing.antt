@@ -4,15 +4,17 @@ use native.Mathlib.Omega.{arith}
 use mathlib.Core.Path.{_≡_, refl, sym, ap, _∙_}
 use mathlib.Core.Bool.{Bool, true, false}
 use mathlib.Core.List.{List, [], _++_}
-use borrow.Author.Tests.{eq-eqb, le-leb, le-ltb, leb-true}
+use borrow.Author.Tests.{eq-eqb, le-ltb, leb-true}
 use lib.Dec.{eqb, leb, ltb}
 use lib.ListN.{length, take, drop, length-take}
 use lib.Seq.{take-at, take-take}
-use Rattle.meaning.specs.Bytes.{pick, both, longestRequest, put, arg}
+use Rattle.meaning.specs.Bytes.{pick, both, longestRequest, longestReply, put, arg}
 use Rattle.meaning.specs.State.{Plate, Line, none, withLine, stateOk, ownByte}
 use Rattle.meaning.specs.Fields.{memoryLength}
-use Rattle.meaning.specs.Characters.{over, more, taken}
-use Rattle.meaning.specs.Frames.{Outcome, dataOf, still, upTo}
+use Rattle.meaning.specs.Characters.{over, more, taken, closed}
+use Rattle.meaning.specs.Commands.{commandOf}
+use Rattle.meaning.specs.Frames as frames
+use Rattle.meaning.specs.Frames.{Outcome, dataOf, still, upTo, work, resting}
 use Rattle.meaning.specs.Run.{Call, character, poll, Held, step, called, lends, refusedBy}
 use Rattle.meaning.proofs.Choices.{both-left, pick-same}
 use Rattle.meaning.proofs.Puts.{length-put}
@@ -23,23 +25,21 @@ use Rattle.line.specs.declared.judge.Judgement.{Judgement}
 use Rattle.line.specs.declared.judge.Judgement.the-variants.{Request}
 use Rattle.line.specs.Judge.{judgementOf, codeToAnswer}
 use Rattle.line.proofs.Judging.{asking}
+use Rattle.wire.specs.declared.answer.Answer.{Answer}
 use Rattle.state.specs.declared.state.State.{State}
+use Rattle.state.specs.declared.effects.Effect.{Effect}
 use Rattle.state.specs.State.{stateWith}
 use Rattle.state.proofs.Answering.{put-nothing}
-use Rattle.board.specs.declared.limits.Outcome.the-variants.{Over}
-use Rattle.board.specs.declared.limits.Stepped.{Stepped}
 use Rattle.board.specs.declared.closing.Closed.{Closed}
-use Rattle.board.specs.Board.{fitsIn, refusalOn, Steps}
-use Rattle.board.specs.Work.{Ready, Answerable, Refused, Serves, Closes}
-use Rattle.board.proofs.Stepping.{poll-over}
-use Rattle.board.proofs.Endings.{own-known, answerable, long, workable, refused, requested}
-use Rattle.image.specs.Image.{isCore, stateIn, frameIn, keptIn, heldIn, stateBytes, lineBytes, coreOf, PutsState, PutsFrame, PutsBoard, Takes}
+use Rattle.board.specs.Work.{Ready, Answerable, WorksOn, Sends, Refused, Serves, Closes}
+use Rattle.board.proofs.Stepping.{no-line}
+use Rattle.board.proofs.Endings.{own-known, answerable, long, workable, refused, requested, worked-served}
+use Rattle.image.specs.Image.{isCore, stateIn, frameIn, keptIn, heldIn, stateBytes, lineBytes, coreOf, PutsState, PutsEffect, PutsFrame, PutsBoard, Takes}
 use Rattle.image.proofs.Parts.{kept-length, front-length, state-as-it-was, same-front, state-length, puts-board}
 use Rattle.image.proofs.Round.{good, kept-stays, lent-back, core-as-it-was}
 use Rattle.quicksetter.specs.Calls.{callNumber}
-use Rattle.quicksetter.specs.Cores.{boardIn, dataTo, coreCalled, coreAfter, CoreCalled, Unrefused, Servable, ServedIn, ClosedIn, Polls}
-use Rattle.quicksetter.proofs.Finishing.{written-over}
-use Rattle.quicksetter.proofs.Leaving.{finished}
+use Rattle.quicksetter.specs.Cores.{dataTo, coreCalled, coreAfter, CoreCalled, Unrefused, Servable, ServedIn, ClosedIn, Polls}
+use Rattle.quicksetter.proofs.Leaving.{board-left}
 use Rattle.quicksetter.proofs.Staying.{core-of-state}
 
 module _ (p : Plate) (core m w : List ℕ) (u : Unrefused p core (length m) (length w)) where
@@ -83,16 +83,18 @@ module _ (p : Plate) (core m w : List ℕ) (u : Unrefused p core (length m) (len
   fits = record { few = few; all = kept-length core all }
 
   -- the frame is closed and put away
+  closed-now : (tick : ℕ) → over p (heldIn core) tick ≡ true → done (poll tick) ≡ work p (stateWith (stateIn core) none) m (closed (lineOf (frameIn core) (keptIn core)))
+  unfolding step upTo frames.close resting withLine
+  closed-now tick o = rw o
+
   closed-over : (tick : ℕ) {c : Closed} {f : OpenFrame} {m′ w′ core′ : List ℕ} → over p (heldIn core) tick ≡ true → f ≡ noFrame
       → Closes p (stateIn core) (frameIn core) (keptIn core) m w c m′ w′ → PutsBoard (c .state) f core core′ → Polls p core m w tick (c .sent) core′ m′ w′
-  unfolding refusalOn fitsIn
   closed-over tick {c} {f} {m′} {w′} {core′} o e h q =
-      let t : Stepped = record { board = record { state = c .state; frame = f }; outcome = Over (c .sent) } in
-      let r : refusalOn p (boardIn core) (keptIn core) m (length w) (poll tick) ≡ 0 =
-      rw (le-leb (frameIn core .len) 135 few, eq-eqb (length (keptIn core)) 135 (kept-length core all)) (free (poll tick)) in
-      let s : Steps p (boardIn core) (keptIn core) m w (poll tick) t (keptIn core) m′ w′ = poll-over p (boardIn core) (keptIn core) m w tick r refl e o h in
+      let x : Outcome = work p (stateWith (stateIn core) none) m (closed (lineOf (frameIn core) (keptIn core))) in
+      let k : coreCalled p core m w (poll tick) ≡ (record { refusal = 0; count = c .sent; state = x .state; memory = m′; room = w′ }) =
+      served (poll tick) ∙ rw (closed-now tick o, ← h .sent, ← h .memory, ← h .room) in
       record {
-        called = finished p core m w (poll tick) (u .bytes) core refl s (sym (lent-back core)) (written-over t core refl q);
+        called = board-left p core m w (poll tick) (c .state) f (x .state) all k q (rw e (omega arith)) (no-line (keptIn core) (c .state) (h .state) e);
         kept = q .kept;
       }
 
@@ -164,8 +166,9 @@ module _ (p : Plate) (c : ℕ) (d core m w : List ℕ) {r : ℕ} {w′ : List �
   pub asked-in : {m′ : List ℕ} → isCore core ≡ true → ((i : ℕ) → arg core i < 256) → Serves p (stateIn core) c d m w (stateIn core) r m′ w′ → ServedIn p c d core m w r core m′ w′
   asked-in e small h = record { serves = h; state = state-there core e small }
 
-  pub ordered-in : {t : State} {core′ : List ℕ} → Serves p (stateIn core) c d m w t r m w′ → PutsState t core core′ → ServedIn p c d core m w r core′ m w′
-  ordered-in h q = record { serves = rw (q .holds) h; state = rw (q .holds) q }
+  pub ordered-in : {e : Effect} {x : Answer} {core′ v : List ℕ} → longestReply ≤ length w → WorksOn (commandOf c) p (stateIn core) d m w (record { effect = e; answer = x }) m v
+      → PutsEffect e core core′ → Sends p (stateIn core′) c x v r w′ → ServedIn p c d core m w r core′ m w′
+  ordered-in {core′ = core′} wide h q y = record { serves = worked-served p (stateIn core) c d m w wide (stateIn core′) h (q .holds none) y; state = q .bytes }
 
 -- a frame whose close leaves the state
 pub still-in : (p : Plate) (core m w : List ℕ) {f : OpenFrame} {r : ℕ} {m′ w′ : List ℕ} → f ≡ frameIn core → isCore core ≡ true → ((i : ℕ) → arg core i < 256)

@@ -61,6 +61,9 @@ still-ours img core e n =
     let l : eqb (arg img 0) 1 ≡ true = both-right (eqb (length img) 171) (eqb (arg img 0) 1) e in
     rw (k, layout-stays img core all, l)
 
+pub lent-small : (img : List ℕ) → isOurs img ≡ true → ((i : ℕ) → arg img i < 256) → (i : ℕ) → arg (take 165 (drop 6 img)) i < 256
+lent-small img e small i = rw (lent-core img (ours-length img e), getD-drop 6 img i 0) (small (6 + i))
+
 past : (xs : List ℕ) (i n : ℕ) → arg (drop n xs) i ≡ arg xs (n + i)
 past xs i n = getD-drop n xs i 0
 

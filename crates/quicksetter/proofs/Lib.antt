@@ -2,8 +2,8 @@
 mod Leaving
 mod Refusing
 mod Closing
+mod Noting
 mod Wholes
-mod Finishing
 mod Heads
 mod Starting
 mod Resting

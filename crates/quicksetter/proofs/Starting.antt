@@ -12,6 +12,8 @@ use Rattle.meaning.specs.Bytes.{part, put, zeros, little}
 use Rattle.meaning.specs.State as meaning
 use Rattle.meaning.specs.State.{Plate, none, plateOk, stateOk, fresh}
 use Rattle.meaning.proofs.Puts.{length-put}
+use Rattle.meaning.proofs.Limits.{fresh-within}
+use Rattle.meaning.proofs.Choices.{told-true}
 use Rattle.line.specs.declared.plate.Plate as line
 use Rattle.line.specs.declared.characters.OpenFrame.{OpenFrame}
 use Rattle.line.specs.Line.{plateOf, lineOf, noFrame, Fits}
@@ -55,28 +57,35 @@ core-made core {s} {f} {after} {core′} all a c d =
     let x : keptIn (take 30 core ++ (after ++ drop 135 (drop 30 core))) ≡ zeros 135 = rw w y in
     d .bytes none ∙ ap (λ (v : List ℕ). stateBytes (stateWith s none) ++ (frameBytes f ++ v)) x ∙ rw (c, nothing-open, nothing-kept)
 
-module _ (p : line.Plate) (s : State) (img : List ℕ) where
-  pub no-plate : plateOk (plateOf p) ≡ false → Makes (plateOf p) (stateWith s none) img 257 img
+-- head and core are written
+pub made : (p : Plate) (s : meaning.State) (img : List ℕ) {mid core′ : List ℕ} → length img ≡ 171 → mid ≡ put img 0 (headOf p) → core′ ≡ coreOf s (zeros 135)
+    → take 6 mid ++ (core′ ++ drop 165 (drop 6 mid)) ≡ imageOf p s (zeros 135)
+unfolding imageOf put headOf
+made p s img {mid} {core′} all a b =
+    let long : length mid ≡ 171 = ap length a ∙ length-put img 0 (headOf p) (omega arith) ∙ all in
+    core-back mid core′ long ∙ rw (a, b)
+
+module _ (p : Plate) (s : meaning.State) (img : List ℕ) where
+  pub no-plate : plateOk p ≡ false → Makes p s img 257 img
   unfolding startOk
   no-plate e = record { answer = rw e; image = rw e }
 
-  module _ (e : plateOk (plateOf p) ≡ true) where
-    pub no-length : (length img ≡ 171 → ⊥) → Makes (plateOf p) (stateWith s none) img 257 img
+  module _ (e : plateOk p ≡ true) where
+    pub no-length : (length img ≡ 171 → ⊥) → Makes p s img 257 img
     unfolding startOk
     no-length n = let z : eqb (length img) 171 ≡ false = ne-eqb _ _ n in record { answer = rw (e, z); image = rw (e, z) }
 
     module _ (all : length img ≡ 171) where
-      pub no-state : stateOk (plateOf p) (stateWith s none) ≡ false → Makes (plateOf p) (stateWith s none) img 257 img
+      pub no-state : stateOk p s ≡ false → Makes p s img 257 img
       unfolding startOk
       no-state n = let z : eqb (length img) 171 ≡ true = eq-eqb _ _ all in record { answer = rw (e, z, n); image = rw (e, z, n) }
 
-      pub started : {mid core′ : List ℕ} → stateOk (plateOf p) (stateWith s none) ≡ true → mid ≡ put img 0 (headOf (plateOf p))
-          → core′ ≡ coreOf (stateWith s none) (zeros 135) → Makes (plateOf p) (stateWith s none) img 0 (take 6 mid ++ (core′ ++ drop 165 (drop 6 mid)))
-      unfolding startOk imageOf put headOf
-      started {mid} {core′} n a b =
-          let z : eqb (length img) 171 ≡ true = eq-eqb _ _ all in
-          let long : length mid ≡ 171 = ap length a ∙ length-put img 0 (headOf (plateOf p)) (omega arith) ∙ all in
-          record { answer = rw (e, z, n); image = rw (e, z, n) (core-back mid core′ long ∙ rw (a, b)) }
+      pub started : {img′ : List ℕ} → stateOk p s ≡ true → img′ ≡ imageOf p s (zeros 135) → Makes p s img 0 img′
+      unfolding startOk
+      started n a = let z : eqb (length img) 171 ≡ true = eq-eqb _ _ all in record { answer = rw (e, z, n); image = rw (e, z, n) a }
+
+pub fresh-fine : (p : Plate) → stateOk p (fresh p) ≡ true
+fresh-fine p = told-true (stateOk p (fresh p)) (fresh-within p)
 
 -- another number of lasting bytes; else it starts from them
 pub no-lasting : (p : Plate) (lasting img : List ℕ) → (length lasting ≡ 12 → ⊥) → Restarts p lasting img 257 img

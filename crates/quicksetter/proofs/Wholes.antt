@@ -9,6 +9,7 @@ use lib.Seq.{take-at, getD-drop}
 use Rattle.meaning.specs.Bytes.{pick, arg}
 use Rattle.meaning.specs.State.{none}
 use Rattle.meaning.specs.Characters.{over, more}
+use Rattle.meaning.specs.Fields.{memoryLength}
 use Rattle.meaning.specs.Run.{Call, character, poll, lends}
 use Rattle.line.specs.declared.plate.Plate as line
 use Rattle.line.specs.Line.{plateOf, lineOf}
@@ -17,7 +18,7 @@ use Rattle.image.proofs.Round.{good}
 use Rattle.quicksetter.specs.Calls.{plateHeld, stateHeld, Called}
 use Rattle.quicksetter.specs.Cores.{refusalIn, Unrefused, ShutIn, ImageUnrefused, ImageShuts, ImagePolls}
 use Rattle.quicksetter.proofs.Heads.{ours-length, head-length, core-of-whole, lent-core, core-back, called-of}
-use Rattle.quicksetter.proofs.Refusing.{refused-as, unrefused}
+use Rattle.quicksetter.proofs.Refusing.{refused-as, refused-alone, unrefused}
 use Rattle.quicksetter.proofs.Closing.{nothing-over, core-again, then-taken}
 
 pub some-refusal : {n : ℕ} → suc n ≡ 0 → ⊥
@@ -36,6 +37,12 @@ module _ (img m w : List ℕ) (e : isOurs img ≡ true) {p : line.Plate} (q : p 
   refused-whole g l {n} r some =
       let k : n ≡ refusalIn (plateHeld img) (coreIn img) (length m) (length w) = rw (q, lent-core img all) at r in
       called-of img m w g e (refused-as (plateHeld img) (coreIn img) m w g l k some) (joined img)
+
+  pub alone-whole : (g : Call) → lends g ≡ false → {n : ℕ} → n ≡ refusalIn (plateOf p) (take 165 (drop 6 img)) (memoryLength (p .total)) 134 → (n ≡ 0 → ⊥)
+      → Called img m w g (256 + n) img m w
+  alone-whole g l {n} r some =
+      let k : n ≡ refusalIn (plateHeld img) (coreIn img) (memoryLength (plateHeld img .total)) 134 = rw (q, lent-core img all) at r in
+      called-of img m w g e (refused-alone (plateHeld img) (coreIn img) m w g l k some) (joined img)
 
   pub workable : 0 ≡ refusalIn (plateOf p) (take 165 (drop 6 img)) (length m) (length w) → ImageUnrefused img (length m) (length w)
   workable r =

@@ -10,20 +10,12 @@ use Rattle.meaning.specs.State as meaning
 use Rattle.meaning.specs.Fields.{memoryLength}
 use Rattle.meaning.specs.Characters.{over}
 use Rattle.meaning.specs.Frames.{dataOf}
-use Rattle.meaning.specs.Run.{Call, poll, measured, fault, power-on, Held, called}
+use Rattle.meaning.specs.Run.{Call, poll, Held, called}
 use Rattle.line.specs.declared.plate.Plate.{Plate}
-use Rattle.board.specs.declared.limits.Board.{Board}
-use Rattle.board.specs.declared.limits.Outcome.{Outcome}
-use Rattle.board.specs.declared.limits.Outcome.the-variants.{R1, R2, R3, Still, Over}
-use Rattle.board.specs.declared.limits.Stepped.{Stepped}
 use Rattle.board.specs.Work.{Workable, Serves, Closes}
-use Rattle.quicksetter.specs.declared.notes.Note.{Note}
-use Rattle.quicksetter.specs.declared.notes.Note.the-variants.{Measured, Fault, PowerOn}
-use Rattle.image.specs.Image.{keptAt, coreLength, numberAt, isOurs, isCore, headIn, coreIn, stateIn, frameIn, heldIn, keptIn, coreOf, PutsState, PutsBoard}
+use Rattle.state.specs.State.{stateWith}
+use Rattle.image.specs.Image.{keptAt, coreLength, numberAt, isOurs, isCore, headIn, coreIn, stateIn, frameIn, heldIn, keptIn, coreOf, PutsState}
 use Rattle.quicksetter.specs.Calls.{plateHeld, callNumber}
-
-abbrev pub boardIn : List ℕ → Board
-boardIn core = record { state = stateIn core; frame = frameIn core }
 
 -- the meaning's call on the state that the core holds; what is no core is R1
 unfoldable pub coreCalled : meaning.Plate → List ℕ → List ℕ → List ℕ → Call → Held
@@ -40,12 +32,6 @@ pub record CoreCalled (p : meaning.Plate) (core m w : List ℕ) (g : Call) (r : 
   pub bytes : core′ ≡ coreAfter core (coreCalled p core m w g)
   pub memory : m′ ≡ (coreCalled p core m w g) .memory
   pub room : w′ ≡ (coreCalled p core m w g) .room
-
--- 01, "The host notes codes": what a host tells besides
-abbrev pub callFor : Note → Call
-callFor (Measured n) = measured n
-callFor (Fault c) = fault c
-callFor PowerOn = power-on
 
 -- R1 does not apply to plate and core, whatever codes wait
 unfoldable pub possible : meaning.Plate → List ℕ → Bool
@@ -87,6 +73,11 @@ pub record ClosedIn (p : meaning.Plate) (core m w : List ℕ) (r : ℕ) (core′
   pub closes : Closes p (stateIn core) (frameIn core) (keptIn core) m w (record { state = stateIn core′; sent = r }) m′ w′
   pub state : PutsState (stateIn core′) core core′
 
+-- 01, "The host notes codes": but for the state's bytes the core is as it was
+pub record NotesIn (c : ℕ) (core core′ : List ℕ) : Type 0 where
+  pub notes : (l : meaning.Line) → stateWith (stateIn core′) l ≡ meaning.noted (stateWith (stateIn core) l) c
+  pub state : PutsState (stateIn core′) core core′
+
 -- what a poll leaves of a core that is not refused; the places of the kept bytes stay
 pub record Polls (p : meaning.Plate) (core m w : List ℕ) (tick r : ℕ) (core′ m′ w′ : List ℕ) : Type 0 where
   pub called : CoreCalled p core m w (poll tick) r core′ m′ w′
@@ -108,22 +99,3 @@ pub record ImageShuts (img m w : List ℕ) (r : ℕ) (img′ m′ w′ : List �
 pub record ImagePolls (img m w : List ℕ) (tick r : ℕ) (img′ m′ w′ : List ℕ) : Type 0 where
   pub core : Polls (plateHeld img) (coreIn img) m w tick r (coreIn img′) m′ w′
   pub head : img′ ≡ headIn img ++ coreIn img′
-
--- the outcome of the board's call as the number for C, and the board written back where it was not refused
-abbrev pub outcomeNumber : Outcome → ℕ
-outcomeNumber R1 = 257
-outcomeNumber R2 = 258
-outcomeNumber R3 = 259
-outcomeNumber Still = 0
-outcomeNumber (Over n) = n
-
-abbrev pub LeftBy : Outcome → Board → List ℕ → List ℕ → Type 0
-LeftBy R1 b core core′ = core′ ≡ core
-LeftBy R2 b core core′ = core′ ≡ core
-LeftBy R3 b core core′ = core′ ≡ core
-LeftBy Still b core core′ = PutsBoard (b .state) (b .frame) core core′
-LeftBy (Over n) b core core′ = PutsBoard (b .state) (b .frame) core core′
-
-pub record Finishes (t : Stepped) (core : List ℕ) (r : ℕ) (core′ : List ℕ) : Type 0 where
-  pub answer : r ≡ outcomeNumber (t .outcome)
-  pub left : LeftBy (t .outcome) (t .board) core core′

@@ -5,13 +5,14 @@ ghost use lib.ListN.{length};
 ghost use Rattle.meaning.specs.Bytes.{differ};
 ghost use Rattle.meaning.specs.State.{apart};
 ghost use Rattle.meaning.specs.Characters.{over};
+ghost use Rattle.meaning.specs.Demands.{waits};
 ghost use Rattle.meaning.specs.Run as run;
 ghost use Rattle.line.specs.Line.{plateOf};
 ghost use Rattle.state.specs.Queue.{queueOf};
 ghost use Rattle.image.specs.Image.{coreLength, stateIn, heldIn};
 ghost use Rattle.quicksetter.specs.Calls.{Called};
 ghost use Rattle.quicksetter.specs.Cores.{possible, dataTo, Unrefused, Servable, ServedIn, ClosedIn, ShutIn, ImageUnrefused, ImageShuts, ImagePolls};
-use crate::answer::REFUSED;
+use crate::given::REFUSED;
 use image::CORE;
 use image::COUNTER;
 use image::KEPT;
@@ -25,7 +26,7 @@ use state::LAST_COUNT;
 use wire::codes::LONGEST_REPLY;
 
 // R1 of the plate and of the core, but for the waiting codes.
-fn is_possible(core: &[u8], plate: Plate) -> bool
+pub(crate) fn is_possible(core: &[u8], plate: Plate) -> bool
     ensures { λ r. ⌜ r ≡ possible (plateOf plate) (now (core .entry)) ⌝ }
 {
     if !image::is_core(core) {
@@ -40,16 +41,27 @@ fn is_possible(core: &[u8], plate: Plate) -> bool
     state::offset_fits(wire::number_at(core, OFFSET), plate.bits)
 }
 
-// R1 of the waiting codes; that none waits, as is usual, is told at once.
-fn is_sound(core: &[u8]) -> bool
+// R1 of the waiting codes; that none waits, as is usual, or one alone is told at once.
+pub(crate) fn is_sound(core: &[u8]) -> bool
     requires { ⌜ coreLength ≤ length (now core) ⌝ }
     ensures { λ r. ⌜ r ≡ apart (queueOf (stateIn (now (core .entry)) .faults)) ⌝ }
 {
-    if wire::number_at(core, WAITING) == 0 {
+    let waiting = wire::number_at(core, WAITING);
+    if waiting == 0 {
         return true;
     }
-    let state = image::state_in(core);
-    state.faults.is_sound()
+    if waiting < 0x100 {
+        return !state::locks(waiting as u8);
+    }
+    image::faults_in(core).is_sound()
+}
+
+// Whether a code waits: one of the four places is not 00h.
+fn waits(core: &[u8]) -> bool
+    requires { ⌜ coreLength ≤ length (now core) ⌝ }
+    ensures { λ r. ⌜ r ≡ waits (queueOf (stateIn (now (core .entry)) .faults)) ⌝ }
+{
+    wire::number_at(core, WAITING) != 0
 }
 
 // Whether the core's open frame is over at that tick.
@@ -61,7 +73,7 @@ fn is_over(core: &[u8], tick: u32, plate: Plate) -> bool
     frame.is_over(plate, tick)
 }
 
-// A request, worked on the state that the core holds; its bytes end before that place. Only where the state may change are its bytes written.
+// A request, worked on the state that the core holds; its bytes end before that place. Only what changes of the state is written.
 fn served(
     core: &mut [u8],
     plate: Plate,
@@ -80,10 +92,11 @@ fn served(
     }
     let state = image::state_in(core);
     let request = wire::data_part(&core[KEPT..end]);
-    let closed = board::order(plate, state, command, request, memory, room);
-    let next = closed.state;
-    image::put_state(next, core);
-    closed.sent
+    let worked = board::change(plate.bits, state, command, request, room);
+    let effect = worked.effect;
+    let answer = worked.answer;
+    image::put_effect(effect, core);
+    board::send(plate, waits(core), command, answer, room)
 }
 
 // The open frame, judged, worked and answered. The number is the reply's length.

@@ -1,76 +1,89 @@
-// What a host tells besides characters and the time: a measured position, a fault code and power-on (01, "Faults").
-ghost use mathlib.Core.Path.{_≡_};
+// What a host tells besides characters and the time: a measured position, a fault code and power-on (01, "Faults"). Each writes what it changes. R1's
+// three tests stand in every entry: as a function of their own they are called and not inlined, 20 instructions more.
 ghost use mathlib.Core.List.{List};
 ghost use Prim.Native.Nat.{ℕ};
-ghost use lib.ListN.{length};
-ghost use Rattle.meaning.specs.Bytes.{longestRequest};
 ghost use Rattle.meaning.specs.Run as run;
-ghost use Rattle.line.specs.Line.{plateOf};
-ghost use Rattle.board.specs.Board.{Steps};
+ghost use Rattle.state.specs.Queue.{noFaults};
+ghost use Rattle.line.specs.Line.{noFrame};
+ghost use Rattle.image.specs.Image.{stateIn, faultsSet, HoldsState, PutsBoard};
 ghost use Rattle.quicksetter.specs.Calls.{Called};
-ghost use Rattle.quicksetter.specs.Cores.{callFor, CoreCalled};
-use crate::answer::REFUSED;
-use crate::answer::finish;
-use crate::given::board_in;
-use board::Board;
-use board::Stepped;
+ghost use Rattle.quicksetter.specs.Cores.{NotesIn};
+use crate::events::is_possible;
+use crate::events::is_sound;
+use crate::given::REFUSED;
 use image::CORE;
 use image::LENGTH;
-use line::Plate;
+use line::OpenFrame;
+use state::Faults;
 
-pub enum Note {
-    Measured(u32),
-    Fault(u8),
-    PowerOn,
+// 01, "The host notes codes".
+fn note(code: u8, core: &mut [u8])
+    requires { ⌜ HoldsState (now core) ⌝ }
+    ensures { λ _. ⌜ NotesIn code (now (core .entry)) (now (core .exit)) ⌝ }
+{
+    let faults = image::faults_in(core).note(code);
+    image::put_faults(faults, core);
 }
 
-fn told(plate: Plate, board: Board, note: Note) -> Stepped
-    ensures { λ r. ⌜ ((k x y : List ℕ) → length k ≡ longestRequest → Steps (plateOf plate) board k x y (callFor note) r k x y) ⌝ }
+// 01, "Power-on empties the queue, drops an open frame and unlocks; all else stays".
+fn power_on(core: &mut [u8])
+    requires { ⌜ HoldsState (now core) ⌝ }
+    ensures { λ _. ⌜ PutsBoard (faultsSet (stateIn (now (core .entry))) noFaults) noFrame (now (core .entry)) (now (core .exit)) ⌝ }
 {
-    match note {
-        Note::Measured(position) => board::measured(plate, board, position),
-        Note::Fault(code) => board::fault(plate, board, code),
-        Note::PowerOn => board::power_on(plate, board),
-    }
-}
-
-// The core's board is told, and goes back to its core.
-fn tell_core(plate: Plate, note: Note, core: &mut [u8]) -> usize
-    ensures { λ r. ⌜ ((m w : List ℕ) → CoreCalled (plateOf plate) (now (core .entry)) m w (callFor note) r (now (core .exit)) m w) ⌝ }
-{
-    if !image::is_core(core) {
-        return REFUSED + 1;
-    }
-    finish(told(plate, board_in(core), note), core)
-}
-
-fn tell(note: Note, image: &mut [u8]) -> usize
-    ensures { λ r. ⌜ ((m w : List ℕ) → Called (now (image .entry)) m w (callFor note) r (now (image .exit)) m w) ⌝ }
-{
-    if !image::is_ours(image) {
-        return REFUSED + 1;
-    }
-    let plate = image::plate_in(image);
-    tell_core(plate, note, &mut image[CORE..LENGTH])
+    image::put_faults(Faults::none(), core);
+    image::put_frame(OpenFrame::none(), core);
 }
 
 #[no_mangle]
 pub extern "C" fn qs_measured(image: &mut [u8], position: u32) -> usize
     ensures { λ r. ⌜ ((m w : List ℕ) → Called (now (image .entry)) m w (run.measured position) r (now (image .exit)) m w) ⌝ }
 {
-    tell(Note::Measured(position), image)
+    if !image::is_ours(image) {
+        return REFUSED + 1;
+    }
+    let plate = image::plate_in(image);
+    if !is_possible(&image[CORE..LENGTH], plate) {
+        return REFUSED + 1;
+    }
+    if !is_sound(&image[CORE..LENGTH]) {
+        return REFUSED + 1;
+    }
+    image::put_measured(position, &mut image[CORE..LENGTH]);
+    0
 }
 
 #[no_mangle]
 pub extern "C" fn qs_fault(image: &mut [u8], code: u8) -> usize
     ensures { λ r. ⌜ ((m w : List ℕ) → Called (now (image .entry)) m w (run.fault code) r (now (image .exit)) m w) ⌝ }
 {
-    tell(Note::Fault(code), image)
+    if !image::is_ours(image) {
+        return REFUSED + 1;
+    }
+    let plate = image::plate_in(image);
+    if !is_possible(&image[CORE..LENGTH], plate) {
+        return REFUSED + 1;
+    }
+    if !is_sound(&image[CORE..LENGTH]) {
+        return REFUSED + 1;
+    }
+    note(code, &mut image[CORE..LENGTH]);
+    0
 }
 
 #[no_mangle]
 pub extern "C" fn qs_power_on(image: &mut [u8]) -> usize
     ensures { λ r. ⌜ ((m w : List ℕ) → Called (now (image .entry)) m w run.power-on r (now (image .exit)) m w) ⌝ }
 {
-    tell(Note::PowerOn, image)
+    if !image::is_ours(image) {
+        return REFUSED + 1;
+    }
+    let plate = image::plate_in(image);
+    if !is_possible(&image[CORE..LENGTH], plate) {
+        return REFUSED + 1;
+    }
+    if !is_sound(&image[CORE..LENGTH]) {
+        return REFUSED + 1;
+    }
+    power_on(&mut image[CORE..LENGTH]);
+    0
 }

@@ -6,7 +6,7 @@ ghost use Rattle.meaning.specs.Bench as meaning;
 ghost use Rattle.bench.specs.Outcomes.{checkNumber};
 ghost use Rattle.bench.specs.Lengths.{expectedLength};
 ghost use Rattle.quicksetter.specs.Verdicts.{writtenNumber, verdictNumber, verdictCode, expectedNumber, pieceNumber, Writes};
-use crate::answer::REFUSED;
+use crate::given::REFUSED;
 use bench::Expected;
 use bench::Refusal;
 use bench::Verdict;

@@ -2,12 +2,13 @@
 ghost use mathlib.Core.Path.{_≡_};
 ghost use lib.ListN.{length};
 ghost use Rattle.meaning.specs.Bytes.{longestRequest, zeros};
-ghost use Rattle.meaning.specs.State.{none};
+ghost use mathlib.Core.Bool.{true};
+ghost use Rattle.meaning.specs.State.{none, plateOk};
 ghost use Rattle.line.specs.Line.{plateOf};
 ghost use Rattle.state.specs.State.{stateWith};
-ghost use Rattle.image.specs.Image.{coreLength, coreOf};
-ghost use Rattle.quicksetter.specs.Calls.{plateFrom, Makes, Freshens, Restarts};
-use crate::answer::REFUSED;
+ghost use Rattle.image.specs.Image.{imageLength, coreLength, coreOf};
+ghost use Rattle.quicksetter.specs.Calls.{plateFrom, imageOf, Freshens, Restarts};
+use crate::given::REFUSED;
 use crate::given::plate_from;
 use image::CORE;
 use image::CORE_LENGTH;
@@ -29,21 +30,14 @@ fn put_core(state: State, core: &mut [u8])
     image::put_board(state, OpenFrame::none(), core);
 }
 
-fn make(plate: Plate, state: State, image: &mut [u8]) -> usize
-    ensures { λ r. ⌜ Makes (plateOf plate) (stateWith state none) (now (image .entry)) r (now (image .exit)) ⌝ }
+// A possible plate and state are written as an image.
+fn make(plate: Plate, state: State, image: &mut [u8])
+    requires { ⌜ plateOk (plateOf plate) ≡ true ⌝ }
+    requires { ⌜ length (now image) ≡ imageLength ⌝ }
+    ensures { λ _. ⌜ now (image .exit) ≡ imageOf (plateOf plate) (stateWith state none) (zeros longestRequest) ⌝ }
 {
-    if !plate.is_ok() {
-        return REFUSED + 1;
-    }
-    if image.len() != LENGTH {
-        return REFUSED + 1;
-    }
-    if !state.is_ok(plate.bits) {
-        return REFUSED + 1;
-    }
     image::put_head(plate, image);
     put_core(state, &mut image[CORE..LENGTH]);
-    0
 }
 
 #[no_mangle]
@@ -58,7 +52,14 @@ pub extern "C" fn qs_fresh(
     ensures { λ r. ⌜ Freshens (plateOf (plateFrom total bits address ticks pause)) (now (image .entry)) r (now (image .exit)) ⌝ }
 {
     let plate = plate_from(total, bits, address, ticks, pause);
-    make(plate, State::fresh(), image)
+    if !plate.is_ok() {
+        return REFUSED + 1;
+    }
+    if image.len() != LENGTH {
+        return REFUSED + 1;
+    }
+    make(plate, State::fresh(), image);
+    0
 }
 
 // From the bytes that the host kept: codes, counter and offset. The host then gives the measured position.
@@ -78,5 +79,16 @@ pub extern "C" fn qs_restart(
         return REFUSED + 1;
     }
     let plate = plate_from(total, bits, address, ticks, pause);
-    make(plate, image::lasting_in(lasting), image)
+    if !plate.is_ok() {
+        return REFUSED + 1;
+    }
+    if image.len() != LENGTH {
+        return REFUSED + 1;
+    }
+    let state = image::lasting_in(lasting);
+    if !state.is_ok(plate.bits) {
+        return REFUSED + 1;
+    }
+    make(plate, state, image);
+    0
 }

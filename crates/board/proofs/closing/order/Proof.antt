@@ -4,7 +4,7 @@ use denote.Ref.{now}
 use Rattle.line.specs.Line.{plateOf}
 use Rattle.meaning.specs.State.{none}
 use Rattle.board.proofs.Dispatch.{changeable}
-use Rattle.board.proofs.Endings.{served, sendable}
+use Rattle.board.proofs.Endings.{worked-served, sendable}
 use borrow.Author.Needs.{needs}
 use Rattle.board.proofs.closing.order.Statement.{statement}
 use Rattle.board.proofs.closing.order.Tie as tie
@@ -14,24 +14,30 @@ use Rattle.board.proofs.reply.send.Reads as send-reads
 use Rattle.board.proofs.rows.change.Reads as change-reads
 use Rattle.state.proofs.faults.Faults.waits.Reads as waits-reads
 use Rattle.state.proofs.state.State.after.Reads as after-reads
+
 change-requires : tie.Need-change-requires
 change-requires c κs =
     let start = c .before .before .before .before in
     changeable _ _ _ _ _ (start .pre .0) (start .pre .1)
+
 after-requires : tie.Need-after-requires
 after-requires c κs =
     let after-change = c .before .before in
     let start = after-change .before .before .before .before .before in
     (after-change .change .ensures (plateOf (start .args .plate)) (now (start .args .memory)) refl) .row .placed
+
 waits-requires : tie.Need-waits-requires
 waits-requires c κs = search needs
+
 send-requires : tie.Need-send-requires
 send-requires c κs =
     let after-change = c .before .before .before .before .before in
     let start = after-change .before .before .before .before .before in
     sendable _ _ _ _ _ _ (start .pre .0) ((after-change .change .ensures (plateOf (start .args .plate)) (now (start .args .memory)) refl) .row .answer) (search needs)
+
 same-length : tie.Need-same-length
 same-length c = search needs
+
 returns : tie.Need-returns
 returns c =
     let after-send = c .before .before in
@@ -39,7 +45,7 @@ returns c =
     let after-after = after-waits .before in
     let after-change = after-after .before .before .before in
     let start = after-change .before .before .before .before .before in
-    served _ _ _ _ _ _ (start .pre .0 .room) (after-after .after .result) (after-change .change .ensures (plateOf (start .args .plate)) (now (start .args .memory)) refl) (after-after .after .ensures none) (after-send .send .ensures (after-after .after .result) (after-waits .waits .ensures))
+    worked-served _ _ _ _ _ _ (start .pre .0 .room) (after-after .after .result) (after-change .change .ensures (plateOf (start .args .plate)) (now (start .args .memory)) refl) (after-after .after .ensures none) (after-send .send .ensures (after-after .after .result) (after-waits .waits .ensures))
 
 pub order-spec : {M : Type 1} → statement M
 order-spec =

@@ -7,28 +7,40 @@ use Rattle.image.proofs.read.state_in.Reads as reads
 use Rattle.image.proofs.read.state_in.Lts as lts
 use Rattle.image.proofs.read.faults_in.Reads as faults-in-reads
 use Rattle.wire.proofs.number_at.Reads as number-at-reads
+
 shared-slice-read-t5 : tie.Need-shared-slice-read-t5
 shared-slice-read-t5 c = search needs
+
 add-t6 : tie.Need-add-t6
 add-t6 c = search needs
+
 shared-slice-read-t8 : tie.Need-shared-slice-read-t8
 shared-slice-read-t8 c = search needs
+
 add-t9 : tie.Need-add-t9
 add-t9 c = search needs
+
 shared-slice-read-t11 : tie.Need-shared-slice-read-t11
 shared-slice-read-t11 c = search needs
+
 add-t12 : tie.Need-add-t12
 add-t12 c = search needs
+
 shared-slice-read-t14 : tie.Need-shared-slice-read-t14
 shared-slice-read-t14 c = search needs
+
 faults-in-requires : tie.Need-faults-in-requires
 faults-in-requires c κs = search needs
+
 number-at-requires : tie.Need-number-at-requires
 number-at-requires c κs = search needs
+
 number-at-requires-2 : tie.Need-number-at-requires-2
 number-at-requires-2 c κs = search needs
+
 number-at-requires-3 : tie.Need-number-at-requires-3
 number-at-requires-3 c κs = search needs
+
 returns : tie.Need-returns
 unfolding stateIn
 returns c =
@@ -36,6 +48,7 @@ returns c =
     let after-number-at = after-number-at2 .before in
     let after-faults-in = after-number-at .before in
     rw (after-faults-in .faults-in .ensures, after-number-at .number-at .ensures, after-number-at2 .number-at2 .ensures, c .number-at3 .ensures)
+
 pub state-in-spec : {M : Type 1} → statement M
 state-in-spec =
     tie.close

@@ -8,20 +8,28 @@ use Rattle.image.proofs.write.put_faults.Reads as reads
 use Rattle.image.proofs.write.put_faults.Lts as lts
 use Rattle.image.proofs.write.flag_byte.Reads as flag-byte-reads
 use Rattle.wire.proofs.fill.Reads as fill-reads
+
 flag-byte-requires : tie.Need-flag-byte-requires
 flag-byte-requires c κs = search needs
+
 slice-aggregate-fill : tie.Need-slice-aggregate-fill
 slice-aggregate-fill c = search needs
+
 sub-fill : tie.Need-sub-fill
 sub-fill c = search needs
+
 part-fill-start : tie.Need-part-fill-start
 part-fill-start c = search needs
+
 part-fill-end : tie.Need-part-fill-end
 part-fill-end c = search needs
+
 fill-requires : tie.Need-fill-requires
 fill-requires c κs = search needs
+
 same-length : tie.Need-same-length
 same-length c = search needs
+
 returns : tie.Need-returns
 returns c =
     let after-fill = c .before .before in

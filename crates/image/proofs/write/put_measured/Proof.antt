@@ -7,16 +7,22 @@ use Rattle.image.proofs.write.put_measured.Tie as tie
 use Rattle.image.proofs.write.put_measured.Reads as reads
 use Rattle.image.proofs.write.put_measured.Lts as lts
 use Rattle.image.proofs.write.put_number.Reads as put-number-reads
+
 sub-put-number : tie.Need-sub-put-number
 sub-put-number c = search needs
+
 part-put-number-start : tie.Need-part-put-number-start
 part-put-number-start c = search needs
+
 part-put-number-end : tie.Need-part-put-number-end
 part-put-number-end c = search needs
+
 put-number-requires : tie.Need-put-number-requires
 put-number-requires c κs = search needs
+
 same-length : tie.Need-same-length
 same-length c = search needs
+
 returns : tie.Need-returns
 returns c =
     let after-put-number = c .before .before in

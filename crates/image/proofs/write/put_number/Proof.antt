@@ -6,14 +6,19 @@ use Rattle.image.proofs.write.put_number.Reads as reads
 use Rattle.image.proofs.write.put_number.Lts as lts
 use Rattle.wire.proofs.fill.Reads as fill-reads
 use Rattle.wire.proofs.bytes_of.Reads as bytes-of-reads
+
 bytes-of-requires : tie.Need-bytes-of-requires
 bytes-of-requires c κs = search needs
+
 slice-aggregate-fill : tie.Need-slice-aggregate-fill
 slice-aggregate-fill c = search needs
+
 fill-requires : tie.Need-fill-requires
 fill-requires c κs = search needs
+
 same-length : tie.Need-same-length
 same-length c = search needs
+
 returns : tie.Need-returns
 returns c =
     let after-fill = c .before .before in

@@ -1,30 +1,57 @@
 -- `quicksetter::events::is_sound` meets its contract. Assumes nothing.
 use mathlib.Core.Path.{sym, _∙_}
-use Rattle.quicksetter.proofs.Refusing.{none-wait}
+use Rattle.quicksetter.proofs.Refusing.{none-wait, one-waits}
 use borrow.Author.Needs.{needs}
 use Rattle.quicksetter.proofs.events.is_sound.Statement.{statement}
 use Rattle.quicksetter.proofs.events.is_sound.Tie as tie
 use Rattle.quicksetter.proofs.events.is_sound.Reads as reads
 use Rattle.quicksetter.proofs.events.is_sound.Lts as lts
+use Rattle.image.proofs.faults_in.Reads as faults-in-reads
 use Rattle.state.proofs.faults.Faults.is_sound.Reads as is-sound-reads
+use Rattle.state.proofs.locks.Reads as locks-reads
 use Rattle.wire.proofs.number_at.Reads as number-at-reads
-use Rattle.image.proofs.state_in.Reads as state-in-reads
 
 number-at-requires : tie.Need-number-at-requires
 number-at-requires c κs = search needs
 
 returns : tie.Need-returns
-returns c = none-wait _ (sym (c .before .number-at .ensures) ∙ c .if1 .taken)
+returns c =
+    let after-number-at = c .before in
+    none-wait _ (sym (after-number-at .number-at .ensures) ∙ c .if1 .taken)
 
-state-in-requires : tie.Need-state-in-requires
-state-in-requires c κs = search needs
+cast-locks : tie.Need-cast-locks
+cast-locks c = search needs
+
+locks-requires : tie.Need-locks-requires
+locks-requires c κs = search needs
+
+returns-2 : tie.Need-returns-2
+returns-2 c =
+    let after-if2 = c .before in
+    let after-if1 = after-if2 .before in
+    let after-number-at = after-if1 .before in
+    one-waits _ (λ e. after-if1 .if1 .left (after-number-at .number-at .ensures ∙ e)) (rw (after-number-at .number-at .ensures) at (after-if2 .if2 .taken)) (rw (after-number-at .number-at .ensures) at (c .locks .ensures))
+
+faults-in-requires : tie.Need-faults-in-requires
+faults-in-requires c κs = search needs
 
 is-sound-requires : tie.Need-is-sound-requires
 is-sound-requires c κs = search needs
 
-returns-2 : tie.Need-returns-2
-returns-2 c = rw (c .before .state-in .ensures) at (c .is-sound .ensures)
+returns-3 : tie.Need-returns-3
+returns-3 c =
+    let after-faults-in = c .before in
+    rw (after-faults-in .faults-in .ensures) at (c .is-sound .ensures)
 
 pub is-sound-spec : {M : Type 1} → statement M
 is-sound-spec =
-    tie.close (tie.spec number-at-requires returns state-in-requires is-sound-requires returns-2)
+    tie.close
+    (tie.spec
+    number-at-requires
+    returns
+    cast-locks
+    locks-requires
+    returns-2
+    faults-in-requires
+    is-sound-requires
+    returns-3)

@@ -1,13 +1,21 @@
 -- `quicksetter::starts::qs_restart` meets its contract. Assumes nothing.
-use Rattle.quicksetter.proofs.Starting.{no-lasting, restarts}
+use mathlib.Core.Path.{refl, sym, _∙_}
+use denote.Ref.{now}
+use borrow.Author.Tests.{not-true, not-false}
+use Rattle.meaning.specs.State.{Plate, none}
+use Rattle.line.specs.Line.{plateOf}
+use Rattle.quicksetter.specs.Calls.{plateFrom}
+use Rattle.quicksetter.proofs.Starting.{no-lasting, restarts, no-plate, no-length, no-state, started, nothing-short}
 use borrow.Author.Needs.{needs}
 use Rattle.quicksetter.proofs.starts.qs_restart.Statement.{statement}
 use Rattle.quicksetter.proofs.starts.qs_restart.Tie as tie
 use Rattle.quicksetter.proofs.starts.qs_restart.Reads as reads
 use Rattle.quicksetter.proofs.starts.qs_restart.Lts as lts
 use Rattle.image.proofs.lasting_in.Reads as lasting-in-reads
+use Rattle.line.proofs.plate.Plate.is_ok.Reads as plate-Plate-is-ok-reads
 use Rattle.quicksetter.proofs.given.plate_from.Reads as plate-from-reads
 use Rattle.quicksetter.proofs.starts.make.Reads as make-reads
+use Rattle.state.proofs.state.State.is_ok.Reads as state-State-is-ok-reads
 
 add-result : tie.Need-add-result
 add-result c = search needs
@@ -18,22 +26,76 @@ returns c = no-lasting _ _ _ (c .if1 .taken)
 plate-from-requires : tie.Need-plate-from-requires
 plate-from-requires c κs = search needs
 
+is-ok-requires : tie.Need-is-ok-requires
+is-ok-requires c κs = search needs
+
+add-result-2 : tie.Need-add-result-2
+add-result-2 c = search needs
+
+returns-2 : tie.Need-returns-2
+returns-2 c =
+    let after-is-ok = c .before in
+    let after-plate-from = after-is-ok .before in
+    let after-if1 = after-plate-from .before in
+    restarts _ _ _ (after-if1 .if1 .left) (no-plate _ _ _ (rw (after-plate-from .plate-from .ensures) at (sym (after-is-ok .is-ok .ensures) ∙ not-true _ (c .if2 .taken))))
+
+add-result-3 : tie.Need-add-result-3
+add-result-3 c = search needs
+
+returns-3 : tie.Need-returns-3
+returns-3 c =
+    let after-if2 = c .before in
+    let after-is-ok = after-if2 .before in
+    let after-plate-from = after-is-ok .before in
+    let after-if1 = after-plate-from .before in
+    restarts _ _ _ (after-if1 .if1 .left) (no-length _ _ _ (rw (after-plate-from .plate-from .ensures) at (sym (after-is-ok .is-ok .ensures) ∙ not-false _ (after-if2 .if2 .left))) (c .if3 .taken))
+
 lasting-in-requires : tie.Need-lasting-in-requires
 lasting-in-requires c κs = search needs
 
+is-ok-requires-2 : tie.Need-is-ok-requires-2
+is-ok-requires-2 c κs = search needs
+
+add-result-4 : tie.Need-add-result-4
+add-result-4 c = search needs
+
+returns-4 : tie.Need-returns-4
+returns-4 c =
+    let after-is-ok2 = c .before in
+    let after-lasting-in = after-is-ok2 .before in
+    let after-if3 = after-lasting-in .before in
+    let after-if2 = after-if3 .before in
+    let after-is-ok = after-if2 .before in
+    let after-plate-from = after-is-ok .before in
+    let after-if1 = after-plate-from .before in
+    let start = after-if1 .before .before .before in
+    let p : Plate = plateOf (plateFrom (start .args .total) (start .args .bits) (start .args .address) (start .args .ticks) (start .args .pause)) in
+    restarts _ _ _ (after-if1 .if1 .left) (no-state p _ _ (rw (after-plate-from .plate-from .ensures) at (sym (after-is-ok .is-ok .ensures) ∙ not-false _ (after-if2 .if2 .left))) (after-if3 .if3 .left) (rw (after-lasting-in .lasting-in .ensures) at (sym (after-is-ok2 .is-ok2 .ensures p none (rw (after-plate-from .plate-from .ensures)) nothing-short) ∙ not-true _ (c .if4 .taken))))
+
 make-requires : tie.Need-make-requires
-make-requires c κs = search needs
+make-requires c κs =
+    let after-if3 = c .before .before .before .before in
+    let after-if2 = after-if3 .before in
+    let after-is-ok = after-if2 .before in
+    (sym (after-is-ok .is-ok .ensures) ∙ not-false _ (after-if2 .if2 .left), after-if3 .if3 .left)
 
 same-length : tie.Need-same-length
 same-length c = search needs
 
-returns-2 : tie.Need-returns-2
-returns-2 c =
+returns-5 : tie.Need-returns-5
+returns-5 c =
     let after-make = c .before .before in
-    let after-lasting-in = after-make .before .before in
-    let after-plate-from = after-lasting-in .before in
+    let after-if4 = after-make .before .before in
+    let after-is-ok2 = after-if4 .before in
+    let after-lasting-in = after-is-ok2 .before in
+    let after-if3 = after-lasting-in .before in
+    let after-if2 = after-if3 .before in
+    let after-is-ok = after-if2 .before in
+    let after-plate-from = after-is-ok .before in
     let after-if1 = after-plate-from .before in
-    restarts _ _ _ (after-if1 .if1 .left) (rw (after-plate-from .plate-from .ensures, after-lasting-in .lasting-in .ensures) at (after-make .make .ensures))
+    let start = after-if1 .before .before .before in
+    let p : Plate = plateOf (plateFrom (start .args .total) (start .args .bits) (start .args .address) (start .args .ticks) (start .args .pause)) in
+    restarts _ _ _ (after-if1 .if1 .left) (started p _ (now (start .args .image)) (rw (after-plate-from .plate-from .ensures) at (sym (after-is-ok .is-ok .ensures) ∙ not-false _ (after-if2 .if2 .left))) (after-if3 .if3 .left) (rw (after-lasting-in .lasting-in .ensures) at (sym (after-is-ok2 .is-ok2 .ensures p none (rw (after-plate-from .plate-from .ensures)) nothing-short) ∙ not-false _ (after-if4 .if4 .left))) (rw (after-plate-from .plate-from .ensures, after-lasting-in .lasting-in .ensures) at (after-make .make .ensures)))
 
 pub qs-restart-spec : {M : Type 1} → statement M
 qs-restart-spec =
@@ -42,7 +104,15 @@ qs-restart-spec =
     add-result
     returns
     plate-from-requires
+    is-ok-requires
+    add-result-2
+    returns-2
+    add-result-3
+    returns-3
     lasting-in-requires
+    is-ok-requires-2
+    add-result-4
+    returns-4
     make-requires
     same-length
-    returns-2)
+    returns-5)

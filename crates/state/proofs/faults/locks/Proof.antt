@@ -4,6 +4,7 @@ use Rattle.state.proofs.faults.locks.Statement.{statement}
 use Rattle.state.proofs.faults.locks.Tie as tie
 use Rattle.state.proofs.faults.locks.Reads as reads
 use Rattle.state.proofs.faults.locks.Lts as lts
+
 returns : tie.Need-returns
 returns c = either-locks _
 

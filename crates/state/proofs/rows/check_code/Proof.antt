@@ -5,10 +5,13 @@ use Rattle.state.proofs.rows.check_code.Statement.{statement}
 use Rattle.state.proofs.rows.check_code.Tie as tie
 use Rattle.state.proofs.rows.check_code.Reads as reads
 use Rattle.state.proofs.rows.check_code.Lts as lts
+
 array-read-if1 : tie.Need-array-read-if1
 array-read-if1 c = search needs
+
 returns : tie.Need-returns
 returns c = simp (eq-eqb _ _ (c .if1 .taken))
+
 returns-2 : tie.Need-returns-2
 returns-2 c = simp (ne-eqb _ _ (c .if1 .left))
 

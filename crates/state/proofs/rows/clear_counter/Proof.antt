@@ -11,17 +11,22 @@ use Rattle.state.proofs.rows.accepted.Reads as accepted-reads
 use Rattle.state.proofs.rows.check_code.Reads as check-code-reads
 use Rattle.state.proofs.rows.refused.Reads as refused-reads
 use Rattle.wire.proofs.byte_at.Reads as byte-at-reads
+
 byte-at-requires : tie.Need-byte-at-requires
 byte-at-requires c κs = search needs
+
 check-code-requires : tie.Need-check-code-requires
 check-code-requires c κs = search needs
 
 enum-told : tie.Need-enum-told
 enum-told c = search needs
+
 enum-told-2 : tie.Need-enum-told-2
 enum-told-2 c = search needs
+
 refused-requires : tie.Need-refused-requires
 refused-requires c κs = search needs
+
 returns : tie.Need-returns
 returns c =
     let after-enum-told2 = c .before in
@@ -29,8 +34,10 @@ returns c =
     let after-byte-at = after-check-code .before in
     let start = after-byte-at .before .before .before in
     λ p l m w. barred-49 p _ l m _ w (c .refused .ensures) (given-byte (getD (start .args .state .codes) 0 0) (after-byte-at .byte-at .ensures) (sym (after-check-code .check-code .ensures) ∙ after-enum-told2 .enum-told2 .given .1))
+
 accepted-requires : tie.Need-accepted-requires
 accepted-requires c κs = search needs
+
 returns-2 : tie.Need-returns-2
 returns-2 c =
     let after-enum-told = c .before in

@@ -7,12 +7,16 @@ use Rattle.state.proofs.rows.read_counter.Reads as reads
 use Rattle.state.proofs.rows.read_counter.Lts as lts
 use Rattle.state.proofs.rows.accepted.Reads as accepted-reads
 use Rattle.state.proofs.rows.put_bytes3.Reads as put-bytes3-reads
+
 put-bytes3-requires : tie.Need-put-bytes3-requires
 put-bytes3-requires c κs = search needs
+
 accepted-requires : tie.Need-accepted-requires
 accepted-requires c κs = search needs
+
 same-length : tie.Need-same-length
 same-length c = search needs
+
 returns : tie.Need-returns
 returns c =
     let after-put-bytes3 = c .before .before .before in

@@ -7,14 +7,19 @@ use Rattle.state.proofs.rows.read_fault.Reads as reads
 use Rattle.state.proofs.rows.read_fault.Lts as lts
 use Rattle.state.proofs.rows.accepted.Reads as accepted-reads
 use Rattle.state.proofs.state.State.read.Reads as read-reads
+
 read-requires : tie.Need-read-requires
 read-requires c κs = search needs
+
 slice-write-room : tie.Need-slice-write-room
 slice-write-room c = search needs
+
 accepted-requires : tie.Need-accepted-requires
 accepted-requires c κs = search needs
+
 same-length : tie.Need-same-length
 same-length c = search needs
+
 returns : tie.Need-returns
 returns c =
     let after-read = c .before in

@@ -12,28 +12,37 @@ use Rattle.state.proofs.rows.check_unlocked.Reads as check-unlocked-rea
 use Rattle.state.proofs.rows.position.Reads as position-reads
 use Rattle.state.proofs.rows.put_bytes4.Reads as put-bytes4-reads
 use Rattle.state.proofs.rows.refused.Reads as refused-reads
+
 check-unlocked-requires : tie.Need-check-unlocked-requires
 check-unlocked-requires c κs = search needs
 
 enum-told : tie.Need-enum-told
 enum-told c = search needs
+
 enum-told-2 : tie.Need-enum-told-2
 enum-told-2 c = search needs
+
 refused-requires : tie.Need-refused-requires
 refused-requires c κs = search needs
+
 returns : tie.Need-returns
 returns c =
     let after-enum-told2 = c .before in
     let after-check-unlocked = after-enum-told2 .before .before in
     λ p l m d e. locked-42 p _ l m d _ (c .refused .ensures) (failed _ (sym (after-check-unlocked .check-unlocked .ensures) ∙ after-enum-told2 .enum-told2 .given .1))
+
 position-requires : tie.Need-position-requires
 position-requires c κs = search needs
+
 put-bytes4-requires : tie.Need-put-bytes4-requires
 put-bytes4-requires c κs = search needs
+
 accepted-requires : tie.Need-accepted-requires
 accepted-requires c κs = search needs
+
 same-length : tie.Need-same-length
 same-length c = search needs
+
 returns-2 : tie.Need-returns-2
 returns-2 c =
     let after-put-bytes4 = c .before .before .before in

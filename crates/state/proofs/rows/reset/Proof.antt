@@ -5,6 +5,7 @@ use Rattle.state.proofs.rows.reset.Statement.{statement}
 use Rattle.state.proofs.rows.reset.Tie as tie
 use Rattle.state.proofs.rows.reset.Reads as reads
 use Rattle.state.proofs.rows.reset.Lts as lts
+
 returns : tie.Need-returns
 returns c = λ p l m d w. quiet-53 p _ l m d w refl
 

@@ -14,31 +14,40 @@ use Rattle.state.proofs.rows.check_unlocked.Reads as check-unlocked-rea
 use Rattle.state.proofs.rows.number_of.Reads as number-of-reads
 use Rattle.state.proofs.rows.offset_for.Reads as offset-for-reads
 use Rattle.state.proofs.rows.refused.Reads as refused-reads
+
 check-unlocked-requires : tie.Need-check-unlocked-requires
 check-unlocked-requires c κs = search needs
 
 enum-told : tie.Need-enum-told
 enum-told c = search needs
+
 enum-told-2 : tie.Need-enum-told-2
 enum-told-2 c = search needs
+
 refused-requires : tie.Need-refused-requires
 refused-requires c κs = search needs
+
 returns : tie.Need-returns
 returns c =
     let after-enum-told2 = c .before in
     let after-check-unlocked = after-enum-told2 .before .before in
     λ p l m w e. locked-43 p _ l m _ w (c .refused .ensures) (failed _ (sym (after-check-unlocked .check-unlocked .ensures) ∙ after-enum-told2 .enum-told2 .given .1))
+
 shared-slice-read-check-code : tie.Need-shared-slice-read-check-code
 shared-slice-read-check-code c = search needs
+
 check-code-requires : tie.Need-check-code-requires
 check-code-requires c κs = search needs
 
 enum-told-3 : tie.Need-enum-told-3
 enum-told-3 c = search needs
+
 enum-told-4 : tie.Need-enum-told-4
 enum-told-4 c = search needs
+
 refused-requires-2 : tie.Need-refused-requires-2
 refused-requires-2 c κs = search needs
+
 returns-2 : tie.Need-returns-2
 returns-2 c =
     let after-enum-told4 = c .before in
@@ -46,25 +55,34 @@ returns-2 c =
     let after-enum-told = after-check-code .before .before .before in
     let after-check-unlocked = after-enum-told .before .before in
     λ p l m w e. barred-43 p _ l m _ w (passed _ (sym (after-check-unlocked .check-unlocked .ensures) ∙ after-enum-told .enum-told .given .1)) (c .refused2 .ensures) (sym (after-check-code .check-code .ensures) ∙ after-enum-told4 .enum-told4 .given .1)
+
 shared-slice-read-number-of : tie.Need-shared-slice-read-number-of
 shared-slice-read-number-of c = search needs
+
 shared-slice-read-number-of-2 : tie.Need-shared-slice-read-number-of-2
 shared-slice-read-number-of-2 c = search needs
+
 shared-slice-read-number-of-3 : tie.Need-shared-slice-read-number-of-3
 shared-slice-read-number-of-3 c = search needs
+
 shared-slice-read-number-of-4 : tie.Need-shared-slice-read-number-of-4
 shared-slice-read-number-of-4 c = search needs
+
 number-of-requires : tie.Need-number-of-requires
 number-of-requires c κs = search needs
+
 check-position-requires : tie.Need-check-position-requires
 check-position-requires c κs = search needs
 
 enum-told-5 : tie.Need-enum-told-5
 enum-told-5 c = search needs
+
 enum-told-6 : tie.Need-enum-told-6
 enum-told-6 c = search needs
+
 refused-requires-3 : tie.Need-refused-requires-3
 refused-requires-3 c κs = search needs
+
 returns-3 : tie.Need-returns-3
 returns-3 c =
     let after-enum-told6 = c .before in
@@ -78,10 +96,13 @@ returns-3 c =
     let wanted = wanted-of (start .args .request .now) (start .pre .1) (after-number-of .number-of .ensures .0) in
     λ p l m w e. high-43 p _ l m _ w (passed _ (sym (after-check-unlocked .check-unlocked .ensures) ∙ after-enum-told .enum-told .given .1)) (sym (after-check-code .check-code .ensures) ∙ after-enum-told3 .enum-told3 .given .1) (c .refused3 .ensures)
     (reaches e wanted (failed _ (sym (after-check-position .check-position .ensures) ∙ after-enum-told6 .enum-told6 .given .1)))
+
 offset-for-requires : tie.Need-offset-for-requires
 offset-for-requires c κs = search needs
+
 accepted-requires : tie.Need-accepted-requires
 accepted-requires c κs = search needs
+
 returns-4 : tie.Need-returns-4
 returns-4 c =
     let after-offset-for = c .before in
