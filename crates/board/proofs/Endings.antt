@@ -1,13 +1,12 @@
 -- A closed frame by its judgement: silence, an error code, a request worked and answered. Assumes nothing.
-use Prim.Native.Nat.{ℕ, suc, _+_, _-_, _≤_, _<_}
+use Prim.Native.Nat.{ℕ, _+_, _-_, _≤_}
 use native.Mathlib.Omega.{arith}
 use mathlib.Core.Path.{_≡_, refl, sym, ap, _∙_}
-use mathlib.Core.Bool.{Bool, true, false, false≢true}
+use mathlib.Core.Bool.{true, false, false≢true}
 use mathlib.Core.List.{List, [], _∷_}
-use borrow.Author.Tests.{ne-eqb, ltb-true, ltb-false}
-use lib.Dec.{eqb, ltb}
-use lib.ListN.{length, take, drop, length-take}
-use lib.Seq.{length-take-le, take-take, take-nil}
+use borrow.Author.Tests.{ltb-false}
+use lib.Dec.{eqb}
+use lib.ListN.{length, take}
 use Rattle.meaning.specs.Bytes.{longestReply, put, part}
 use Rattle.meaning.specs.State as meaning
 use Rattle.meaning.specs.State.{none, ownByte}
@@ -35,8 +34,7 @@ use Rattle.state.specs.declared.effects.Effect.{Effect}
 use Rattle.state.specs.Effects.{effectOn}
 use Rattle.board.specs.declared.closing.Closed.{Closed}
 use Rattle.state.specs.State.{stateWith}
-use Rattle.state.proofs.Answering.{put-nothing}
-use Rattle.state.proofs.Same.{same-state}
+use Rattle.state.proofs.Same.{same-state, row-tight}
 use Rattle.board.specs.Work.{Ready, Workable, WorksOn, Tells, replyOf, Brief, Answerable, Sendable, Sends, faultReply, Refused, Serves, Closes}
 use Rattle.board.proofs.Sending.{part-length, sealed-length}
 
@@ -179,6 +177,10 @@ serves-tight p s c d m w t u x y =
       memory = x .memory ∙ sym (y .memory);
       room = x .room ∙ sym (y .room);
     }
+
+pub change-tight : (k : commands.Command) (p : meaning.Plate) (s : State) (d m w : List ℕ) (r t : Worked) (u v : List ℕ) → WorksOn k p s d m w r m u → WorksOn k p s d m w t m v
+    → (r ≡ t) × (u ≡ v)
+change-tight k p s d m w r t u v h i = row-tight k p s none m d w r t u v (h .row) (i .row)
 
 pub sends-tight : (p : meaning.Plate) (s : State) (c : ℕ) (a : Answer) (w : List ℕ) {n k : ℕ} {w′ w″ : List ℕ} → Sends p s c a w n w′ → Sends p s c a w k w″ → (n ≡ k) × (w′ ≡ w″)
 sends-tight p s c a w x y = (x .count ∙ sym (y .count), x .bytes ∙ sym (y .bytes))

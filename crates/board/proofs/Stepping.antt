@@ -5,7 +5,7 @@ use native.Mathlib.Nat.{zero-add}
 use native.Mathlib.Decide.{ℕ-discrete}
 use mathlib.Core.Path.{_≡_, refl, sym, ap, _∙_}
 use mathlib.Core.Bool.{Bool, true, false}
-use mathlib.Core.List.{List, [], _∷_, _++_, append-nil}
+use mathlib.Core.List.{List, [], _++_, append-nil}
 use borrow.Author.Tests.{eq-eqb, ne-eqb, eqb-true, eqb-false}
 use lib.Dec.{eqb}
 use lib.ListN.{length, take, drop, take-append-drop, length-take, length-replicate, drop-of-length-le}
@@ -23,8 +23,6 @@ use Rattle.line.specs.Line.{lineOf, noFrame, Fits, Extends}
 use Rattle.state.specs.declared.state.State.{State}
 use Rattle.state.specs.State.{stateWith}
 use Rattle.meaning.proofs.Rests.{work-rests}
-use Rattle.state.specs.declared.faults.Faults.{Faults}
-use Rattle.state.specs.Queue.{holding, Queues}
 use Rattle.state.proofs.Answering.{put-nothing}
 use Rattle.board.specs.declared.limits.Board.{Board}
 use Rattle.board.specs.declared.limits.Outcome as code
@@ -33,7 +31,7 @@ use Rattle.board.specs.declared.limits.Stepped.{Stepped}
 use Rattle.board.specs.declared.closing.Closed.{Closed}
 use Rattle.board.specs.Board.{stateOf, fitsIn, within, takenIf, refusalOn, refusedAs, isRefusal, calledOn, outcomeOf, Steps}
 use Rattle.board.specs.Work.{Closes}
-use Rattle.board.proofs.Bounding.{lends-poll, alone-by, few-kept, facts, refusal-few, as-told, refused-alike, none-refused, some-refused}
+use Rattle.board.proofs.Bounding.{lends-poll, alone-by, few-kept, facts, as-told, refused-alike, none-refused, some-refused}
 
 -- bytes put where they stand already
 pub put-own : (kept : List ℕ) (n : ℕ) → kept ≡ put kept 0 (take n kept)
@@ -79,10 +77,6 @@ module _ (p : Plate) (b : Board) (k m w : List ℕ) (g : Call) where
       go : (t : Bool) → eqb (refusalOn p b k m (length w) g) 0 ≡ t → (calledOn p b k m w g) .refusal ≡ refusalOn p b k m (length w) g
       go true z = let e = eqb-true (refusalOn p b k m (length w) g) 0 z in ap (λ (h : Held). h .refusal) (held-on e) ∙ sym e
       go false z = ap (λ (h : Held). h .refusal) (held-refused refl (eqb-false (refusalOn p b k m (length w) g) 0 z))
-
-  -- R1 to R3 have no higher number
-  pub held-few : (calledOn p b k m w g) .refusal ≤ 3
-  held-few = rw told-refusal (refusal-few p b k m (length w) g)
 
   pub refused : {o : code.Outcome} {r : Stepped} → r ≡ (record { board = b; outcome = o }) → o ≡ refusedAs (refusalOn p b k m (length w) g) Still
       → isRefusal o ≡ true → Steps p b k m w g r k m w

@@ -25,5 +25,4 @@ pub use write::put_effect;
 pub use write::put_faults;
 pub use write::put_frame;
 pub use write::put_measured;
-pub use write::put_state;
 pub use write::take_character;

@@ -9,7 +9,7 @@ ghost use Rattle.meaning.specs.State.{Line, none};
 ghost use Rattle.meaning.specs.Characters.{more};
 ghost use Rattle.line.specs.Line.{lineOf};
 ghost use Rattle.state.specs.State.{stateWith};
-ghost use Rattle.state.specs.Effects.{Placed};
+ghost use Rattle.state.specs.Effects.{WithinFour};
 ghost use Rattle.wire.specs.Numbers.{low4};
 ghost use Rattle.image.specs.Image.{frameAt, parityAt, keptAt, coreLength, flagByte, isCore, stateIn, frameIn, keptIn, stateBytes, frameRow, measuredSet, faultsSet, counterSet, offsetSet, HoldsState, Open, PutsState, PutsEffect, PutsFrame, PutsBoard, Takes};
 use crate::layout::CORE_LENGTH;
@@ -92,7 +92,7 @@ fn frame_row(frame: OpenFrame, begun: u8, longer: u8, parity: u8) -> [u8; 9]
     ]
 }
 
-pub fn put_state(state: State, core: &mut [u8])
+fn put_state(state: State, core: &mut [u8])
     requires { ⌜ frameAt ≤ length (now core) ⌝ }
     ensures { λ _. ⌜ PutsState state (now (core .entry)) (now (core .exit)) ⌝ }
 {
@@ -146,9 +146,9 @@ fn put_offset(offset: u32, core: &mut [u8])
     put_number(offset, &mut core[OFFSET..MEASURED]);
 }
 
-// What a command changes, in place: nothing is written that does not change.
+// What a command changes, in place: nothing is written that does not change. The codes are the core's first bytes.
 pub fn put_effect(effect: Effect, core: &mut [u8])
-    requires { ⌜ Placed effect ⌝ }
+    requires { ⌜ WithinFour effect ⌝ }
     requires { ⌜ HoldsState (now core) ⌝ }
     ensures { λ _. ⌜ PutsEffect effect (now (core .entry)) (now (core .exit)) ⌝ }
 {

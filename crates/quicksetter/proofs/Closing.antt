@@ -36,7 +36,7 @@ use Rattle.board.proofs.Stepping.{no-line}
 use Rattle.board.proofs.Endings.{own-known, answerable, long, workable, refused, requested, worked-served}
 use Rattle.image.specs.Image.{isCore, stateIn, frameIn, keptIn, heldIn, stateBytes, lineBytes, coreOf, PutsState, PutsEffect, PutsFrame, PutsBoard, Takes}
 use Rattle.image.proofs.Parts.{kept-length, front-length, state-as-it-was, same-front, state-length, puts-board}
-use Rattle.image.proofs.Round.{good, kept-stays, lent-back, core-as-it-was}
+use Rattle.image.proofs.Round.{good, kept-stays, core-as-it-was}
 use Rattle.quicksetter.specs.Calls.{callNumber}
 use Rattle.quicksetter.specs.Cores.{dataTo, coreCalled, coreAfter, CoreCalled, Unrefused, Servable, ServedIn, ClosedIn, Polls}
 use Rattle.quicksetter.proofs.Leaving.{board-left}

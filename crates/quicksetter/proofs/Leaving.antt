@@ -1,19 +1,19 @@
 -- What a call leaves: what is no core; a board written into the core. Assumes nothing.
 use Prim.Native.Nat.{ℕ, _≤_}
 use native.Mathlib.Omega.{arith}
-use mathlib.Core.Path.{_≡_, refl, sym, ap, _∙_}
-use mathlib.Core.Bool.{Bool, true, false}
-use mathlib.Core.List.{List, _++_}
+use mathlib.Core.Path.{_≡_, sym, ap, _∙_}
+use mathlib.Core.Bool.{Bool, false}
+use mathlib.Core.List.{List}
 use lib.ListN.{length}
 use Rattle.meaning.specs.State as meaning
 use Rattle.meaning.specs.State.{Plate}
 use Rattle.meaning.specs.Characters.{over}
-use Rattle.meaning.specs.Run.{Call, Held}
+use Rattle.meaning.specs.Run.{Call}
 use Rattle.line.specs.declared.characters.OpenFrame.{OpenFrame}
 use Rattle.line.specs.Line.{lineOf}
 use Rattle.state.specs.declared.state.State.{State}
 use Rattle.state.specs.State.{stateWith}
-use Rattle.image.specs.Image.{isCore, frameIn, keptIn, heldIn, stateBytes, lineBytes, frameBytes, coreOf, PutsBoard}
+use Rattle.image.specs.Image.{isCore, frameIn, keptIn, heldIn, lineBytes, frameBytes, coreOf, PutsBoard}
 use Rattle.image.proofs.Standing.{line-row}
 use Rattle.image.proofs.Parts.{kept-length}
 use Rattle.image.proofs.Round.{kept-stays}

@@ -1,13 +1,13 @@
 -- What a host tells besides characters and the time, in a core that R1 does not refuse: a measured position, a fault code, power-on. Assumes nothing.
 use Prim.Native.Nat.{ℕ, _<_, _≤_}
 use native.Mathlib.Omega.{arith}
-use mathlib.Core.Path.{_≡_, refl, sym, ap, _∙_}
+use mathlib.Core.Path.{_≡_, refl, ap, _∙_}
 use mathlib.Core.Bool.{true, false}
 use mathlib.Core.List.{List}
 use borrow.Author.Tests.{eq-eqb}
 use lib.Dec.{eqb}
 use lib.ListN.{length}
-use Rattle.meaning.specs.Bytes.{arg, put}
+use Rattle.meaning.specs.Bytes.{arg}
 use Rattle.meaning.specs.State as meaning
 use Rattle.meaning.specs.State.{Plate, Line, none, withMeasured, noted, poweredOn, withQueue, withLock}
 use Rattle.meaning.specs.Fields.{memoryLength}

@@ -14,9 +14,8 @@ use Rattle.meaning.specs.State.{Plate, none, plateOk, stateOk, fresh}
 use Rattle.meaning.proofs.Puts.{length-put}
 use Rattle.meaning.proofs.Limits.{fresh-within}
 use Rattle.meaning.proofs.Choices.{told-true}
-use Rattle.line.specs.declared.plate.Plate as line
 use Rattle.line.specs.declared.characters.OpenFrame.{OpenFrame}
-use Rattle.line.specs.Line.{plateOf, lineOf, noFrame, Fits}
+use Rattle.line.specs.Line.{lineOf, noFrame, Fits}
 use Rattle.state.specs.declared.state.State.{State}
 use Rattle.state.specs.State.{stateWith}
 use Rattle.state.specs.Queue.{queueOf, waiting}

@@ -10,14 +10,14 @@ use Rattle.state.specs.declared.effects.Effect.{Effect}
 use Rattle.state.specs.declared.effects.Effect.the-variants.{Nothing, Code, Counter, Offset, Overflow, OldestRead, Emptied}
 
 -- the codes are four
-abbrev pub Placed : Effect → Type 0
-Placed Nothing = Unit
-Placed (Code n c) = n < 4
-Placed (Counter n) = Unit
-Placed (Offset n) = Unit
-Placed Overflow = Unit
-Placed OldestRead = Unit
-Placed Emptied = Unit
+abbrev pub WithinFour : Effect → Type 0
+WithinFour Nothing = Unit
+WithinFour (Code n c) = n < 4
+WithinFour (Counter n) = Unit
+WithinFour (Offset n) = Unit
+WithinFour Overflow = Unit
+WithinFour OldestRead = Unit
+WithinFour Emptied = Unit
 
 -- the state after it; all else stays
 unfoldable pub effectOn : Effect → State → State
@@ -47,7 +47,7 @@ rowEffect c53 p s d = Emptied
 rowEffect unknown p s d = Nothing
 
 -- 01, "An error reply .. changes nothing else"
-abbrev pub granted : Answer → Effect → Effect
-granted (refuse c) e = Nothing
-granted (accept d s m) e = e
-granted (quiet s m) e = e
+abbrev pub effectOf : Answer → Effect → Effect
+effectOf (refuse c) e = Nothing
+effectOf (accept d s m) e = e
+effectOf (quiet s m) e = e

@@ -136,7 +136,8 @@ returns-2 c =
     let after-data-part2 = after-change .before .before in
     let after-state-in2 = after-data-part2 .before .before .before in
     let start = after-state-in2 .before .before .before .before .before .before .before in
-    ordered-in (plateOf (start .args .plate)) _ _ (now (start .args .core)) _ _ (start .pre .works .room) (rw (after-state-in2 .state-in2 .ensures, after-data-part2 .data-part2 .ensures .0) at (after-change .change .ensures (plateOf (start .args .plate)) (now (start .args .memory)) refl)) (after-put-effect .put-effect .ensures) (after-send .send .ensures _ (after-waits .waits .ensures))
+    let worked = rw (after-state-in2 .state-in2 .ensures, after-data-part2 .data-part2 .ensures .0) at (after-change .change .ensures (plateOf (start .args .plate)) (now (start .args .memory)) refl) in
+    ordered-in (plateOf (start .args .plate)) _ _ (now (start .args .core)) _ _ (start .pre .works .room) worked (after-put-effect .put-effect .ensures) (after-send .send .ensures _ (after-waits .waits .ensures))
 
 pub served-spec : {M : Type 1} → statement M
 served-spec =

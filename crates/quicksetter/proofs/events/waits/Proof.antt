@@ -1,5 +1,4 @@
 -- `quicksetter::events::waits` meets its contract. Assumes nothing.
-use mathlib.Core.Path.{_∙_, ap}
 use Rattle.quicksetter.proofs.Refusing.{word-waits}
 use borrow.Author.Needs.{needs}
 use Rattle.quicksetter.proofs.events.waits.Statement.{statement}

@@ -66,7 +66,8 @@ returns-2 c =
     let after-if1 = after-plate-in .before .before in
     let after-is-ours = after-if1 .before in
     let start = after-is-ours .before .before .before in
-    λ m w. alone-whole (now (start .args .image)) m w (sym (after-is-ours .is-ours .ensures) ∙ not-false _ (after-if1 .if1 .left)) (after-plate-in .plate-in .ensures) _ (lends-measured _) (impossible _ _ _ _ (sym (after-is-possible .is-possible .ensures) ∙ not-true _ (c .if2 .taken))) some-refusal
+    let ours = sym (after-is-ours .is-ours .ensures) ∙ not-false _ (after-if1 .if1 .left) in
+    λ m w. alone-whole (now (start .args .image)) m w ours (after-plate-in .plate-in .ensures) _ (lends-measured _) (impossible _ _ _ _ (sym (after-is-possible .is-possible .ensures) ∙ not-true _ (c .if2 .taken))) some-refusal
 
 sub-is-sound : tie.Need-sub-is-sound
 sub-is-sound c = search needs
@@ -98,7 +99,9 @@ returns-3 c =
     let after-if1 = after-plate-in .before .before in
     let after-is-ours = after-if1 .before in
     let start = after-is-ours .before .before .before in
-    λ m w. alone-whole (now (start .args .image)) m w (sym (after-is-ours .is-ours .ensures) ∙ not-false _ (after-if1 .if1 .left)) (after-plate-in .plate-in .ensures) _ (lends-measured _) (unsound _ _ _ _ (sym (after-is-possible .is-possible .ensures) ∙ not-false _ (after-if2 .if2 .left)) (sym (after-is-sound .is-sound .ensures) ∙ not-true _ (c .if3 .taken))) some-refusal
+    let ours = sym (after-is-ours .is-ours .ensures) ∙ not-false _ (after-if1 .if1 .left) in
+    λ m w. alone-whole (now (start .args .image)) m w ours (after-plate-in .plate-in .ensures) _ (lends-measured _)
+    (unsound _ _ _ _ (sym (after-is-possible .is-possible .ensures) ∙ not-false _ (after-if2 .if2 .left)) (sym (after-is-sound .is-sound .ensures) ∙ not-true _ (c .if3 .taken))) some-refusal
 
 sub-put-measured : tie.Need-sub-put-measured
 sub-put-measured c = search needs
@@ -135,7 +138,10 @@ returns-4 c =
     let after-is-ours = after-if1 .before in
     let after-slice-known = after-is-ours .before .before in
     let start = after-slice-known .before in
-    λ m w. called-whole (now (start .args .image)) m w _ (sym (after-is-ours .is-ours .ensures) ∙ not-false _ (after-if1 .if1 .left)) (after-plate-in .plate-in .ensures) (measured-in _ _ (free-core _ _ (sym (after-is-possible .is-possible .ensures) ∙ not-false _ (after-if2 .if2 .left)) (sym (after-is-sound .is-sound .ensures) ∙ not-false _ (after-if3 .if3 .left))) (lent-small _ (sym (after-is-ours .is-ours .ensures) ∙ not-false _ (after-if1 .if1 .left)) (λ i. (after-slice-known .slice-known .given i) .fits)) m w _ (after-put-measured .put-measured .ensures))
+    let ours = sym (after-is-ours .is-ours .ensures) ∙ not-false _ (after-if1 .if1 .left) in
+    let free = free-core _ _ (sym (after-is-possible .is-possible .ensures) ∙ not-false _ (after-if2 .if2 .left)) (sym (after-is-sound .is-sound .ensures) ∙ not-false _ (after-if3 .if3 .left)) in
+    let small = lent-small _ ours (λ i. (after-slice-known .slice-known .given i) .fits) in
+    λ m w. called-whole (now (start .args .image)) m w _ ours (after-plate-in .plate-in .ensures) (measured-in _ _ free small m w _ (after-put-measured .put-measured .ensures))
 
 pub qs-measured-spec : {M : Type 1} → statement M
 qs-measured-spec =

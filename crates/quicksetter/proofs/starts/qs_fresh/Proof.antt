@@ -64,7 +64,8 @@ returns-3 c =
     let after-plate-from = after-is-ok .before in
     let start = after-plate-from .before .before in
     let p : Plate = plateOf (plateFrom (start .args .total) (start .args .bits) (start .args .address) (start .args .ticks) (start .args .pause)) in
-    started p _ (now (start .args .image)) (rw (after-plate-from .plate-from .ensures) at (sym (after-is-ok .is-ok .ensures) ∙ not-false _ (after-if1 .if1 .left))) (after-if2 .if2 .left) (fresh-fine p) (rw (after-plate-from .plate-from .ensures, after-fresh .fresh .ensures p) at (after-make .make .ensures))
+    let fine = rw (after-plate-from .plate-from .ensures) at (sym (after-is-ok .is-ok .ensures) ∙ not-false _ (after-if1 .if1 .left)) in
+    started p _ (now (start .args .image)) fine (after-if2 .if2 .left) (fresh-fine p) (rw (after-plate-from .plate-from .ensures, after-fresh .fresh .ensures p) at (after-make .make .ensures))
 
 pub qs-fresh-spec : {M : Type 1} → statement M
 qs-fresh-spec =

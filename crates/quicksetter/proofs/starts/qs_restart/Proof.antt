@@ -1,5 +1,5 @@
 -- `quicksetter::starts::qs_restart` meets its contract. Assumes nothing.
-use mathlib.Core.Path.{refl, sym, _∙_}
+use mathlib.Core.Path.{sym, _∙_}
 use denote.Ref.{now}
 use borrow.Author.Tests.{not-true, not-false}
 use Rattle.meaning.specs.State.{Plate, none}
@@ -70,7 +70,9 @@ returns-4 c =
     let after-if1 = after-plate-from .before in
     let start = after-if1 .before .before .before in
     let p : Plate = plateOf (plateFrom (start .args .total) (start .args .bits) (start .args .address) (start .args .ticks) (start .args .pause)) in
-    restarts _ _ _ (after-if1 .if1 .left) (no-state p _ _ (rw (after-plate-from .plate-from .ensures) at (sym (after-is-ok .is-ok .ensures) ∙ not-false _ (after-if2 .if2 .left))) (after-if3 .if3 .left) (rw (after-lasting-in .lasting-in .ensures) at (sym (after-is-ok2 .is-ok2 .ensures p none (rw (after-plate-from .plate-from .ensures)) nothing-short) ∙ not-true _ (c .if4 .taken))))
+    let fine = rw (after-plate-from .plate-from .ensures) at (sym (after-is-ok .is-ok .ensures) ∙ not-false _ (after-if2 .if2 .left)) in
+    let state = rw (after-lasting-in .lasting-in .ensures) at (sym (after-is-ok2 .is-ok2 .ensures p none (rw (after-plate-from .plate-from .ensures)) nothing-short) ∙ not-true _ (c .if4 .taken)) in
+    restarts _ _ _ (after-if1 .if1 .left) (no-state p _ _ fine (after-if3 .if3 .left) state)
 
 make-requires : tie.Need-make-requires
 make-requires c κs =
@@ -95,7 +97,9 @@ returns-5 c =
     let after-if1 = after-plate-from .before in
     let start = after-if1 .before .before .before in
     let p : Plate = plateOf (plateFrom (start .args .total) (start .args .bits) (start .args .address) (start .args .ticks) (start .args .pause)) in
-    restarts _ _ _ (after-if1 .if1 .left) (started p _ (now (start .args .image)) (rw (after-plate-from .plate-from .ensures) at (sym (after-is-ok .is-ok .ensures) ∙ not-false _ (after-if2 .if2 .left))) (after-if3 .if3 .left) (rw (after-lasting-in .lasting-in .ensures) at (sym (after-is-ok2 .is-ok2 .ensures p none (rw (after-plate-from .plate-from .ensures)) nothing-short) ∙ not-false _ (after-if4 .if4 .left))) (rw (after-plate-from .plate-from .ensures, after-lasting-in .lasting-in .ensures) at (after-make .make .ensures)))
+    let fine = rw (after-plate-from .plate-from .ensures) at (sym (after-is-ok .is-ok .ensures) ∙ not-false _ (after-if2 .if2 .left)) in
+    let state = rw (after-lasting-in .lasting-in .ensures) at (sym (after-is-ok2 .is-ok2 .ensures p none (rw (after-plate-from .plate-from .ensures)) nothing-short) ∙ not-false _ (after-if4 .if4 .left)) in
+    restarts _ _ _ (after-if1 .if1 .left) (started p _ (now (start .args .image)) fine (after-if3 .if3 .left) state (rw (after-plate-from .plate-from .ensures, after-lasting-in .lasting-in .ensures) at (after-make .make .ensures)))
 
 pub qs-restart-spec : {M : Type 1} → statement M
 qs-restart-spec =

@@ -50,7 +50,12 @@ returns-4 c =
     let after-may-precede2 = after-if2 .before in
     let after-if1 = after-may-precede2 .before in
     let after-may-precede = after-if1 .before in
-    sound-four _ (simp (sym (after-may-precede .may-precede .ensures) ∙ not-false _ (after-if1 .if1 .left), sym (after-may-precede2 .may-precede2 .ensures) ∙ not-false _ (after-if2 .if2 .left), sym (after-may-precede3 .may-precede3 .ensures) ∙ not-false _ (after-if3 .if3 .left), sym (c .may-precede4 .ensures)))
+    sound-four _ (simp (
+      sym (after-may-precede .may-precede .ensures) ∙ not-false _ (after-if1 .if1 .left),
+      sym (after-may-precede2 .may-precede2 .ensures) ∙ not-false _ (after-if2 .if2 .left),
+      sym (after-may-precede3 .may-precede3 .ensures) ∙ not-false _ (after-if3 .if3 .left),
+      sym (c .may-precede4 .ensures),
+    ))
 
 pub is-sound-spec : {M : Type 1} → statement M
 is-sound-spec =
