@@ -1,22 +1,12 @@
-/* Every way of ways.h closed by one kind of call, to count the instructions of each: closing poll|character. A line is the command and the reply's length. */
+/* Every way of ways.h closed by one kind of call on both boards, to count the instructions of each: closing poll|character. */
+#include "both.h"
 #include "ways.h"
 
-#include <inttypes.h>
-#include <stdio.h>
+CALLS(poll, image, sizeof image, closing_tick, memory, memory_length, room, sizeof room)
+CALLS(character, image, sizeof image, closing_tick, 0x40, 0, memory, memory_length, room, sizeof room)
 
-static uint8_t table_and_data[sizeof memory];
-
-static void by_poll(uint8_t command) {
-    memcpy(table_and_data, memory, sizeof memory);
-    printf("%02X %" PRIu64 "\n", command, CALL(poll)(image, sizeof image, CLOSING_TICK, memory, sizeof memory, room, sizeof room));
-    memcpy(memory, table_and_data, sizeof memory);
-}
-
-static void by_character(uint8_t command) {
-    memcpy(table_and_data, memory, sizeof memory);
-    printf("%02X %" PRIu64 "\n", command, CALL(character)(image, sizeof image, CLOSING_TICK, 0x40, 0, memory, sizeof memory, room, sizeof room));
-    memcpy(memory, table_and_data, sizeof memory);
-}
+static void by_poll(const char *row) { ON_BOTH(row, poll); }
+static void by_character(const char *row) { ON_BOTH(row, character); }
 
 int main(int count, char **words) {
     if (count != 2 || (strcmp(words[1], "poll") != 0 && strcmp(words[1], "character") != 0)) {

@@ -45,8 +45,8 @@ static bool queue_is_good(const uint8_t *q) {
 
 static bool state_is_good(const uint8_t *image) {
     const uint8_t *flags = image + QS_IMAGE_LOCKED;
-    return image[QS_IMAGE_COUNTER + 3] == 0 && (uint64_t)load(image + QS_IMAGE_OFFSET) >> image[QS_IMAGE_BITS] == 0 && (flags[0] | flags[1] | flags[2] | flags[3]) <= 1 &&
-           image[QS_IMAGE_KEPT_NUMBER] <= QS_KEPT_BYTES && queue_is_good(image + QS_IMAGE_WAITING);
+    return image[QS_IMAGE_COUNTER + 3] == 0 && (uint64_t)load(image + QS_IMAGE_OFFSET) >> image[QS_IMAGE_BITS] == 0 &&
+           (flags[0] | flags[1] | flags[2] | flags[3]) <= 1 && image[QS_IMAGE_KEPT_NUMBER] <= QS_KEPT_BYTES && queue_is_good(image + QS_IMAGE_WAITING);
 }
 
 static bool image_is_good(const uint8_t *image, uint64_t image_length) {

@@ -3,11 +3,11 @@
 
     run.py [--answer PROGRAM] [--library FOLDER]             measures everything and writes docs/PERFORMANCE.md
     run.py [--library FOLDER] --check                        holds the library to what its header says it needs and keeps, its stack to the bound, and the
-                                                             instructions inside the C entries to their limits, and fails where one is over
+                                                             instructions of every kind of call to their limits, and fails where one is over
 
 PROGRAM answers tapes and FOLDER has libquicksetter.a; those not named are built by rt, as target/bin/answer and in target/staticlib.
 Instructions are counted by valgrind's callgrind; without valgrind only times are measured, and that check is left out. What the library is and needs comes
-from gcc's binutils (archive.py), the longest calls from every way to close a frame (longest.py).
+from gcc's binutils (archive.py), the instructions of each call from costs.py.
 """
 
 import os
@@ -23,7 +23,8 @@ ROOT = os.path.dirname(os.path.dirname(os.path.abspath(__file__)))
 sys.path.insert(0, os.path.join(ROOT, "tools"))
 
 import archive  # noqa: E402
-import longest  # noqa: E402
+import costs  # noqa: E402
+from costs import Row  # noqa: E402
 from process import Failure, run  # noqa: E402
 from tape import Character, Measured, Plate, Poll, encode, xor_of  # noqa: E402
 
@@ -32,12 +33,12 @@ PAGE = os.path.join(ROOT, "docs", "PERFORMANCE.md")
 FLAGS = ["-std=c11", "-O3", "-Wall", "-Wextra", "-Werror"]
 PLATE = Plate(112, 24, 0, 4, 55)
 
-FEW_CALLS, MANY_CALLS = 1000, 11000
 SHORT_TAPE, LONG_TAPE, TIMED_TAPE = 2000, 12000, 500000
 ROUNDS = 7
 
 # What `--check` allows, in instructions inside the C entry. Most calls of a host are kept characters: these must stay below the
 # hand-written C's. No other call may cost much more than there. Adding an entry can change the cost of another.
+KEPT = "character that is kept"
 KEPT_LIMIT = 92
 KEPT_RATIO_LIMIT = 0.92
 OTHER_RATIO_LIMIT = 1.1
@@ -143,9 +144,9 @@ def written(tape: Tape, events: int) -> Written:
 # --- programs -------------------------------------------------------------------------------
 
 
-def compiled(name: str, sources: List[str], board: str, library: str) -> str:
+def compiled(name: str, sources: List[str], library: str, board: str = "qs") -> str:
     """A measuring program. It is bound to the C library at its start, so that no call looks for memset while it is measured."""
-    path = os.path.join(WORK, f"{name}-{board}")
+    path = os.path.join(WORK, name)
     sources = [os.path.join(ROOT, "perf", source) for source in sources]
     run(["gcc", *FLAGS, f"-DBOARD={board}", *sources, "-L", library, "-lquicksetter", "-Wl,-z,now", "-o", path])
     return path
@@ -174,14 +175,9 @@ def tape_programs(answer: Optional[str], library: str) -> Dict[str, str]:
     return {
         "second": os.path.join(second, "release", "second"),
         "answer": found_answer(answer),
-        "entries": compiled("play", ["play.c"], "qs", library),
-        "hand": compiled("play", ["play.c", "hand.c"], "hand", library),
+        "entries": compiled("play-qs", ["play.c"], library, "qs"),
+        "hand": compiled("play-hand", ["play.c", "hand.c"], library, "hand"),
     }
-
-
-def call_programs(name: str, library: str) -> Dict[str, str]:
-    """A program that makes one kind of call, over each board."""
-    return {"qs": compiled(name, [f"{name}.c"], "qs", library), "hand": compiled(name, [f"{name}.c", "hand.c"], "hand", library)}
 
 
 def answers(program: str, tape: Written) -> bytes:
@@ -204,33 +200,23 @@ def has_valgrind() -> bool:
     return shutil.which("valgrind") is not None
 
 
-def instructions(words: List[str], tape: Optional[Written] = None, inside: Optional[str] = None) -> int:
-    """What callgrind counts, of the whole program or inside one function and what it calls."""
-    only = [f"--toggle-collect={inside}"] if inside else []
-    valgrind = ["valgrind", "--tool=callgrind", "--callgrind-out-file=/dev/null", *only, *words]
-    with open(tape.path if tape else os.devnull, "rb") as given:
-        said = run(valgrind, stdin=given).stderr.decode()
+def instructions(program: str, tape: Written) -> int:
+    """What callgrind counts of the whole program."""
+    with open(tape.path, "rb") as given:
+        said = run(["valgrind", "--tool=callgrind", "--callgrind-out-file=/dev/null", program], stdin=given).stderr.decode()
     return int(re.search(r"Collected : (\d+)", said).group(1))
 
 
-def inside_entry(program: str, kind: str, entry: str) -> float:
-    """Instructions of one call, the start taken off: (11000 calls - 1000 calls) / 10000."""
-    few = instructions([program, kind, str(FEW_CALLS)], inside=entry)
-    many = instructions([program, kind, str(MANY_CALLS)], inside=entry)
-    return (many - few) / (MANY_CALLS - FEW_CALLS)
-
-
-def entry_costs(program: str, board: str) -> Dict[str, float]:
-    character, poll = f"{board}_character", f"{board}_poll"
-    costs = {kind: inside_entry(program, kind, character) for kind in ("kept", "warned", "endless", "requests")}
-    costs.update({kind: inside_entry(program, kind, poll) for kind in ("idle", "early", "closing")})
-    # A request is three characters; the first closes the one before, the other two are kept.
-    costs["closing character"] = 3 * costs["requests"] - 2 * costs["kept"]
-    return costs
-
-
 def instructions_an_event(program: str, short: Written, long: Written) -> float:
-    return (instructions([program], long) - instructions([program], short)) / (long.events - short.events)
+    return (instructions(program, long) - instructions(program, short)) / (long.events - short.events)
+
+
+def call_rows(library: str) -> Dict[str, Row]:
+    return costs.call_rows(compiled("calls", ["calls.c", "hand.c"], library), WORK)
+
+
+def closing_rows(library: str) -> Dict[str, Dict[str, Row]]:
+    return costs.closing_rows(compiled("closing", ["closing.c", "hand.c"], library), WORK)
 
 
 def processor_seconds(program: str, tape: Written) -> float:
@@ -254,16 +240,6 @@ def nanoseconds_an_event(programs: Dict[str, str], tape: Written) -> Dict[str, f
 
 # --- the page -------------------------------------------------------------------------------
 
-ENTRY_ROWS = (
-    ("kept", "character that is kept"),
-    ("warned", "character that is kept while a fault code waits"),
-    ("endless", "character past the 135th"),
-    ("closing character", "character that closes a 46h request"),
-    ("idle", "poll, no frame open"),
-    ("early", "poll before the pause is over"),
-    ("closing", "poll that closes a 46h request"),
-)
-
 HEAD = """# Performance
 
 Written by perf/run.py (`make bench`), not by hand. Everything is measured on one machine ({machine}), C compiled by `gcc {flags}`
@@ -278,17 +254,24 @@ def table(head: List[str], rows: List[List[str]]) -> str:
     return "\n".join(lines + ["| " + " | ".join(row) + " |" for row in rows]) + "\n"
 
 
-def entry_page(costs: Dict[str, Dict[str, float]]) -> str:
-    rows = []
-    for key, words in ENTRY_ROWS:
-        ours, theirs = costs["qs"][key], costs["hand"][key]
-        rows.append([words, f"{ours:.0f}", f"{theirs:.0f}", f"{ours / theirs:.2f}"])
-    return (
-        "\n## Inside the C entry\n\n"
-        "Instructions from the entry's first to its return, with all that it calls: (11000 calls - 1000 calls) / 10000, by callgrind. Kept characters come in\n"
-        "frames of 128 for another board, so one in 128 closes a frame in silence. A closing character is a 46h request's three less two kept ones.\n\n"
-        + table(["Call", "Library", "Hand-written C", "Ratio"], rows)
-    )
+LIMIT_NOTE = f"""\
+The gate holds the kept character to {KEPT_LIMIT} instructions and to {KEPT_RATIO_LIMIT} of the hand-written C's,
+every other row of this table and the next to {OTHER_RATIO_LIMIT}."""
+
+
+def cells(row: Row) -> List[str]:
+    return [str(row.most), str(row.library), str(row.hand), f"{row.ratio:.2f}"]
+
+
+def call_page(rows: Dict[str, Row]) -> str:
+    head = ["Call", "At most", "Library", "Hand-written C", "Ratio"]
+    return f"\n## Inside the C entry\n\n{costs.CALLS_NOTE}\n{LIMIT_NOTE}\n\n" + table(head, [[name, *cells(row)] for name, row in rows.items()])
+
+
+def closing_page(rows: Dict[str, Dict[str, Row]]) -> str:
+    head = ["Frame", "Poll at most", "Poll", "Hand-written C", "Ratio", "Character at most", "Character", "Hand-written C", "Ratio"]
+    lines = [[name, *cells(row), *cells(rows["character"][name])] for name, row in rows["poll"].items()]
+    return f"\n## A call that closes a frame\n\n{costs.CLOSING_NOTE}\n\n" + table(head, lines)
 
 
 def library_page(library: str) -> str:
@@ -299,14 +282,9 @@ def library_page(library: str) -> str:
     path = os.path.join(library, "libquicksetter.a")
     found = archive.library_of(path)
     stacks = archive.stacks_of(path, found.entries)
-    seen = archive.seen_stack(compiled("stack", ["stack.c"], "qs", library))
+    seen = archive.seen_stack(compiled("stack", ["stack.c"], library))
     page = f"\n## The library\n\n{archive.LIBRARY_NOTE}\n\n" + table(["What", "Found"], archive.library_rows(found, stacks))
     return page + f"\n{archive.STACK_NOTE}\n\n" + table(["Entry", "Bound", "Measured"], archive.stack_rows(stacks, seen))
-
-
-def longest_page(library: str) -> str:
-    head = ["Command", "Poll", "Hand-written C", "Ratio", "Character", "Hand-written C", "Ratio"]
-    return f"\n## A closing poll by command\n\n{longest.NOTE}\n\n" + table(head, longest.rows(call_programs("closing", library), WORK))
 
 
 def tape_page(title: str, note: str, found: Dict[str, Dict[str, float]]) -> str:
@@ -321,7 +299,8 @@ def tape_page(title: str, note: str, found: Dict[str, Dict[str, float]]) -> str:
     return f"\n## {title}\n\n{note}\n\n" + table(head, rows)
 
 
-INSTRUCTION_NOTE = f"""Of the whole program, by callgrind: a tape of {LONG_TAPE} events less one of {SHORT_TAPE}, by the events between. In brackets the ratio to the second
+INSTRUCTION_NOTE = f"""\
+Of the whole program, by callgrind: a tape of {LONG_TAPE} events less one of {SHORT_TAPE}, by the events between. In brackets the ratio to the second
 program. "C entries" is perf/play.c, the answer program in C over libquicksetter.a; "hand-written C" the same over perf/hand.c."""
 TIME_NOTE = f"""Processor time of the whole program on {TIMED_TAPE} events, the best of {ROUNDS} rounds. In brackets the ratio to the second program."""
 NO_VALGRIND = "\nInstructions were not counted: valgrind is not there.\n"
@@ -344,8 +323,7 @@ def measure(programs: Dict[str, str], library: str) -> str:
         times[tape.name] = nanoseconds_an_event(programs, timed)
     if counting:
         print("perf: inside the C entry", flush=True)
-        page += entry_page({board: entry_costs(program, board) for board, program in call_programs("calls", library).items()})
-        page += longest_page(library)
+        page += call_page(call_rows(library)) + closing_page(closing_rows(library))
         page += tape_page("Instructions a tape event", INSTRUCTION_NOTE, counts)
     else:
         print("perf: valgrind is not there: only times are measured", flush=True)
@@ -353,10 +331,10 @@ def measure(programs: Dict[str, str], library: str) -> str:
     return page + tape_page("Nanoseconds a tape event", TIME_NOTE, times)
 
 
-def over_limit(key: str, ours: float, theirs: float) -> bool:
-    if key == "kept":
-        return ours > KEPT_LIMIT or ours > KEPT_RATIO_LIMIT * theirs
-    return ours > OTHER_RATIO_LIMIT * theirs
+def over_limit(name: str, row: Row) -> bool:
+    if name == KEPT:
+        return row.most > KEPT_LIMIT or row.library > KEPT_RATIO_LIMIT * row.hand
+    return row.library > OTHER_RATIO_LIMIT * row.hand
 
 
 def check_archive(library: str) -> int:
@@ -372,7 +350,7 @@ def check_archive(library: str) -> int:
         print(f"perf: {words}")
     if wrong:
         return 1
-    seen = archive.seen_stack(compiled("stack", ["stack.c"], "qs", library))
+    seen = archive.seen_stack(compiled("stack", ["stack.c"], library))
     rows = archive.stack_rows(archive.stacks_of(path, found.entries), seen)
     deepest = max(int(bound) for _, bound, _ in rows)
     print(f"perf: the library needs {', '.join(found.needed)} and keeps nothing; its {len(rows)} entries lay at most {deepest} bytes on the stack")
@@ -380,18 +358,21 @@ def check_archive(library: str) -> int:
 
 
 def check_limits(library: str) -> int:
-    """Every call of ENTRY_ROWS held to its limit."""
+    """Every row of the two tables of calls held to its limit."""
     if not has_valgrind():
         print("perf: the check of the instructions inside the C entries was LEFT OUT, since valgrind is not there")
         return 0
-    costs = {board: entry_costs(program, board) for board, program in call_programs("calls", library).items()}
-    status = 0
-    for key, words in ENTRY_ROWS:
-        ours, theirs = costs["qs"][key], costs["hand"][key]
-        over = over_limit(key, ours, theirs)
-        print(f"perf: {words}: {ours:.0f} instructions, hand-written C {theirs:.0f}, ratio {ours / theirs:.2f}{': over its limit' if over else ''}")
-        status |= over
-    return int(status)
+    rows = call_rows(library)
+    if KEPT not in rows:
+        raise Failure(f"perf/calls.c makes no {KEPT}")
+    for entry, closing in closing_rows(library).items():
+        rows.update({f"{entry} that closes, {name}": row for name, row in closing.items()})
+    over = [name for name, row in rows.items() if over_limit(name, row)]
+    for name, row in rows.items():
+        found = f"{row.library} instructions, hand-written C {row.hand}, ratio {row.ratio:.3f}, at most {row.most}"
+        print(f"perf: {name}: {found}" + (f": over its limit ({row.way})" if name in over else ""))
+    print(f"perf: {len(over)} of {len(rows)} kinds of calls are over their limit")
+    return int(bool(over))
 
 
 def write_page(answer: Optional[str], library: str) -> int:

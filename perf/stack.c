@@ -12,7 +12,7 @@ typedef void (*any_call)(void);
 /* What the calls are made with; each is made anew for every call. */
 static uint8_t own_image[sizeof image], own_memory[sizeof memory], own_room[sizeof room];
 static uint8_t request[QS_REQUEST_BUFFER], reply[QS_REPLY_ROOM], buffer[QS_REQUEST_BUFFER];
-static uint64_t image_length, memory_length, room_length, request_length, reply_length;
+static uint64_t image_length, memory_given, room_length, request_length, reply_length;
 static uint32_t tick;
 static uint8_t number; /* any byte, another one in each way */
 
@@ -20,17 +20,17 @@ static uint8_t number; /* any byte, another one in each way */
 static volatile any_call entry;
 #define ENTRY(call) ((__typeof__(&call))entry)
 
-static void fresh(void) { ENTRY(qs_fresh)(TOTAL, BITS, ADDRESS, TICKS, PAUSE, own_image, image_length); }
+static void fresh(void) { ENTRY(qs_fresh)(total, BITS, ADDRESS, TICKS, pause_bits, own_image, image_length); }
 static void restart(void) {
-    ENTRY(qs_restart)(TOTAL, BITS, ADDRESS, TICKS, PAUSE, image + QS_IMAGE_LASTING, QS_LASTING_LENGTH, own_image, image_length);
+    ENTRY(qs_restart)(total, BITS, ADDRESS, TICKS, pause_bits, image + QS_IMAGE_LASTING, QS_LASTING_LENGTH, own_image, image_length);
 }
-static void character(void) { ENTRY(qs_character)(own_image, image_length, tick, number, number & 1, own_memory, memory_length, own_room, room_length); }
-static void poll(void) { ENTRY(qs_poll)(own_image, image_length, tick, own_memory, memory_length, own_room, room_length); }
+static void character(void) { ENTRY(qs_character)(own_image, image_length, tick, number, number & 1, own_memory, memory_given, own_room, room_length); }
+static void poll(void) { ENTRY(qs_poll)(own_image, image_length, tick, own_memory, memory_given, own_room, room_length); }
 static void measured(void) { ENTRY(qs_measured)(own_image, image_length, tick); }
 static void fault(void) { ENTRY(qs_fault)(own_image, image_length, number); }
 static void power_on(void) { ENTRY(qs_power_on)(own_image, image_length); }
 static void write_request(void) {
-    ENTRY(qs_request)(ADDRESS, request[1], request + 2, request_length - 3, buffer, sizeof buffer);
+    ENTRY(qs_request)(ADDRESS, request[1], request + 2, request_length < 3 ? 0 : request_length - 3, buffer, sizeof buffer);
 }
 static void judge(void) { ENTRY(qs_judge)(request, request_length, reply, reply_length); }
 static void data_part(void) { ENTRY(qs_data_part)(request, request_length, reply, reply_length); }
@@ -103,18 +103,19 @@ static void good_inputs(void) {
     inputs_anew();
     request_length = image[QS_IMAGE_KEPT_NUMBER];
     memcpy(request, image + QS_IMAGE_KEPT, request_length);
-    image_length = sizeof image, memory_length = sizeof memory, room_length = sizeof room;
-    tick = CLOSING_TICK;
-    reply_length = qs_poll(own_image, image_length, tick, own_memory, memory_length, reply, sizeof reply);
+    image_length = sizeof image, memory_given = memory_length, room_length = sizeof room;
+    tick = closing_tick;
+    reply_length = qs_poll(own_image, image_length, tick, own_memory, memory_given, reply, sizeof reply);
 }
 
 /* One way: as it is, then with each thing wrong that is refused, or too early. */
-static void measure_way(uint8_t command) {
-    number = (uint8_t)(number + 1 + command);
+static void measure_way(const char *row) {
+    (void)row;
+    number = (uint8_t)(number + 1 + image[QS_IMAGE_KEPT + 1]);
     for (int wrong = 0; wrong <= 6; wrong++) {
         good_inputs();
         image_length -= wrong == 1;
-        memory_length -= wrong == 2;
+        memory_given -= wrong == 2;
         room_length -= wrong == 3;
         tick -= wrong == 4;
         reply_length -= wrong == 5 && reply_length > 0;

@@ -1,0 +1,83 @@
+"""Every call of perf/calls.c and perf/closing.c on both boards, its instructions counted one by one by callgrind, and the rows that are made of them."""
+
+import os
+import re
+from typing import Dict, List, NamedTuple
+
+from process import Failure, run
+
+ENTRIES = ("character", "poll", "measured", "fault", "power_on", "fresh")
+CLOSING = ("poll", "character")
+REFUSED = "that is refused"  # how the row of refused calls ends
+
+CALLS_NOTE = """\
+Instructions from the entry's first to its return, with all that it calls. Each call is counted on its own, by callgrind; both boards start from the same
+bytes, and must return and leave the same. A row is every call of its kind in perf/calls.c, on two plates and with 0 to 4 fault codes waiting. "At most" is the
+library's dearest call, and behind it stands the call with the worst ratio. A refused call may make its tests in any order: there it is the dearest of each."""
+CLOSING_NOTE = """\
+Counted and compared in the same way. A row is every way of perf/ways.h with that command, whether it is done or answered with an error; below stand the frames
+that are no request. "At most" is the library's dearest call, and behind it stands the way with the worst ratio. Tried are plates of 1 to 5, 8 and 112 blocks,
+few fields and many, sound tables and unsound ones, 0 to 4 fault codes waiting, a locked position, and the board's own address as well as the broadcast."""
+
+
+class Call(NamedTuple):
+    """One call: what it found, and its instructions on each board."""
+
+    row: str
+    way: str
+    library: int
+    hand: int
+
+
+class Row(NamedTuple):
+    """The calls of one row: the library's dearest, then the one with the worst ratio."""
+
+    most: int
+    library: int
+    hand: int
+    way: str
+
+    @property
+    def ratio(self) -> float:
+        return self.library / self.hand
+
+
+def counted(program: str, entry: str, work: str) -> List[Call]:
+    """The program's lines are its calls, each made on the library and then on the hand-written C. Callgrind writes a part behind each, and one at the end."""
+    parts = os.path.join(work, f"{os.path.basename(program)}-{entry}.callgrind")
+    if os.path.exists(parts):
+        os.remove(parts)
+    counting = [f"--{option}={board}_{entry}" for option in ("toggle-collect", "dump-after") for board in ("qs", "hand")]
+    words = ["valgrind", "--tool=callgrind", f"--callgrind-out-file={parts}", "--combine-dumps=yes", *counting, program, entry]
+    lines = run(words).stdout.decode().splitlines()
+    with open(parts, encoding="utf-8") as file:
+        totals = [int(number) for number in re.findall(r"^totals: (\d+)", file.read(), re.M)]
+    os.remove(parts)
+    if not lines or len(totals) != 2 * len(lines) + 1 or 0 in totals[:-1]:
+        raise Failure(f"{entry}: callgrind counted {len(totals) - 1} calls, and {2 * len(lines)} were made")
+    return [Call(*line.split("\t"), library, hand) for line, library, hand in zip(lines, totals[::2], totals[1::2])]
+
+
+def row_of(name: str, calls: List[Call]) -> Row:
+    most = max(call.library for call in calls)
+    if name.endswith(REFUSED):
+        return Row(most, most, max(call.hand for call in calls), "the dearest of each board")
+    worst = max(calls, key=lambda call: call.library / call.hand)
+    return Row(most, worst.library, worst.hand, worst.way)
+
+
+def rows_of(calls: List[Call]) -> Dict[str, Row]:
+    by_row: Dict[str, List[Call]] = {}
+    for call in calls:
+        by_row.setdefault(call.row, []).append(call)
+    return {name: row_of(name, its) for name, its in by_row.items()}
+
+
+def call_rows(program: str, work: str) -> Dict[str, Row]:
+    """The calls that close no frame, entry by entry."""
+    return {name: row for entry in ENTRIES for name, row in rows_of(counted(program, entry, work)).items()}
+
+
+def closing_rows(program: str, work: str) -> Dict[str, Dict[str, Row]]:
+    """The calls that close a frame, by entry, in the order of the commands' numbers; the frames that are no request come last."""
+    return {entry: dict(sorted(rows_of(counted(program, entry, work)).items())) for entry in CLOSING}
