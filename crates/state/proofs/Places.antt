@@ -1,7 +1,7 @@
 -- The queue place by place: what one place more in front says. Assumes nothing.
 use Prim.Native.Nat.{ℕ, _+_, _<_, _%_}
 use native.Mathlib.Omega.{arith}
-use mathlib.Core.Path.{_≡_, refl, sym, ap, _∙_}
+use mathlib.Core.Path.{_≡_, refl, sym, ap, _∙_, subst}
 use mathlib.Core.Bool.{Bool, true, false, not, _||_, false≢true}
 use mathlib.Core.List.{List, [], _∷_, _++_}
 use borrow.Author.Tests.{eqb-true, eqb-false, ne-eqb}
@@ -13,7 +13,9 @@ use Rattle.meaning.specs.Frames.{warned}
 use Rattle.meaning.specs.Demands.{waits}
 use Rattle.state.specs.declared.faults.Faults.{Faults}
 use Rattle.state.specs.declared.faults.Oldest.{Oldest}
-use Rattle.state.specs.Queue.{waiting, queueOf, mayPrecede, noFaults, holding, Queues, Reads}
+use Rattle.state.specs.declared.faults.Noting.{Noting}
+use Rattle.state.specs.declared.faults.Noting.the-variants.{Ignored, Locks, First, Second, Third, Fourth}
+use Rattle.state.specs.Queue.{waiting, queueOf, mayPrecede, noFaults, holding, placeAt, placeFor, notingOf, notedAs, Queues, Reads}
 use Rattle.meaning.proofs.Choices.{both-true, either-false}
 
 no-more-one : (c : ℕ) (q : List ℕ) → not (waits (waiting c q)) ≡ both (eqb c 0) (not (waits q))
@@ -172,33 +174,33 @@ module _ (f : Faults) (c : ℕ) (p : 0 < c) (m : among c (queueOf f) ≡ false) 
   filled : eqb c 0 ≡ false
   filled = ne-eqb c 0 (λ k. omega arith)
 
-  pub stays-full : eqb (f .fourth) 0 ≡ false → Queues f (queued (queueOf f) c) f
+  stays-full : eqb (f .fourth) 0 ≡ false → Queues f (queued (queueOf f) c) f
   unfolding queueOf waiting
   stays-full d = joined f c m (rw d) refl
 
   module _ (d : eqb (f .fourth) 0 ≡ true) where
-    pub to-fourth : eqb (f .third) 0 ≡ false
+    to-fourth : eqb (f .third) 0 ≡ false
         → Queues f (queued (queueOf f) c) (record { first = f .first; second = f .second; third = f .third; fourth = c; locked = f .locked })
     unfolding queueOf waiting
     to-fourth e = joined f c m (rw (d, e, filled)) refl
 
     module _ (e : eqb (f .third) 0 ≡ true) where
-      pub to-third : eqb (f .second) 0 ≡ false
+      to-third : eqb (f .second) 0 ≡ false
           → Queues f (queued (queueOf f) c) (record { first = f .first; second = f .second; third = c; fourth = f .fourth; locked = f .locked })
       unfolding queueOf waiting
       to-third h = joined f c m (rw (d, e, h, filled)) refl
 
-      pub to-second : eqb (f .second) 0 ≡ true → eqb (f .first) 0 ≡ false
+      to-second : eqb (f .second) 0 ≡ true → eqb (f .first) 0 ≡ false
           → Queues f (queued (queueOf f) c) (record { first = f .first; second = c; third = f .third; fourth = f .fourth; locked = f .locked })
       unfolding queueOf waiting
       to-second h k = joined f c m (rw (d, e, h, k, filled)) refl
 
-      pub to-first : eqb (f .second) 0 ≡ true → eqb (f .first) 0 ≡ true
+      to-first : eqb (f .second) 0 ≡ true → eqb (f .first) 0 ≡ true
           → Queues f (queued (queueOf f) c) (record { first = c; second = f .second; third = f .third; fourth = f .fourth; locked = f .locked })
       unfolding queueOf waiting
       to-first h k = joined f c m (rw (d, e, h, k, filled)) refl
 
-pub waits-already : (f : Faults) (c : ℕ) → among c (queueOf f) ≡ true → Queues f (queued (queueOf f) c) f
+waits-already : (f : Faults) (c : ℕ) → among c (queueOf f) ≡ true → Queues f (queued (queueOf f) c) f
 unfolding queued
 waits-already f c m = record { queue = rw m; lock = refl }
 
@@ -248,3 +250,123 @@ module _ (s : State) (f : Faults) (c : ℕ) where
     pub queueing : {r : Faults} → locks c ≡ false → Queues f (queued (queueOf f) c) r → holding s r ≡ noted (holding s f) c
     unfolding noted holding withLock withQueue
     queueing e h = rw (n, e, h .queue, h .lock)
+
+-- ---- the place that a code takes
+no-codes : (q : List ℕ) → waits q ≡ false → q ≡ []
+unfolding waits
+no-codes [] e = refl
+no-codes (c ∷ q) e = absurd (false≢true (sym e))
+
+-- how many wait, by the places
+module _ (f : Faults) where
+  four-wait : eqb (f .fourth) 0 ≡ false → length (queueOf f) ≡ 4
+  unfolding queueOf waiting
+  four-wait d = rw d
+
+  module _ (d : eqb (f .fourth) 0 ≡ true) where
+    three-wait : eqb (f .third) 0 ≡ false → length (queueOf f) ≡ 3
+    unfolding queueOf waiting
+    three-wait e = rw (d, e)
+
+    module _ (e : eqb (f .third) 0 ≡ true) where
+      two-wait : eqb (f .second) 0 ≡ false → length (queueOf f) ≡ 2
+      unfolding queueOf waiting
+      two-wait h = rw (d, e, h)
+
+      module _ (h : eqb (f .second) 0 ≡ true) where
+        one-waits : eqb (f .first) 0 ≡ false → length (queueOf f) ≡ 1
+        unfolding queueOf waiting
+        one-waits k = rw (d, e, h, k)
+
+        none-of-four : eqb (f .first) 0 ≡ true → queueOf f ≡ []
+        unfolding queueOf waiting
+        none-of-four k = rw (d, e, h, k)
+
+module _ (f : Faults) (c : ℕ) where
+  pub none-yet : waits (queueOf f) ≡ false → First ≡ placeFor f c
+  unfolding placeFor among
+  none-yet e = rw (no-codes (queueOf f) e)
+
+  pub dropped : among c (queueOf f) ≡ true → Ignored ≡ placeFor f c
+  unfolding placeFor
+  dropped m = rw m
+
+  module _ (m : among c (queueOf f) ≡ false) where
+    place : {n : ℕ} → length (queueOf f) ≡ n → placeAt n ≡ placeFor f c
+    unfolding placeFor
+    place e = rw (m, e)
+
+    pub no-place : eqb (f .fourth) 0 ≡ false → Ignored ≡ placeFor f c
+    no-place d = place (four-wait f d)
+
+    module _ (d : eqb (f .fourth) 0 ≡ true) where
+      pub place-4 : eqb (f .third) 0 ≡ false → Fourth ≡ placeFor f c
+      place-4 e = place (three-wait f d e)
+
+      module _ (e : eqb (f .third) 0 ≡ true) where
+        pub place-3 : eqb (f .second) 0 ≡ false → Third ≡ placeFor f c
+        place-3 h = place (two-wait f d e h)
+
+        module _ (h : eqb (f .second) 0 ≡ true) where
+          place-2 : eqb (f .first) 0 ≡ false → Second ≡ placeFor f c
+          place-2 k = place (one-waits f d e h k)
+
+          place-1 : eqb (f .first) 0 ≡ true → First ≡ placeFor f c
+          place-1 k = place (ap length (none-of-four f d e h k))
+
+          -- some code waits, and no place but the first holds it
+          pub place-2-of : waits (queueOf f) ≡ true → Second ≡ placeFor f c
+          unfolding waits
+          place-2-of w = go (eqb (f .first) 0) refl
+            where
+              go : (t : Bool) → eqb (f .first) 0 ≡ t → Second ≡ placeFor f c
+              go false k = place-2 k
+              go true k = absurd (false≢true (sym (ap waits (none-of-four f d e h k)) ∙ w))
+
+  -- the code joins the queue at that place
+  pub joins-so : 0 < c → Queues f (queued (queueOf f) c) (notedAs f c (placeFor f c))
+  joins-so p = go (among c (queueOf f)) refl
+    where
+      by : (x : Noting) → x ≡ placeFor f c → Queues f (queued (queueOf f) c) (notedAs f c x) → Queues f (queued (queueOf f) c) (notedAs f c (placeFor f c))
+      by x e h = subst (λ (y : Noting). Queues f (queued (queueOf f) c) (notedAs f c y)) e h
+      go-1 : (t : Bool) → eqb (f .first) 0 ≡ t → among c (queueOf f) ≡ false → eqb (f .fourth) 0 ≡ true → eqb (f .third) 0 ≡ true → eqb (f .second) 0 ≡ true
+          → Queues f (queued (queueOf f) c) (notedAs f c (placeFor f c))
+      go-1 false k m d e h = by Second (place-2 m d e h k) (to-second f c p m d e h k)
+      go-1 true k m d e h = by First (place-1 m d e h k) (to-first f c p m d e h k)
+      go-2 : (t : Bool) → eqb (f .second) 0 ≡ t → among c (queueOf f) ≡ false → eqb (f .fourth) 0 ≡ true → eqb (f .third) 0 ≡ true
+          → Queues f (queued (queueOf f) c) (notedAs f c (placeFor f c))
+      go-2 false h m d e = by Third (place-3 m d e h) (to-third f c p m d e h)
+      go-2 true h m d e = go-1 (eqb (f .first) 0) refl m d e h
+      go-3 : (t : Bool) → eqb (f .third) 0 ≡ t → among c (queueOf f) ≡ false → eqb (f .fourth) 0 ≡ true → Queues f (queued (queueOf f) c) (notedAs f c (placeFor f c))
+      go-3 false e m d = by Fourth (place-4 m d e) (to-fourth f c p m d e)
+      go-3 true e m d = go-2 (eqb (f .second) 0) refl m d e
+      go-4 : (t : Bool) → eqb (f .fourth) 0 ≡ t → among c (queueOf f) ≡ false → Queues f (queued (queueOf f) c) (notedAs f c (placeFor f c))
+      go-4 false d m = by Ignored (no-place m d) (stays-full f c p m d)
+      go-4 true d m = go-3 (eqb (f .third) 0) refl m d
+      go : (t : Bool) → among c (queueOf f) ≡ t → Queues f (queued (queueOf f) c) (notedAs f c (placeFor f c))
+      go true m = by Ignored (dropped m) (waits-already f c m)
+      go false m = go-4 (eqb (f .fourth) 0) refl m
+
+  pub ignored-so : eqb c 0 ≡ true → Ignored ≡ notingOf f c
+  unfolding notingOf
+  ignored-so e = rw e
+
+  module _ (n : eqb c 0 ≡ false) where
+    pub locks-so : locks c ≡ true → Locks ≡ notingOf f c
+    unfolding notingOf
+    locks-so e = rw (n, e)
+
+    pub placed-so : locks c ≡ false → {x : Noting} → x ≡ placeFor f c → x ≡ notingOf f c
+    unfolding notingOf
+    placed-so e h = rw (n, e) h
+
+  -- 01, "The host notes codes"
+  pub notes-so : (s : State) → holding s (notedAs f c (notingOf f c)) ≡ noted (holding s f) c
+  notes-so s = go (eqb c 0) (locks c) refl refl
+    where
+      by : (x : Noting) → x ≡ notingOf f c → holding s (notedAs f c x) ≡ noted (holding s f) c → holding s (notedAs f c (notingOf f c)) ≡ noted (holding s f) c
+      by x e h = subst (λ (y : Noting). holding s (notedAs f c y) ≡ noted (holding s f) c) e h
+      go : (t u : Bool) → eqb c 0 ≡ t → locks c ≡ u → holding s (notedAs f c (notingOf f c)) ≡ noted (holding s f) c
+      go true u z l = by Ignored (ignored-so z) (ignored s f c z)
+      go false true z l = by Locks (locks-so z l) (locking s f c z l)
+      go false false z l = by (placeFor f c) (placed-so z l refl) (queueing s f c z l (joins-so (positive c z)))

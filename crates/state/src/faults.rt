@@ -7,7 +7,7 @@ ghost use Rattle.meaning.specs.Bytes.{among};
 ghost use Rattle.meaning.specs.State.{State, queued, noted, apart, locks};
 ghost use Rattle.meaning.specs.Frames.{warned};
 ghost use Rattle.meaning.specs.Demands.{waits};
-ghost use Rattle.state.specs.Queue.{queueOf, waiting, mayPrecede, noFaults, holding, Queues, Reads};
+ghost use Rattle.state.specs.Queue.{queueOf, waiting, mayPrecede, noFaults, holding, placeFor, notingOf, notedAs, Queues, Reads};
 
 pub struct Faults {
     pub first: u8,
@@ -15,6 +15,16 @@ pub struct Faults {
     pub third: u8,
     pub fourth: u8,
     pub locked: bool,
+}
+
+// What a noted code comes to: nothing, the lock, or the place that it takes. Who holds the queue writes that alone.
+pub enum Noting {
+    Ignored,
+    Locks,
+    First,
+    Second,
+    Third,
+    Fourth,
 }
 
 // The oldest code, or 00h, and the queue without it.
@@ -55,47 +65,83 @@ impl Faults {
         false
     }
 
-    // 01, "a queue of four, oldest first; one already waiting, or a fifth, is dropped".
+    // 01, "a queue of four, oldest first; one already waiting, or a fifth, is dropped". That none waits is told at once.
+    fn place_for(self, code: u8) -> Noting
+        requires { ⌜ 0 < code ⌝ }
+        ensures { λ r. ⌜ r ≡ placeFor self code ⌝ }
+    {
+        if !self.waits() {
+            return Noting::First;
+        }
+        if self.holds(code) {
+            return Noting::Ignored;
+        }
+        if self.fourth != 0 {
+            return Noting::Ignored;
+        }
+        if self.third != 0 {
+            return Noting::Fourth;
+        }
+        if self.second != 0 {
+            return Noting::Third;
+        }
+        Noting::Second
+    }
+
+    // 01, "00h is ignored. 22h and 24h lock the position until power-on and are not queued".
+    pub fn noting(self, code: u8) -> Noting
+        ensures { λ r. ⌜ r ≡ notingOf self code ⌝ }
+    {
+        if code == 0 {
+            return Noting::Ignored;
+        }
+        if locks(code) {
+            return Noting::Locks;
+        }
+        self.place_for(code)
+    }
+
+    fn noted(self, code: u8, noting: Noting) -> Faults
+        ensures { λ r. ⌜ r ≡ notedAs self code noting ⌝ }
+    {
+        let mut next = self;
+        match noting {
+            Noting::Ignored => self,
+            Noting::Locks => {
+                next.locked = true;
+                next
+            }
+            Noting::First => {
+                next.first = code;
+                next
+            }
+            Noting::Second => {
+                next.second = code;
+                next
+            }
+            Noting::Third => {
+                next.third = code;
+                next
+            }
+            Noting::Fourth => {
+                next.fourth = code;
+                next
+            }
+        }
+    }
+
     pub fn queued(self, code: u8) -> Faults
         requires { ⌜ 0 < code ⌝ }
         ensures { λ r. ⌜ Queues self (queued (queueOf self) code) r ⌝ }
     {
-        let mut next = self;
-        if self.holds(code) {
-            return self;
-        }
-        if self.fourth != 0 {
-            return self;
-        }
-        if self.third != 0 {
-            next.fourth = code;
-            return next;
-        }
-        if self.second != 0 {
-            next.third = code;
-            return next;
-        }
-        if self.first != 0 {
-            next.second = code;
-            return next;
-        }
-        next.first = code;
-        next
+        self.noted(code, self.place_for(code))
     }
 
-    // 01, "00h is ignored. 22h and 24h lock the position until power-on and are not queued".
-    pub fn note(self, code: u8) -> Faults
+    // 01, "The host notes codes".
+    pub(crate) fn note(self, code: u8) -> Faults
         ensures { λ r. ⌜ ((s : State) → holding s r ≡ noted (holding s self) code) ⌝ }
     {
-        if code == 0 {
-            return self;
-        }
-        if locks(code) {
-            let mut locked = self;
-            locked.locked = true;
-            return locked;
-        }
-        self.queued(code)
+        self.noted(code, self.noting(code))
     }
 
     // 01, row 50h: the oldest is handed back, and the others move up.

@@ -6,6 +6,7 @@ mod state;
 
 pub use effects::Effect;
 pub use faults::Faults;
+pub use faults::Noting;
 pub use faults::Oldest;
 pub use faults::locks;
 pub use faults::marked;
