@@ -8,20 +8,24 @@ use mathlib.Core.List.{List, [], _∷_, _++_, append-assoc}
 use lib.ListN.{length, take, drop, set, take-append-drop}
 use lib.Seq.{take-take, drop-append-le, drop-at, length-take-le}
 use Rattle.meaning.specs.Bytes.{arg, part, put, little}
-use Rattle.meaning.specs.State.{Line, none, queued, withCodes, withCounter, withOffset, withQueue, withLock}
+use Rattle.meaning.specs.State.{Line, none, queued, noted, withCodes, withCounter, withOffset, withQueue, withLock}
 use Rattle.meaning.proofs.Puts.{length-put, put-after, drop-put-low, put-one}
 use Rattle.wire.specs.Numbers.{low4}
 use Rattle.wire.proofs.Numbers.{little-at}
 use Rattle.state.specs.declared.faults.Faults.{Faults}
 use Rattle.state.specs.declared.faults.Oldest.{Oldest}
+use Rattle.state.specs.declared.faults.Noting.{Noting}
+use Rattle.state.specs.declared.faults.Noting.the-variants.{Ignored, Locks, First, Second, Third, Fourth}
 use Rattle.state.specs.declared.state.State.{State}
 use Rattle.state.specs.declared.effects.Effect.{Effect}
 use Rattle.state.specs.declared.effects.Effect.the-variants.{Nothing, Code, Counter, Offset, Overflow, OldestRead, Emptied}
-use Rattle.state.specs.Queue.{queueOf, holding, Queues, Reads}
+use Rattle.state.specs.Queue.{queueOf, holding, notingOf, notedAs, Queues, Reads}
 use Rattle.state.specs.State.{stateWith}
 use Rattle.state.specs.Effects.{effectOn}
+use Rattle.state.proofs.Places.{notes-so}
+use Rattle.state.proofs.States.{notes}
 use Rattle.state.proofs.Ways.{with-one-code, counts, turns, overflows, moves-up, empties, read-out, stays-so}
-use Rattle.image.specs.Image.{flagByte, stateIn, frameIn, keptIn, stateBytes, frameBytes, HoldsState, measuredSet, faultsSet, codeSet, counterSet, offsetSet, PutsState, PutsEffect, PutsBoard}
+use Rattle.image.specs.Image.{flagByte, stateIn, frameIn, keptIn, stateBytes, frameBytes, HoldsState, measuredSet, faultsSet, codeSet, counterSet, offsetSet, PutsState, NotesIn, PutsEffect, PutsBoard}
 use Rattle.image.proofs.Standing.{places, Typed, puts-state, part-filled, line-row}
 use Rattle.image.proofs.Parts.{state-as-it-was, frame-as-it-was, parts-joined, front-length, kept-length, state-length}
 use Rattle.image.proofs.Round.{Good}
@@ -42,6 +46,10 @@ pub number-fits : (core : List ℕ) → ((i : ℕ) → arg core i < 256) → (i 
 unfolding little
 number-fits core small i = rw (little-at core i) (omega (arith, small i, small (i + 1), small (i + 2), small (i + 3)))
 
+four-codes : (core : List ℕ) → length (stateIn core .codes) ≡ 4
+unfolding stateIn
+four-codes core = refl
+
 -- a state t that is the core's but for the bytes ys at place i
 module _ (core : List ℕ) (h : HoldsState core) (small : (i : ℕ) → arg core i < 256) where
   placed : (t : State) (i : ℕ) (ys : List ℕ) {core′ : List ℕ} → Typed t → i + length ys ≤ 21
@@ -51,6 +59,9 @@ module _ (core : List ℕ) (h : HoldsState core) (small : (i : ℕ) → arg core
 
   abbrev s : State
   s = stateIn core
+
+  in-32 : (i : ℕ) → little (part core i 4) < 2 ^ 32
+  in-32 i = number-fits core small i
 
   pub with-measured : (n : ℕ) {place : List ℕ} → n < 2 ^ 32 → place ≡ put (take 4 (drop 12 core)) 0 (low4 n [])
       → PutsState (measuredSet s n) core (take 12 core ++ (place ++ drop 4 (drop 12 core)))
@@ -104,6 +115,66 @@ module _ (core : List ℕ) (h : HoldsState core) (small : (i : ℕ) → arg core
       go l (suc (suc zero)) k = refl
       go l (suc (suc (suc zero))) k = refl
       go l (suc (suc (suc (suc n)))) k = absurd (omega arith)
+
+  -- the state's bytes as they are
+  pub state-there : PutsState s core core
+  unfolding put
+  state-there =
+      record {
+        bytes = λ l. rw (state-as-it-was core (h .all) small (h .lock) l, length-take-le 21 core (omega (arith, h .all))) (sym (take-append-drop 21 core));
+        holds = refl;
+      }
+
+  -- a noted code c: nothing, the lock, or a place
+  abbrev Noted : ℕ → Noting → List ℕ → Type 0
+  Noted c x core′ = PutsState (faultsSet s (notedAs (s .faults) c x)) core core′
+
+  module _ (c : ℕ) {x : Noting} where
+    one-byte : (i v : ℕ) (n : Noting) → x ≡ n → i < 21
+        → ((l : Line) → put (stateBytes (stateWith s l)) i (v ∷ []) ≡ stateBytes (stateWith (faultsSet s (notedAs (s .faults) c n)) l)) → Noted c x (set core i v)
+    unfolding stateIn
+    one-byte i v n e k q =
+        let typed : Typed (faultsSet s (notedAs (s .faults) c n)) =
+        record { codes = four-codes core; counter = in-32 4; offset = in-32 8; measured = in-32 12 } in
+        rw e (placed (faultsSet s (notedAs (s .faults) c n)) i (v ∷ []) typed (omega arith) q (put-one core i v (omega (arith, h .all))))
+
+    pub noting-none : x ≡ Ignored → Noted c x core
+    noting-none e = rw e state-there
+
+    pub noting-lock : x ≡ Locks → Noted c x (set core 20 1)
+    unfolding stateBytes put flagByte
+    noting-lock e =
+        let q = places (s .faults) in
+        let r = places (notedAs (s .faults) c Locks) in
+        one-byte 20 1 Locks e (omega arith) (λ l. rw (q .first, q .second, q .third, q .fourth, r .first, r .second, r .third, r .fourth))
+
+    pub noting-1 : x ≡ First → Noted c x (set core 16 c)
+    unfolding stateBytes put
+    noting-1 e =
+        let q = places (s .faults) in
+        let r = places (notedAs (s .faults) c First) in
+        one-byte 16 c First e (omega arith) (λ l. rw (q .second, q .third, q .fourth, r .first, r .second, r .third, r .fourth))
+
+    pub noting-2 : x ≡ Second → Noted c x (set core 17 c)
+    unfolding stateBytes put
+    noting-2 e =
+        let q = places (s .faults) in
+        let r = places (notedAs (s .faults) c Second) in
+        one-byte 17 c Second e (omega arith) (λ l. rw (q .first, q .third, q .fourth, r .first, r .second, r .third, r .fourth))
+
+    pub noting-3 : x ≡ Third → Noted c x (set core 18 c)
+    unfolding stateBytes put
+    noting-3 e =
+        let q = places (s .faults) in
+        let r = places (notedAs (s .faults) c Third) in
+        one-byte 18 c Third e (omega arith) (λ l. rw (q .first, q .second, q .fourth, r .first, r .second, r .third, r .fourth))
+
+    pub noting-4 : x ≡ Fourth → Noted c x (set core 19 c)
+    unfolding stateBytes put
+    noting-4 e =
+        let q = places (s .faults) in
+        let r = places (notedAs (s .faults) c Fourth) in
+        one-byte 19 c Fourth e (omega arith) (λ l. rw (q .first, q .second, q .third, r .first, r .second, r .third, r .fourth))
 
 -- one part after the other
 few-kept : {core : List ℕ} → Good core → frameIn core .len ≤ 135
@@ -167,6 +238,16 @@ module _ (s : State) (core : List ℕ) {core′ : List ℕ} (g : Good core) (p :
         kept = ap (take 135) (ap (drop 30) (p .bytes none) ∙ drop-put-low core 0 (stateBytes (stateWith s none)) fits 30 (omega (arith, state-length s none)));
       }
 
+-- ---- a noted code: f are the core's waiting codes, n what the code comes to
+pub notes-in : (c : ℕ) {core core′ : List ℕ} {f : Faults} {n : Noting} → f ≡ stateIn core .faults → n ≡ notingOf f c
+    → PutsState (faultsSet (stateIn core) (notedAs (stateIn core .faults) c n)) core core′ → NotesIn c core core′
+unfolding holding withQueue withLock
+notes-in c {core} {core′} {f} {n} e k p =
+    let s : State = stateIn core in
+    let g : Faults = notedAs (s .faults) c n in
+    let h : (l : Line) → stateWith (faultsSet s g) l ≡ noted (stateWith s l) c = λ l. notes s c l g (faultsSet s g) refl (rw (k, e) (notes-so (s .faults) c (stateWith s l))) in
+    record { notes = λ l. ap (λ (x : State). stateWith x l) (p .holds) ∙ h l; state = rw (p .holds) p }
+
 -- ---- what a command changes
 module _ {x : Effect} {core core′ : List ℕ} where
   puts-effect : (t : State) → PutsState t core core′ → ((l : Line) → stateWith t l ≡ effectOn x (stateWith (stateIn core) l)) → PutsEffect x core core′
@@ -206,8 +287,4 @@ module _ {x : Effect} {core core′ : List ℕ} where
 
 -- nothing is written
 pub put-nothing : {x : Effect} (core : List ℕ) → x ≡ Nothing → HoldsState core → ((i : ℕ) → arg core i < 256) → PutsEffect x core core
-unfolding put
-put-nothing core e h small =
-    let b : (l : Line) → core ≡ put core 0 (stateBytes (stateWith (stateIn core) l)) = λ l.
-    rw (state-as-it-was core (h .all) small (h .lock) l, length-take-le 21 core (omega (arith, h .all))) (sym (take-append-drop 21 core)) in
-    record { holds = λ l. stays-so (stateIn core) l e; bytes = record { bytes = b; holds = refl } }
+put-nothing core e h small = record { holds = λ l. stays-so (stateIn core) l e; bytes = state-there core h small }

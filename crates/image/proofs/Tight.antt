@@ -4,7 +4,7 @@ use mathlib.Core.List.{List, _++_}
 use Prim.Native.Nat.{ℕ}
 use lib.ListN.{take}
 use Rattle.meaning.specs.Bytes.{put}
-use Rattle.meaning.specs.State.{Line, none}
+use Rattle.meaning.specs.State.{Line, none, noted}
 use Rattle.wire.proofs.Tight.{same-outcome}
 use Rattle.state.specs.declared.state.State.{State}
 use Rattle.state.specs.State.{stateWith}
@@ -12,7 +12,7 @@ use Rattle.state.specs.declared.effects.Effect.{Effect}
 use Rattle.state.specs.Effects.{effectOn}
 use Rattle.state.proofs.Same.{state-tight}
 use Rattle.line.specs.declared.characters.OpenFrame.{OpenFrame}
-use Rattle.image.specs.Image.{stateIn, keptIn, stateBytes, lineBytes, frameBytes, PutsState, PutsEffect, PutsFrame, PutsBoard, Takes}
+use Rattle.image.specs.Image.{stateIn, keptIn, stateBytes, lineBytes, frameBytes, PutsState, NotesIn, PutsEffect, PutsFrame, PutsBoard, Takes}
 
 module _ (core a b : List ℕ) where
   pub put-state-tight : (s : State) → PutsState s core a → PutsState s core b → a ≡ b
@@ -22,6 +22,11 @@ module _ (core a b : List ℕ) where
   put-effect-tight x p q =
       let same : stateIn a ≡ stateIn b = state-tight none (effectOn x (stateWith (stateIn core) none)) (stateIn a) (stateIn b) (p .holds none) (q .holds none) in
       put-state-tight (stateIn b) (rw same at (p .bytes)) (q .bytes)
+
+  pub note-tight : (c : ℕ) → NotesIn c core a → NotesIn c core b → a ≡ b
+  note-tight c p q =
+      let same : stateIn a ≡ stateIn b = state-tight none (noted (stateWith (stateIn core) none) c) (stateIn a) (stateIn b) (p .notes none) (q .notes none) in
+      put-state-tight (stateIn b) (rw same at (p .state)) (q .state)
 
   pub put-frame-tight : (f : OpenFrame) → PutsFrame f core a → PutsFrame f core b → a ≡ b
   put-frame-tight f x y = same-outcome (put core 21 (frameBytes f)) a b (x .bytes) (y .bytes)

@@ -169,6 +169,11 @@ counterSet s n = record { codes = s .codes; counter = n; offset = s .offset; mea
 abbrev pub offsetSet : State → ℕ → State
 offsetSet s n = record { codes = s .codes; counter = s .counter; offset = n; measured = s .measured; faults = s .faults }
 
+-- 01, "The host notes codes": a code is noted in a core, and nothing else is written
+pub record NotesIn (c : ℕ) (core core′ : List ℕ) : Type 0 where
+  pub notes : (l : meaning.Line) → stateWith (stateIn core′) l ≡ meaning.noted (stateWith (stateIn core) l) c
+  pub state : PutsState (stateIn core′) core core′
+
 -- what a command changes is written into a core, and nothing else
 pub record PutsEffect (x : Effect) (core core′ : List ℕ) : Type 0 where
   pub holds : (l : meaning.Line) → stateWith (stateIn core′) l ≡ effectOn x (stateWith (stateIn core) l)

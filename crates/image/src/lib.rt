@@ -20,6 +20,7 @@ pub use read::frame_in;
 pub use read::is_core;
 pub use read::lasting_in;
 pub use read::state_in;
+pub use write::note;
 pub use write::put_board;
 pub use write::put_effect;
 pub use write::put_faults;

@@ -11,12 +11,13 @@ ghost use Rattle.line.specs.Line.{lineOf};
 ghost use Rattle.state.specs.State.{stateWith};
 ghost use Rattle.state.specs.Effects.{WithinFour};
 ghost use Rattle.wire.specs.Numbers.{low4};
-ghost use Rattle.image.specs.Image.{frameAt, parityAt, keptAt, coreLength, flagByte, isCore, stateIn, frameIn, keptIn, stateBytes, frameRow, measuredSet, faultsSet, counterSet, offsetSet, HoldsState, Open, PutsState, PutsEffect, PutsFrame, PutsBoard, Takes};
+ghost use Rattle.image.specs.Image.{frameAt, parityAt, keptAt, coreLength, flagByte, isCore, stateIn, frameIn, keptIn, stateBytes, frameRow, measuredSet, faultsSet, counterSet, offsetSet, HoldsState, Open, PutsState, NotesIn, PutsEffect, PutsFrame, PutsBoard, Takes};
 use crate::layout::CORE_LENGTH;
 use crate::layout::COUNT;
 use crate::layout::COUNTER;
 use crate::layout::FRAME;
 use crate::layout::KEPT;
+use crate::layout::LOCKED;
 use crate::layout::LONGER;
 use crate::layout::MEASURED;
 use crate::layout::OFFSET;
@@ -27,6 +28,7 @@ use crate::read::faults_in;
 use line::OpenFrame;
 use state::Effect;
 use state::Faults;
+use state::Noting;
 use state::State;
 use wire::codes::COUNTER_OVERFLOW;
 use wire::codes::LONGEST_REQUEST;
@@ -130,6 +132,32 @@ pub fn put_faults(faults: Faults, core: &mut [u8])
         locked,
     ];
     wire::fill(&row, &mut core[WAITING..FRAME]);
+}
+
+// A noted code, in place: the lock, or one of the four places (01, "The host notes codes").
+pub fn note(code: u8, core: &mut [u8])
+    requires { ⌜ HoldsState (now core) ⌝ }
+    ensures { λ _. ⌜ NotesIn code (now (core .entry)) (now (core .exit)) ⌝ }
+{
+    let noting = faults_in(core).noting(code);
+    match noting {
+        Noting::Ignored => {}
+        Noting::Locks => {
+            core[LOCKED] = 1;
+        }
+        Noting::First => {
+            core[WAITING] = code;
+        }
+        Noting::Second => {
+            core[WAITING + 1] = code;
+        }
+        Noting::Third => {
+            core[WAITING + 2] = code;
+        }
+        Noting::Fourth => {
+            core[WAITING + 3] = code;
+        }
+    }
 }
 
 fn put_counter(counter: u32, core: &mut [u8])

@@ -36,7 +36,8 @@ use Rattle.board.proofs.Stepping.{no-line}
 use Rattle.board.proofs.Endings.{own-known, answerable, long, workable, refused, requested, worked-served}
 use Rattle.image.specs.Image.{isCore, stateIn, frameIn, keptIn, heldIn, stateBytes, lineBytes, coreOf, PutsState, PutsEffect, PutsFrame, PutsBoard, Takes}
 use Rattle.image.proofs.Parts.{kept-length, front-length, state-as-it-was, same-front, state-length, puts-board}
-use Rattle.image.proofs.Round.{good, kept-stays, core-as-it-was}
+use Rattle.image.proofs.Placing.{state-there}
+use Rattle.image.proofs.Round.{good, core-as-it-was}
 use Rattle.quicksetter.specs.Calls.{callNumber}
 use Rattle.quicksetter.specs.Cores.{dataTo, coreCalled, coreAfter, CoreCalled, Unrefused, Servable, ServedIn, ClosedIn, Polls}
 use Rattle.quicksetter.proofs.Leaving.{board-left}
@@ -150,13 +151,8 @@ module _ (p : Plate) (core m w : List ℕ) (u : Unrefused p core (length m) (len
         }
 
 -- the state's bytes say the state
-state-there : (core : List ℕ) → isCore core ≡ true → ((i : ℕ) → arg core i < 256) → PutsState (stateIn core) core core
-state-there core e small =
-    let all : length core ≡ 165 = (good core e) .all in
-    record {
-      bytes = λ l. sym (ap (put core 0) (state-as-it-was core all small ((good core e) .locked) l) ∙ kept-stays core 21 (omega (arith, all)));
-      holds = refl;
-    }
+state-said : (core : List ℕ) → isCore core ≡ true → ((i : ℕ) → arg core i < 256) → PutsState (stateIn core) core core
+state-said core e small = state-there core (record { all = (good core e) .all; lock = (good core e) .locked }) small
 
 pub as-long : (core : List ℕ) {s : State} {core′ : List ℕ} → length core ≡ 165 → PutsState s core core′ → length core′ ≡ 165
 as-long core {s} all q = ap length (q .bytes none) ∙ length-put core 0 (stateBytes (stateWith s none)) (omega (arith, state-length s none)) ∙ all
@@ -164,7 +160,7 @@ as-long core {s} all q = ap length (q .bytes none) ∙ length-put core 0 (stateB
 -- a request that leaves the state, and one that changes it
 module _ (p : Plate) (c : ℕ) (d core m w : List ℕ) {r : ℕ} {w′ : List ℕ} where
   pub asked-in : {m′ : List ℕ} → isCore core ≡ true → ((i : ℕ) → arg core i < 256) → Serves p (stateIn core) c d m w (stateIn core) r m′ w′ → ServedIn p c d core m w r core m′ w′
-  asked-in e small h = record { serves = h; state = state-there core e small }
+  asked-in e small h = record { serves = h; state = state-said core e small }
 
   pub ordered-in : {e : Effect} {x : Answer} {core′ v : List ℕ} → longestReply ≤ length w → WorksOn (commandOf c) p (stateIn core) d m w (record { effect = e; answer = x }) m v
       → PutsEffect e core core′ → Sends p (stateIn core′) c x v r w′ → ServedIn p c d core m w r core′ m w′
@@ -173,7 +169,7 @@ module _ (p : Plate) (c : ℕ) (d core m w : List ℕ) {r : ℕ} {w′ : List �
 -- a frame whose close leaves the state
 pub still-in : (p : Plate) (core m w : List ℕ) {f : OpenFrame} {r : ℕ} {m′ w′ : List ℕ} → f ≡ frameIn core → isCore core ≡ true → ((i : ℕ) → arg core i < 256)
     → Closes p (stateIn core) f (keptIn core) m w (record { state = stateIn core; sent = r }) m′ w′ → ClosedIn p core m w r core m′ w′
-still-in p core m w a e small h = record { closes = rw a at h; state = state-there core e small }
+still-in p core m w a e small h = record { closes = rw a at h; state = state-said core e small }
 
 -- the kept bytes of a frame, lent out of the core
 pub kept-of : (core : List ℕ) (n : ℕ) → n ≤ longestRequest → take (30 + n - 30) (drop 30 core) ≡ take n (keptIn core)

@@ -1,7 +1,7 @@
 -- What a host tells besides characters and the time, in a core that R1 does not refuse: a measured position, a fault code, power-on. Assumes nothing.
 use Prim.Native.Nat.{ℕ, _<_, _≤_}
 use native.Mathlib.Omega.{arith}
-use mathlib.Core.Path.{_≡_, refl, ap, _∙_}
+use mathlib.Core.Path.{_≡_, refl}
 use mathlib.Core.Bool.{true, false}
 use mathlib.Core.List.{List}
 use borrow.Author.Tests.{eq-eqb}
@@ -9,7 +9,7 @@ use lib.Dec.{eqb}
 use lib.ListN.{length}
 use Rattle.meaning.specs.Bytes.{arg}
 use Rattle.meaning.specs.State as meaning
-use Rattle.meaning.specs.State.{Plate, Line, none, withMeasured, noted, poweredOn, withQueue, withLock}
+use Rattle.meaning.specs.State.{Plate, none, withMeasured, noted, poweredOn, withQueue, withLock}
 use Rattle.meaning.specs.Fields.{memoryLength}
 use Rattle.meaning.specs.Frames.{still}
 use Rattle.meaning.specs.Run.{Call, measured, fault, power-on, lends, step, called, refusedBy}
@@ -22,21 +22,12 @@ use Rattle.state.specs.State.{stateWith}
 use Rattle.state.proofs.Answering.{put-nothing}
 use Rattle.state.proofs.States.{notes, powers-on}
 use Rattle.board.proofs.Stepping.{no-line}
-use Rattle.image.specs.Image.{stateIn, frameIn, keptIn, heldIn, measuredSet, faultsSet, HoldsState, PutsState, PutsFrame, PutsBoard}
+use Rattle.image.specs.Image.{stateIn, frameIn, keptIn, heldIn, measuredSet, faultsSet, HoldsState, PutsState, NotesIn, PutsFrame, PutsBoard}
 use Rattle.image.proofs.Parts.{puts-board}
 use Rattle.image.proofs.Placing.{only-state}
 use Rattle.image.proofs.Round.{Good, good}
-use Rattle.quicksetter.specs.Cores.{coreCalled, CoreCalled, Unrefused, NotesIn}
+use Rattle.quicksetter.specs.Cores.{coreCalled, CoreCalled, Unrefused}
 use Rattle.quicksetter.proofs.Leaving.{board-left}
-
--- the codes that the code noted
-pub notes-in : (c : ℕ) {core core′ : List ℕ} {f g : Faults} → f ≡ stateIn core .faults → ((s : meaning.State) → holding s g ≡ noted (holding s f) c)
-    → PutsState (faultsSet (stateIn core) g) core core′ → NotesIn c core core′
-unfolding holding withQueue withLock
-notes-in c {core} {core′} {f} {g} e h p =
-    let s : State = stateIn core in
-    let n : (l : Line) → stateWith (faultsSet s g) l ≡ noted (stateWith s l) c = λ l. notes s c l g (faultsSet s g) refl (rw e at (h (stateWith s l))) in
-    record { notes = λ l. ap (λ (x : State). stateWith x l) (p .holds) ∙ n l; state = rw (p .holds) p }
 
 pub drops-all : (core : List ℕ) {g : Faults} {f : OpenFrame} {mid core′ : List ℕ} → HoldsState core → g ≡ noFaults → f ≡ noFrame → PutsState (faultsSet (stateIn core) g) core mid
     → PutsFrame f mid core′ → PutsBoard (faultsSet (stateIn core) noFaults) noFrame core core′

@@ -13,7 +13,7 @@ use Rattle.meaning.specs.State as meaning
 use Rattle.meaning.specs.State.{Plate, none, plateOk, stateOk, fresh}
 use Rattle.meaning.proofs.Puts.{length-put}
 use Rattle.meaning.proofs.Limits.{fresh-within}
-use Rattle.meaning.proofs.Choices.{told-true}
+use Rattle.meaning.proofs.Choices.{both-false, told-true}
 use Rattle.line.specs.declared.characters.OpenFrame.{OpenFrame}
 use Rattle.line.specs.Line.{lineOf, noFrame, Fits}
 use Rattle.state.specs.declared.state.State.{State}
@@ -65,16 +65,19 @@ made p s img {mid} {core′} all a b =
     core-back mid core′ long ∙ rw (a, b)
 
 module _ (p : Plate) (s : meaning.State) (img : List ℕ) where
-  pub no-plate : plateOk p ≡ false → Makes p s img 257 img
+  refused-start : startOk p s img ≡ false → Makes p s img 257 img
+  refused-start e = record { answer = rw e; image = rw e }
+
+  pub no-length : (length img ≡ 171 → ⊥) → Makes p s img 257 img
   unfolding startOk
-  no-plate e = record { answer = rw e; image = rw e }
+  no-length n = let z : eqb (length img) 171 ≡ false = ne-eqb _ _ n in refused-start (rw z (both-false (plateOk p)))
 
-  module _ (e : plateOk p ≡ true) where
-    pub no-length : (length img ≡ 171 → ⊥) → Makes p s img 257 img
+  module _ (all : length img ≡ 171) where
+    pub no-plate : plateOk p ≡ false → Makes p s img 257 img
     unfolding startOk
-    no-length n = let z : eqb (length img) 171 ≡ false = ne-eqb _ _ n in record { answer = rw (e, z); image = rw (e, z) }
+    no-plate e = record { answer = rw e; image = rw e }
 
-    module _ (all : length img ≡ 171) where
+    module _ (e : plateOk p ≡ true) where
       pub no-state : stateOk p s ≡ false → Makes p s img 257 img
       unfolding startOk
       no-state n = let z : eqb (length img) 171 ≡ true = eq-eqb _ _ all in record { answer = rw (e, z, n); image = rw (e, z, n) }

@@ -13,7 +13,6 @@ use Rattle.meaning.specs.Frames.{dataOf}
 use Rattle.meaning.specs.Run.{Call, poll, Held, called}
 use Rattle.line.specs.declared.plate.Plate.{Plate}
 use Rattle.board.specs.Work.{Workable, Serves, Closes}
-use Rattle.state.specs.State.{stateWith}
 use Rattle.image.specs.Image.{keptAt, coreLength, numberAt, isOurs, isCore, headIn, coreIn, stateIn, frameIn, heldIn, keptIn, coreOf, PutsState}
 use Rattle.quicksetter.specs.Calls.{plateHeld, callNumber}
 
@@ -71,11 +70,6 @@ pub record ServedIn (p : meaning.Plate) (c : ℕ) (d core m w : List ℕ) (r : �
 -- the same of the open frame, which is closed
 pub record ClosedIn (p : meaning.Plate) (core m w : List ℕ) (r : ℕ) (core′ m′ w′ : List ℕ) : Type 0 where
   pub closes : Closes p (stateIn core) (frameIn core) (keptIn core) m w (record { state = stateIn core′; sent = r }) m′ w′
-  pub state : PutsState (stateIn core′) core core′
-
--- 01, "The host notes codes": but for the state's bytes the core is as it was
-pub record NotesIn (c : ℕ) (core core′ : List ℕ) : Type 0 where
-  pub notes : (l : meaning.Line) → stateWith (stateIn core′) l ≡ meaning.noted (stateWith (stateIn core) l) c
   pub state : PutsState (stateIn core′) core core′
 
 -- what a poll leaves of a core that is not refused; the places of the kept bytes stay

@@ -7,7 +7,6 @@ ghost use Rattle.state.specs.Queue.{noFaults};
 ghost use Rattle.line.specs.Line.{noFrame};
 ghost use Rattle.image.specs.Image.{stateIn, faultsSet, HoldsState, PutsBoard};
 ghost use Rattle.quicksetter.specs.Calls.{Called};
-ghost use Rattle.quicksetter.specs.Cores.{NotesIn};
 use crate::events::is_possible;
 use crate::events::is_sound;
 use crate::given::REFUSED;
@@ -15,15 +14,6 @@ use image::CORE;
 use image::LENGTH;
 use line::OpenFrame;
 use state::Faults;
-
-// 01, "The host notes codes".
-fn note(code: u8, core: &mut [u8])
-    requires { ⌜ HoldsState (now core) ⌝ }
-    ensures { λ _. ⌜ NotesIn code (now (core .entry)) (now (core .exit)) ⌝ }
-{
-    let faults = image::faults_in(core).note(code);
-    image::put_faults(faults, core);
-}
 
 // 01, "Power-on empties the queue, drops an open frame and unlocks; all else stays".
 fn power_on(core: &mut [u8])
@@ -66,7 +56,7 @@ pub extern "C" fn qs_fault(image: &mut [u8], code: u8) -> usize
     if !is_sound(&image[CORE..LENGTH]) {
         return REFUSED + 1;
     }
-    note(code, &mut image[CORE..LENGTH]);
+    image::note(code, &mut image[CORE..LENGTH]);
     0
 }
 

@@ -51,11 +51,11 @@ pub extern "C" fn qs_fresh(
 ) -> usize
     ensures { λ r. ⌜ Freshens (plateOf (plateFrom total bits address ticks pause)) (now (image .entry)) r (now (image .exit)) ⌝ }
 {
-    let plate = plate_from(total, bits, address, ticks, pause);
-    if !plate.is_ok() {
+    if image.len() != LENGTH {
         return REFUSED + 1;
     }
-    if image.len() != LENGTH {
+    let plate = plate_from(total, bits, address, ticks, pause);
+    if !plate.is_ok() {
         return REFUSED + 1;
     }
     make(plate, State::fresh(), image);
@@ -78,11 +78,11 @@ pub extern "C" fn qs_restart(
     if lasting.len() != LASTING_LENGTH {
         return REFUSED + 1;
     }
-    let plate = plate_from(total, bits, address, ticks, pause);
-    if !plate.is_ok() {
+    if image.len() != LENGTH {
         return REFUSED + 1;
     }
-    if image.len() != LENGTH {
+    let plate = plate_from(total, bits, address, ticks, pause);
+    if !plate.is_ok() {
         return REFUSED + 1;
     }
     let state = image::lasting_in(lasting);

@@ -329,20 +329,25 @@ module _ (f : Faults) (c : ℕ) where
     where
       by : (x : Noting) → x ≡ placeFor f c → Queues f (queued (queueOf f) c) (notedAs f c x) → Queues f (queued (queueOf f) c) (notedAs f c (placeFor f c))
       by x e h = subst (λ (y : Noting). Queues f (queued (queueOf f) c) (notedAs f c y)) e h
+
       go-1 : (t : Bool) → eqb (f .first) 0 ≡ t → among c (queueOf f) ≡ false → eqb (f .fourth) 0 ≡ true → eqb (f .third) 0 ≡ true → eqb (f .second) 0 ≡ true
           → Queues f (queued (queueOf f) c) (notedAs f c (placeFor f c))
       go-1 false k m d e h = by Second (place-2 m d e h k) (to-second f c p m d e h k)
       go-1 true k m d e h = by First (place-1 m d e h k) (to-first f c p m d e h k)
+
       go-2 : (t : Bool) → eqb (f .second) 0 ≡ t → among c (queueOf f) ≡ false → eqb (f .fourth) 0 ≡ true → eqb (f .third) 0 ≡ true
           → Queues f (queued (queueOf f) c) (notedAs f c (placeFor f c))
       go-2 false h m d e = by Third (place-3 m d e h) (to-third f c p m d e h)
       go-2 true h m d e = go-1 (eqb (f .first) 0) refl m d e h
+
       go-3 : (t : Bool) → eqb (f .third) 0 ≡ t → among c (queueOf f) ≡ false → eqb (f .fourth) 0 ≡ true → Queues f (queued (queueOf f) c) (notedAs f c (placeFor f c))
       go-3 false e m d = by Fourth (place-4 m d e) (to-fourth f c p m d e)
       go-3 true e m d = go-2 (eqb (f .second) 0) refl m d e
+
       go-4 : (t : Bool) → eqb (f .fourth) 0 ≡ t → among c (queueOf f) ≡ false → Queues f (queued (queueOf f) c) (notedAs f c (placeFor f c))
       go-4 false d m = by Ignored (no-place m d) (stays-full f c p m d)
       go-4 true d m = go-3 (eqb (f .third) 0) refl m d
+
       go : (t : Bool) → among c (queueOf f) ≡ t → Queues f (queued (queueOf f) c) (notedAs f c (placeFor f c))
       go true m = by Ignored (dropped m) (waits-already f c m)
       go false m = go-4 (eqb (f .fourth) 0) refl m
@@ -366,6 +371,7 @@ module _ (f : Faults) (c : ℕ) where
     where
       by : (x : Noting) → x ≡ notingOf f c → holding s (notedAs f c x) ≡ noted (holding s f) c → holding s (notedAs f c (notingOf f c)) ≡ noted (holding s f) c
       by x e h = subst (λ (y : Noting). holding s (notedAs f c y) ≡ noted (holding s f) c) e h
+
       go : (t u : Bool) → eqb c 0 ≡ t → locks c ≡ u → holding s (notedAs f c (notingOf f c)) ≡ noted (holding s f) c
       go true u z l = by Ignored (ignored-so z) (ignored s f c z)
       go false true z l = by Locks (locks-so z l) (locking s f c z l)

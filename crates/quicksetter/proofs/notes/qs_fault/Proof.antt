@@ -16,7 +16,7 @@ use Rattle.image.proofs.is_ours.Reads as is-ours-reads
 use Rattle.image.proofs.plate_in.Reads as plate-in-reads
 use Rattle.quicksetter.proofs.events.is_possible.Reads as is-possible-reads
 use Rattle.quicksetter.proofs.events.is_sound.Reads as is-sound-reads
-use Rattle.quicksetter.proofs.notes.note.Reads as note-reads
+use Rattle.image.proofs.note.Reads as note-reads
 
 is-ours-requires : tie.Need-is-ours-requires
 is-ours-requires c κs = search needs

@@ -16,30 +16,27 @@ use Rattle.quicksetter.proofs.given.plate_from.Reads as plate-from-read
 use Rattle.quicksetter.proofs.starts.make.Reads as make-reads
 use Rattle.state.proofs.state.State.fresh.Reads as fresh-reads
 
+add-result : tie.Need-add-result
+add-result c = search needs
+
+returns : tie.Need-returns
+returns c = no-length _ _ _ (c .if1 .taken)
+
 plate-from-requires : tie.Need-plate-from-requires
 plate-from-requires c κs = search needs
 
 is-ok-requires : tie.Need-is-ok-requires
 is-ok-requires c κs = search needs
 
-add-result : tie.Need-add-result
-add-result c = search needs
-
-returns : tie.Need-returns
-returns c =
-    let after-is-ok = c .before in
-    let after-plate-from = after-is-ok .before in
-    no-plate _ _ _ (rw (after-plate-from .plate-from .ensures) at (sym (after-is-ok .is-ok .ensures) ∙ not-true _ (c .if1 .taken)))
-
 add-result-2 : tie.Need-add-result-2
 add-result-2 c = search needs
 
 returns-2 : tie.Need-returns-2
 returns-2 c =
-    let after-if1 = c .before in
-    let after-is-ok = after-if1 .before in
+    let after-is-ok = c .before in
     let after-plate-from = after-is-ok .before in
-    no-length _ _ _ (rw (after-plate-from .plate-from .ensures) at (sym (after-is-ok .is-ok .ensures) ∙ not-false _ (after-if1 .if1 .left))) (c .if2 .taken)
+    let after-if1 = after-plate-from .before in
+    no-plate _ _ _ (after-if1 .if1 .left) (rw (after-plate-from .plate-from .ensures) at (sym (after-is-ok .is-ok .ensures) ∙ not-true _ (c .if2 .taken)))
 
 fresh-requires : tie.Need-fresh-requires
 fresh-requires c κs = search needs
@@ -47,9 +44,9 @@ fresh-requires c κs = search needs
 make-requires : tie.Need-make-requires
 make-requires c κs =
     let after-if2 = c .before .before in
-    let after-if1 = after-if2 .before in
-    let after-is-ok = after-if1 .before in
-    (sym (after-is-ok .is-ok .ensures) ∙ not-false _ (after-if1 .if1 .left), after-if2 .if2 .left)
+    let after-is-ok = after-if2 .before in
+    let after-if1 = after-is-ok .before .before in
+    (sym (after-is-ok .is-ok .ensures) ∙ not-false _ (after-if2 .if2 .left), after-if1 .if1 .left)
 
 same-length : tie.Need-same-length
 same-length c = search needs
@@ -59,22 +56,22 @@ returns-3 c =
     let after-make = c .before .before in
     let after-fresh = after-make .before .before in
     let after-if2 = after-fresh .before in
-    let after-if1 = after-if2 .before in
-    let after-is-ok = after-if1 .before in
+    let after-is-ok = after-if2 .before in
     let after-plate-from = after-is-ok .before in
-    let start = after-plate-from .before .before in
+    let after-if1 = after-plate-from .before in
+    let start = after-if1 .before .before in
     let p : Plate = plateOf (plateFrom (start .args .total) (start .args .bits) (start .args .address) (start .args .ticks) (start .args .pause)) in
-    let fine = rw (after-plate-from .plate-from .ensures) at (sym (after-is-ok .is-ok .ensures) ∙ not-false _ (after-if1 .if1 .left)) in
-    started p _ (now (start .args .image)) fine (after-if2 .if2 .left) (fresh-fine p) (rw (after-plate-from .plate-from .ensures, after-fresh .fresh .ensures p) at (after-make .make .ensures))
+    let fine = rw (after-plate-from .plate-from .ensures) at (sym (after-is-ok .is-ok .ensures) ∙ not-false _ (after-if2 .if2 .left)) in
+    started p _ (now (start .args .image)) (after-if1 .if1 .left) fine (fresh-fine p) (rw (after-plate-from .plate-from .ensures, after-fresh .fresh .ensures p) at (after-make .make .ensures))
 
 pub qs-fresh-spec : {M : Type 1} → statement M
 qs-fresh-spec =
     tie.close
     (tie.spec
-    plate-from-requires
-    is-ok-requires
     add-result
     returns
+    plate-from-requires
+    is-ok-requires
     add-result-2
     returns-2
     fresh-requires

@@ -23,32 +23,30 @@ add-result c = search needs
 returns : tie.Need-returns
 returns c = no-lasting _ _ _ (c .if1 .taken)
 
+add-result-2 : tie.Need-add-result-2
+add-result-2 c = search needs
+
+returns-2 : tie.Need-returns-2
+returns-2 c =
+    let after-if1 = c .before in
+    restarts _ _ _ (after-if1 .if1 .left) (no-length _ _ _ (c .if2 .taken))
+
 plate-from-requires : tie.Need-plate-from-requires
 plate-from-requires c κs = search needs
 
 is-ok-requires : tie.Need-is-ok-requires
 is-ok-requires c κs = search needs
 
-add-result-2 : tie.Need-add-result-2
-add-result-2 c = search needs
-
-returns-2 : tie.Need-returns-2
-returns-2 c =
-    let after-is-ok = c .before in
-    let after-plate-from = after-is-ok .before in
-    let after-if1 = after-plate-from .before in
-    restarts _ _ _ (after-if1 .if1 .left) (no-plate _ _ _ (rw (after-plate-from .plate-from .ensures) at (sym (after-is-ok .is-ok .ensures) ∙ not-true _ (c .if2 .taken))))
-
 add-result-3 : tie.Need-add-result-3
 add-result-3 c = search needs
 
 returns-3 : tie.Need-returns-3
 returns-3 c =
-    let after-if2 = c .before in
-    let after-is-ok = after-if2 .before in
+    let after-is-ok = c .before in
     let after-plate-from = after-is-ok .before in
-    let after-if1 = after-plate-from .before in
-    restarts _ _ _ (after-if1 .if1 .left) (no-length _ _ _ (rw (after-plate-from .plate-from .ensures) at (sym (after-is-ok .is-ok .ensures) ∙ not-false _ (after-if2 .if2 .left))) (c .if3 .taken))
+    let after-if2 = after-plate-from .before in
+    let after-if1 = after-if2 .before in
+    restarts _ _ _ (after-if1 .if1 .left) (no-plate _ _ _ (after-if2 .if2 .left) (rw (after-plate-from .plate-from .ensures) at (sym (after-is-ok .is-ok .ensures) ∙ not-true _ (c .if3 .taken))))
 
 lasting-in-requires : tie.Need-lasting-in-requires
 lasting-in-requires c κs = search needs
@@ -64,22 +62,22 @@ returns-4 c =
     let after-is-ok2 = c .before in
     let after-lasting-in = after-is-ok2 .before in
     let after-if3 = after-lasting-in .before in
-    let after-if2 = after-if3 .before in
-    let after-is-ok = after-if2 .before in
+    let after-is-ok = after-if3 .before in
     let after-plate-from = after-is-ok .before in
-    let after-if1 = after-plate-from .before in
+    let after-if2 = after-plate-from .before in
+    let after-if1 = after-if2 .before in
     let start = after-if1 .before .before .before in
     let p : Plate = plateOf (plateFrom (start .args .total) (start .args .bits) (start .args .address) (start .args .ticks) (start .args .pause)) in
-    let fine = rw (after-plate-from .plate-from .ensures) at (sym (after-is-ok .is-ok .ensures) ∙ not-false _ (after-if2 .if2 .left)) in
+    let fine = rw (after-plate-from .plate-from .ensures) at (sym (after-is-ok .is-ok .ensures) ∙ not-false _ (after-if3 .if3 .left)) in
     let state = rw (after-lasting-in .lasting-in .ensures) at (sym (after-is-ok2 .is-ok2 .ensures p none (rw (after-plate-from .plate-from .ensures)) nothing-short) ∙ not-true _ (c .if4 .taken)) in
-    restarts _ _ _ (after-if1 .if1 .left) (no-state p _ _ fine (after-if3 .if3 .left) state)
+    restarts _ _ _ (after-if1 .if1 .left) (no-state p _ _ (after-if2 .if2 .left) fine state)
 
 make-requires : tie.Need-make-requires
 make-requires c κs =
     let after-if3 = c .before .before .before .before in
-    let after-if2 = after-if3 .before in
-    let after-is-ok = after-if2 .before in
-    (sym (after-is-ok .is-ok .ensures) ∙ not-false _ (after-if2 .if2 .left), after-if3 .if3 .left)
+    let after-is-ok = after-if3 .before in
+    let after-if2 = after-is-ok .before .before in
+    (sym (after-is-ok .is-ok .ensures) ∙ not-false _ (after-if3 .if3 .left), after-if2 .if2 .left)
 
 same-length : tie.Need-same-length
 same-length c = search needs
@@ -91,15 +89,15 @@ returns-5 c =
     let after-is-ok2 = after-if4 .before in
     let after-lasting-in = after-is-ok2 .before in
     let after-if3 = after-lasting-in .before in
-    let after-if2 = after-if3 .before in
-    let after-is-ok = after-if2 .before in
+    let after-is-ok = after-if3 .before in
     let after-plate-from = after-is-ok .before in
-    let after-if1 = after-plate-from .before in
+    let after-if2 = after-plate-from .before in
+    let after-if1 = after-if2 .before in
     let start = after-if1 .before .before .before in
     let p : Plate = plateOf (plateFrom (start .args .total) (start .args .bits) (start .args .address) (start .args .ticks) (start .args .pause)) in
-    let fine = rw (after-plate-from .plate-from .ensures) at (sym (after-is-ok .is-ok .ensures) ∙ not-false _ (after-if2 .if2 .left)) in
+    let fine = rw (after-plate-from .plate-from .ensures) at (sym (after-is-ok .is-ok .ensures) ∙ not-false _ (after-if3 .if3 .left)) in
     let state = rw (after-lasting-in .lasting-in .ensures) at (sym (after-is-ok2 .is-ok2 .ensures p none (rw (after-plate-from .plate-from .ensures)) nothing-short) ∙ not-false _ (after-if4 .if4 .left)) in
-    restarts _ _ _ (after-if1 .if1 .left) (started p _ (now (start .args .image)) fine (after-if3 .if3 .left) state (rw (after-plate-from .plate-from .ensures, after-lasting-in .lasting-in .ensures) at (after-make .make .ensures)))
+    restarts _ _ _ (after-if1 .if1 .left) (started p _ (now (start .args .image)) (after-if2 .if2 .left) fine state (rw (after-plate-from .plate-from .ensures, after-lasting-in .lasting-in .ensures) at (after-make .make .ensures)))
 
 pub qs-restart-spec : {M : Type 1} → statement M
 qs-restart-spec =
@@ -107,10 +105,10 @@ qs-restart-spec =
     (tie.spec
     add-result
     returns
-    plate-from-requires
-    is-ok-requires
     add-result-2
     returns-2
+    plate-from-requires
+    is-ok-requires
     add-result-3
     returns-3
     lasting-in-requires

@@ -7,10 +7,13 @@ use Rattle.state.proofs.faults.Faults.note.Reads as reads
 use Rattle.state.proofs.faults.Faults.note.Lts as lts
 use Rattle.state.proofs.faults.Faults.noted.Reads as noted-reads
 use Rattle.state.proofs.faults.Faults.noting.Reads as noting-reads
+
 noting-requires : tie.Need-noting-requires
 noting-requires c κs = search needs
+
 noted-requires : tie.Need-noted-requires
 noted-requires c κs = search needs
+
 returns : tie.Need-returns
 returns c =
     let after-noting = c .before in

@@ -9,29 +9,36 @@ use Rattle.state.proofs.faults.Faults.place_for.Reads as reads
 use Rattle.state.proofs.faults.Faults.place_for.Lts as lts
 use Rattle.state.proofs.faults.Faults.holds.Reads as holds-reads
 use Rattle.state.proofs.faults.Faults.waits.Reads as waits-reads
+
 waits-requires : tie.Need-waits-requires
 waits-requires c κs = search needs
+
 returns : tie.Need-returns
 returns c =
     let after-waits = c .before in
     none-yet _ _ (sym (after-waits .waits .ensures) ∙ not-true _ (c .if1 .taken))
+
 holds-requires : tie.Need-holds-requires
 holds-requires c κs = search needs
+
 returns-2 : tie.Need-returns-2
 returns-2 c =
     let after-holds = c .before in
     dropped _ _ (sym (after-holds .holds .ensures) ∙ c .if2 .taken)
+
 returns-3 : tie.Need-returns-3
 returns-3 c =
     let after-if2 = c .before .before in
     let after-holds = after-if2 .before in
     no-place _ _ (sym (after-holds .holds .ensures) ∙ after-if2 .if2 .left) (ne-eqb _ _ (c .if3 .taken))
+
 returns-4 : tie.Need-returns-4
 returns-4 c =
     let after-if3 = c .before .before in
     let after-if2 = after-if3 .before .before in
     let after-holds = after-if2 .before in
     place-4 _ _ (sym (after-holds .holds .ensures) ∙ after-if2 .if2 .left) (eq-eqb _ _ (after-if3 .if3 .left)) (ne-eqb _ _ (c .if4 .taken))
+
 returns-5 : tie.Need-returns-5
 returns-5 c =
     let after-if4 = c .before .before in
@@ -39,6 +46,7 @@ returns-5 c =
     let after-if2 = after-if3 .before .before in
     let after-holds = after-if2 .before in
     place-3 _ _ (sym (after-holds .holds .ensures) ∙ after-if2 .if2 .left) (eq-eqb _ _ (after-if3 .if3 .left)) (eq-eqb _ _ (after-if4 .if4 .left)) (ne-eqb _ _ (c .if5 .taken))
+
 returns-6 : tie.Need-returns-6
 returns-6 c =
     let after-if4 = c .before .before in

@@ -7,10 +7,13 @@ use Rattle.state.proofs.faults.Faults.queued.Reads as reads
 use Rattle.state.proofs.faults.Faults.queued.Lts as lts
 use Rattle.state.proofs.faults.Faults.noted.Reads as noted-reads
 use Rattle.state.proofs.faults.Faults.place_for.Reads as place-for-reads
+
 place-for-requires : tie.Need-place-for-requires
 place-for-requires c κs = search needs
+
 noted-requires : tie.Need-noted-requires
 noted-requires c κs = search needs
+
 returns : tie.Need-returns
 returns c =
     let after-place-for = c .before in
