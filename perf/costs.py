@@ -8,16 +8,16 @@ from process import Failure, run
 
 ENTRIES = ("character", "poll", "measured", "fault", "power_on", "fresh")
 CLOSING = ("poll", "character")
-REFUSED = "that is refused"  # how the row of refused calls ends
 
 CALLS_NOTE = """\
 Instructions from the entry's first to its return, with all that it calls. Each call is counted on its own, by callgrind; both boards start from the same
-bytes, and must return and leave the same. A row is every call of its kind in perf/calls.c, on two plates and with 0 to 4 fault codes waiting. "At most" is the
-library's dearest call, and behind it stands the call with the worst ratio. A refused call may make its tests in any order: there it is the dearest of each."""
+bytes, and must return and leave the same. A row is every call of its kind in perf/calls.c, on two plates and with 0 to 4 fault codes waiting: the dearest call
+of each board with their ratio, the ratio of the two means, and the ratio of the single call that stands worst for the library."""
 CLOSING_NOTE = """\
 Counted and compared in the same way. A row is every way of perf/ways.h with that command, whether it is done or answered with an error; below stand the frames
-that are no request. "At most" is the library's dearest call, and behind it stands the way with the worst ratio. Tried are plates of 1 to 5, 8 and 112 blocks,
-few fields and many, sound tables and unsound ones, 0 to 4 fault codes waiting, a locked position, and the board's own address as well as the broadcast."""
+that are no request. Tried are plates of 1 to 5, 8 and 112 blocks, few fields and many, sound tables and unsound ones, 0 to 4 fault codes waiting, a locked
+position, and the board's own address as well as the broadcast. The worst single calls are those on plates of few blocks, where the walk over the table
+costs next to nothing and what stands around it counts."""
 
 
 class Call(NamedTuple):
@@ -30,16 +30,25 @@ class Call(NamedTuple):
 
 
 class Row(NamedTuple):
-    """The calls of one row: the library's dearest, then the one with the worst ratio."""
+    """The calls of one row: the dearest of each board, the ratio of the means, and the call that stands worst for the library."""
 
-    most: int
     library: int
     hand: int
-    way: str
+    mean: float
+    worst: Call
 
     @property
     def ratio(self) -> float:
         return self.library / self.hand
+
+    @property
+    def held(self) -> float:
+        """What the limits are set for: the dearest call and the mean."""
+        return max(self.ratio, self.mean)
+
+
+def ratio_of(call: Call) -> float:
+    return call.library / call.hand
 
 
 def counted(program: str, entry: str, work: str) -> List[Call]:
@@ -58,19 +67,16 @@ def counted(program: str, entry: str, work: str) -> List[Call]:
     return [Call(*line.split("\t"), library, hand) for line, library, hand in zip(lines, totals[::2], totals[1::2])]
 
 
-def row_of(name: str, calls: List[Call]) -> Row:
-    most = max(call.library for call in calls)
-    if name.endswith(REFUSED):
-        return Row(most, most, max(call.hand for call in calls), "the dearest of each board")
-    worst = max(calls, key=lambda call: call.library / call.hand)
-    return Row(most, worst.library, worst.hand, worst.way)
+def row_of(calls: List[Call]) -> Row:
+    library, hand = [call.library for call in calls], [call.hand for call in calls]
+    return Row(max(library), max(hand), sum(library) / sum(hand), max(calls, key=ratio_of))
 
 
 def rows_of(calls: List[Call]) -> Dict[str, Row]:
     by_row: Dict[str, List[Call]] = {}
     for call in calls:
         by_row.setdefault(call.row, []).append(call)
-    return {name: row_of(name, its) for name, its in by_row.items()}
+    return {name: row_of(its) for name, its in by_row.items()}
 
 
 def call_rows(program: str, work: str) -> Dict[str, Row]:

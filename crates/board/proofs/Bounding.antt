@@ -79,6 +79,20 @@ module _ (p : Plate) (b : Board) (k : List ℕ) where
 pub sized : (a : ℕ) {b c : ℕ} {t : Bool} → b ≡ c → eqb a b ≡ t → eqb a c ≡ t
 sized a e h = rw e at h
 
+-- R1 to R3 have no higher number
+pub refusal-few : (p : Plate) (b : Board) (kept m : List ℕ) (r : ℕ) (g : Call) → refusalOn p b kept m r g ≤ 3
+unfolding refusalOn refusedBy
+refusal-few p b kept m r g =
+    go (fitsIn b kept) (either (not (plateOk p)) (not (stateOk p (stateOf b kept)))) (lends g) (not (eqb (length m) (memoryLength (p .total)))) (ltb r 134)
+  where
+    go : (x y z u v : Bool) → pick x (pick y 1 (pick z (pick u 2 (pick v 3 0)) 0)) 1 ≤ 3
+    go false y z u v = omega arith
+    go true true z u v = omega arith
+    go true false false u v = omega arith
+    go true false true true v = omega arith
+    go true false true false true = omega arith
+    go true false true false false = omega arith
+
 -- ---- refusals by number and by case
 
 pub as-told : {n k : ℕ} → n ≡ k → refusedAs n Still ≡ refusedAs k Still
