@@ -18,7 +18,8 @@ use Rattle.line.specs.declared.characters.OpenFrame.{OpenFrame}
 use Rattle.line.specs.Line.{lineOf, noFrame, Fits, Extends}
 use Rattle.line.proofs.Kept.{has-room, has-none}
 use Rattle.wire.specs.Numbers.{low4}
-use Rattle.image.specs.Image.{flagByte, frameIn, keptIn, lineBytes, frameRow, frameBytes, Open, Takes, PutsFrame}
+use Rattle.image.specs.Image.{flagByte, frameIn, keptIn, lineBytes}
+use Rattle.image.specs.Writes.{frameRow, frameBytes, Open, Takes, PutsFrame}
 use Rattle.image.proofs.Standing.{flag-back, line-row}
 use Rattle.image.proofs.Parts.{front-length, kept-length, laid-out, takes, takes-of}
 use Rattle.image.proofs.Round.{good}

@@ -14,7 +14,8 @@ use Rattle.state.specs.State.{stateWith}
 use Rattle.line.specs.declared.characters.OpenFrame.{OpenFrame}
 use Rattle.line.specs.Line.{lineOf, Fits, Extends}
 use Rattle.wire.specs.Numbers.{low4}
-use Rattle.image.specs.Image.{stateIn, frameIn, keptIn, stateBytes, lineBytes, frameRow, frameBytes, Takes, PutsState, PutsFrame, PutsBoard}
+use Rattle.image.specs.Image.{stateIn, frameIn, keptIn, stateBytes, lineBytes}
+use Rattle.image.specs.Writes.{frameRow, frameBytes, Takes, PutsState, PutsFrame, PutsBoard}
 use Rattle.image.proofs.Standing.{places, byte-0, byte-1, byte-2, byte-3, flag-back, line-row, frame-again}
 
 -- the state is read from the front alone

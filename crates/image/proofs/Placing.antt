@@ -19,13 +19,14 @@ use Rattle.state.specs.declared.faults.Noting.the-variants.{Ignored, Locks, Fir
 use Rattle.state.specs.declared.state.State.{State}
 use Rattle.state.specs.declared.effects.Effect.{Effect}
 use Rattle.state.specs.declared.effects.Effect.the-variants.{Nothing, Code, Counter, Offset, Overflow, OldestRead, Emptied}
-use Rattle.state.specs.Queue.{queueOf, holding, notingOf, notedAs, Queues, Reads}
+use Rattle.state.specs.Queue.{queueOf, holding, Queues, Reads}
+use Rattle.state.specs.Effects.{notingOf, notedAs, effectOn}
 use Rattle.state.specs.State.{stateWith}
-use Rattle.state.specs.Effects.{effectOn}
 use Rattle.state.proofs.Places.{notes-so}
 use Rattle.state.proofs.States.{notes}
 use Rattle.state.proofs.Ways.{with-one-code, counts, turns, overflows, moves-up, empties, read-out, stays-so}
-use Rattle.image.specs.Image.{flagByte, stateIn, frameIn, keptIn, stateBytes, frameBytes, HoldsState, measuredSet, faultsSet, codeSet, counterSet, offsetSet, PutsState, NotesIn, PutsEffect, PutsBoard}
+use Rattle.image.specs.Image.{flagByte, stateIn, frameIn, keptIn, stateBytes}
+use Rattle.image.specs.Writes.{frameBytes, HoldsState, measuredSet, faultsSet, codeSet, counterSet, offsetSet, PutsState, NotesIn, PutsEffect, PutsBoard}
 use Rattle.image.proofs.Standing.{places, Typed, puts-state, part-filled, line-row}
 use Rattle.image.proofs.Parts.{state-as-it-was, frame-as-it-was, parts-joined, front-length, kept-length, state-length}
 use Rattle.image.proofs.Round.{Good}

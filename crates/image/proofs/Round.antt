@@ -14,7 +14,8 @@ use Rattle.state.specs.declared.state.State.{State}
 use Rattle.state.specs.State.{stateWith}
 use Rattle.line.specs.declared.characters.OpenFrame.{OpenFrame}
 use Rattle.line.specs.Line.{lineOf, Fits}
-use Rattle.image.specs.Image.{flagsOk, isCore, stateIn, frameIn, keptIn, heldIn, stateBytes, lineBytes, frameBytes, coreOf}
+use Rattle.image.specs.Image.{flagsOk, isCore, stateIn, frameIn, keptIn, heldIn, stateBytes, lineBytes, coreOf}
+use Rattle.image.specs.Writes.{frameBytes}
 use Rattle.image.proofs.Standing.{Typed, state-first, frame-again, line-row}
 use Rattle.image.proofs.Parts.{whole-front, whole-rest, whole-kept, whole-length, kept-length, line-length, state-as-it-was, frame-as-it-was, parts-joined, state-length}
 use Rattle.meaning.proofs.Choices.{both-left, both-right}

@@ -19,7 +19,8 @@ use Rattle.state.specs.State.{stateWith}
 use Rattle.line.specs.declared.characters.OpenFrame.{OpenFrame}
 use Rattle.line.specs.Line.{lineOf, Fits}
 use Rattle.wire.specs.Numbers.{low4}
-use Rattle.image.specs.Image.{flagByte, stateIn, stateBytes, frameIn, lineBytes, frameRow, frameBytes, PutsState, PutsFrame}
+use Rattle.image.specs.Image.{flagByte, stateIn, stateBytes, frameIn, lineBytes}
+use Rattle.image.specs.Writes.{frameRow, frameBytes, PutsState, PutsFrame}
 use Rattle.state.proofs.Places.{front}
 
 later-place : (c i : ℕ) (q : List ℕ) → arg (waiting c q) (suc i) ≡ arg q i

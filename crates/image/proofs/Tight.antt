@@ -12,7 +12,8 @@ use Rattle.state.specs.declared.effects.Effect.{Effect}
 use Rattle.state.specs.Effects.{effectOn}
 use Rattle.state.proofs.Same.{state-tight}
 use Rattle.line.specs.declared.characters.OpenFrame.{OpenFrame}
-use Rattle.image.specs.Image.{stateIn, keptIn, stateBytes, lineBytes, frameBytes, PutsState, NotesIn, PutsEffect, PutsFrame, PutsBoard, Takes}
+use Rattle.image.specs.Image.{stateIn, keptIn, stateBytes, lineBytes}
+use Rattle.image.specs.Writes.{frameBytes, PutsState, NotesIn, PutsEffect, PutsFrame, PutsBoard, Takes}
 
 module _ (core a b : List ℕ) where
   pub put-state-tight : (s : State) → PutsState s core a → PutsState s core b → a ≡ b

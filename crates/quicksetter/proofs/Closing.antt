@@ -34,7 +34,8 @@ use Rattle.board.specs.declared.closing.Closed.{Closed}
 use Rattle.board.specs.Work.{Ready, Answerable, WorksOn, Sends, Refused, Serves, Closes}
 use Rattle.board.proofs.Stepping.{no-line}
 use Rattle.board.proofs.Endings.{own-known, answerable, long, workable, refused, requested, worked-served}
-use Rattle.image.specs.Image.{isCore, stateIn, frameIn, keptIn, heldIn, stateBytes, lineBytes, coreOf, PutsState, PutsEffect, PutsFrame, PutsBoard, Takes}
+use Rattle.image.specs.Image.{isCore, stateIn, frameIn, keptIn, heldIn, stateBytes, lineBytes, coreOf}
+use Rattle.image.specs.Writes.{PutsState, PutsEffect, PutsFrame, PutsBoard, Takes}
 use Rattle.image.proofs.Parts.{kept-length, front-length, state-as-it-was, same-front, state-length, puts-board}
 use Rattle.image.proofs.Placing.{state-there}
 use Rattle.image.proofs.Round.{good, core-as-it-was}

@@ -13,7 +13,8 @@ use Rattle.line.specs.declared.characters.OpenFrame.{OpenFrame}
 use Rattle.line.specs.Line.{lineOf}
 use Rattle.state.specs.declared.state.State.{State}
 use Rattle.state.specs.State.{stateWith}
-use Rattle.image.specs.Image.{isCore, frameIn, keptIn, heldIn, lineBytes, frameBytes, coreOf, PutsBoard}
+use Rattle.image.specs.Image.{isCore, frameIn, keptIn, heldIn, lineBytes, coreOf}
+use Rattle.image.specs.Writes.{frameBytes, PutsBoard}
 use Rattle.image.proofs.Standing.{line-row}
 use Rattle.image.proofs.Parts.{kept-length}
 use Rattle.image.proofs.Round.{kept-stays}

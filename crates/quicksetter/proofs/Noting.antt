@@ -22,7 +22,8 @@ use Rattle.state.specs.State.{stateWith}
 use Rattle.state.proofs.Answering.{put-nothing}
 use Rattle.state.proofs.States.{notes, powers-on}
 use Rattle.board.proofs.Stepping.{no-line}
-use Rattle.image.specs.Image.{stateIn, frameIn, keptIn, heldIn, measuredSet, faultsSet, HoldsState, PutsState, NotesIn, PutsFrame, PutsBoard}
+use Rattle.image.specs.Image.{stateIn, frameIn, keptIn, heldIn}
+use Rattle.image.specs.Writes.{measuredSet, faultsSet, HoldsState, PutsState, NotesIn, PutsFrame, PutsBoard}
 use Rattle.image.proofs.Parts.{puts-board}
 use Rattle.image.proofs.Placing.{only-state}
 use Rattle.image.proofs.Round.{Good, good}

@@ -20,7 +20,8 @@ use Rattle.state.specs.declared.state.State.{State}
 use Rattle.state.specs.State.{stateWith}
 use Rattle.state.specs.Queue.{queueOf, waiting}
 use Rattle.state.proofs.Answering.{put-nothing}
-use Rattle.image.specs.Image.{flagByte, stateIn, frameIn, keptIn, heldIn, stateBytes, lineBytes, frameRow, frameBytes, headOf, coreIn, plateOfHead, coreOf, PutsBoard}
+use Rattle.image.specs.Image.{flagByte, stateIn, frameIn, keptIn, heldIn, stateBytes, lineBytes, headOf, coreIn, plateOfHead, coreOf}
+use Rattle.image.specs.Writes.{frameRow, frameBytes, PutsBoard}
 use Rattle.image.proofs.Standing.{put-whole, Typed}
 use Rattle.image.proofs.Parts.{kept-length}
 use Rattle.image.proofs.Round.{state-round-trip, frame-round-trip, kept-round-trip}

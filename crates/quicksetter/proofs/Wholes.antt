@@ -13,7 +13,8 @@ use Rattle.meaning.specs.Fields.{memoryLength}
 use Rattle.meaning.specs.Run.{Call, character, poll, lends}
 use Rattle.line.specs.declared.plate.Plate as line
 use Rattle.line.specs.Line.{plateOf, lineOf}
-use Rattle.image.specs.Image.{isOurs, isCore, headIn, coreIn, plateOfHead, frameIn, keptIn, heldIn, Takes}
+use Rattle.image.specs.Image.{isOurs, isCore, headIn, coreIn, plateOfHead, frameIn, keptIn, heldIn}
+use Rattle.image.specs.Writes.{Takes}
 use Rattle.image.proofs.Round.{good}
 use Rattle.quicksetter.specs.Calls.{plateHeld, stateHeld, Called}
 use Rattle.quicksetter.specs.Cores.{refusalIn, Unrefused, ShutIn, ImageUnrefused, ImageShuts, ImagePolls}

@@ -13,7 +13,8 @@ use Rattle.meaning.specs.Frames.{dataOf}
 use Rattle.meaning.specs.Run.{Call, poll, Held, called}
 use Rattle.line.specs.declared.plate.Plate.{Plate}
 use Rattle.board.specs.Work.{Workable, Serves, Closes}
-use Rattle.image.specs.Image.{keptAt, coreLength, numberAt, isOurs, isCore, headIn, coreIn, stateIn, frameIn, heldIn, keptIn, coreOf, PutsState}
+use Rattle.image.specs.Image.{keptAt, coreLength, numberAt, isOurs, isCore, headIn, coreIn, stateIn, frameIn, heldIn, keptIn, coreOf}
+use Rattle.image.specs.Writes.{PutsState}
 use Rattle.quicksetter.specs.Calls.{plateHeld, callNumber}
 
 -- the meaning's call on the state that the core holds; what is no core is R1

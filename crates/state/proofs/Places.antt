@@ -15,7 +15,8 @@ use Rattle.state.specs.declared.faults.Faults.{Faults}
 use Rattle.state.specs.declared.faults.Oldest.{Oldest}
 use Rattle.state.specs.declared.faults.Noting.{Noting}
 use Rattle.state.specs.declared.faults.Noting.the-variants.{Ignored, Locks, First, Second, Third, Fourth}
-use Rattle.state.specs.Queue.{waiting, queueOf, mayPrecede, noFaults, holding, placeAt, placeFor, notingOf, notedAs, Queues, Reads}
+use Rattle.state.specs.Queue.{waiting, queueOf, mayPrecede, noFaults, holding, Queues, Reads}
+use Rattle.state.specs.Effects.{placeAt, placeFor, notingOf, notedAs}
 use Rattle.meaning.proofs.Choices.{both-true, either-false}
 
 no-more-one : (c : ℕ) (q : List ℕ) → not (waits (waiting c q)) ≡ both (eqb c 0) (not (waits q))

@@ -1,11 +1,16 @@
--- What a command changes in the state, and what the state is then (01, "The commands"). Assumes nothing.
-use Prim.Native.Nat.{ℕ, _+_, _<_}
+-- What a command changes in the state and what a noted code comes to, and what the state is then (01, "The commands", "Faults"). Assumes nothing.
+use Prim.Native.Nat.{ℕ, zero, suc, _+_, _<_}
+use mathlib.Core.Bool.{true}
 use mathlib.Core.List.{List, []}
 use lib.Dec.{eqb}
-use lib.ListN.{set, drop, take}
-use Rattle.meaning.specs.Bytes.{pick, arg, number}
-use Rattle.meaning.specs.State.{Plate, State, lastCount, queued, offsetFor, withCodes, withCounter, withOffset, withQueue}
+use lib.ListN.{length, set, drop, take}
+use Rattle.meaning.specs.Bytes.{pick, among, arg, number}
+use Rattle.meaning.specs.State.{Plate, State, lastCount, locks, queued, offsetFor, withCodes, withCounter, withOffset, withQueue}
 use Rattle.meaning.specs.Commands.{Command, Answer, refuse, accept, quiet, c42, c43, c46, c47, c49, c4A, c4B, c4C, c4D, c4E, c4F, c50, c53, unknown}
+use Rattle.state.specs.declared.faults.Faults.{Faults}
+use Rattle.state.specs.declared.faults.Noting.{Noting}
+use Rattle.state.specs.declared.faults.Noting.the-variants.{Ignored, Locks, First, Second, Third, Fourth}
+use Rattle.state.specs.Queue.{queueOf}
 use Rattle.state.specs.declared.effects.Effect.{Effect}
 use Rattle.state.specs.declared.effects.Effect.the-variants.{Nothing, Code, Counter, Offset, Overflow, OldestRead, Emptied}
 
@@ -51,3 +56,30 @@ abbrev pub effectOf : Answer → Effect → Effect
 effectOf (refuse c) e = Nothing
 effectOf (accept d s m) e = e
 effectOf (quiet s m) e = e
+
+-- ---- a noted code
+
+-- 01, "a queue of four, oldest first": the place behind those that wait
+abbrev pub placeAt : ℕ → Noting
+placeAt zero = First
+placeAt (suc zero) = Second
+placeAt (suc (suc zero)) = Third
+placeAt (suc (suc (suc zero))) = Fourth
+placeAt (suc (suc (suc (suc n)))) = Ignored
+
+-- 01, "one already waiting, or a fifth, is dropped"
+unfoldable pub placeFor : Faults → ℕ → Noting
+placeFor f c = pick (among c (queueOf f)) Ignored (placeAt (length (queueOf f)))
+
+-- 01, "The host notes codes": 00h is ignored; 22h and 24h lock the position and are not queued
+unfoldable pub notingOf : Faults → ℕ → Noting
+notingOf f c = pick (eqb c 0) Ignored (pick (locks c) Locks (placeFor f c))
+
+-- the waiting codes and the lock after it
+abbrev pub notedAs : Faults → ℕ → Noting → Faults
+notedAs f c Ignored = f
+notedAs f c Locks = record { first = f .first; second = f .second; third = f .third; fourth = f .fourth; locked = true }
+notedAs f c First = record { first = c; second = f .second; third = f .third; fourth = f .fourth; locked = f .locked }
+notedAs f c Second = record { first = f .first; second = c; third = f .third; fourth = f .fourth; locked = f .locked }
+notedAs f c Third = record { first = f .first; second = f .second; third = c; fourth = f .fourth; locked = f .locked }
+notedAs f c Fourth = record { first = f .first; second = f .second; third = f .third; fourth = c; locked = f .locked }

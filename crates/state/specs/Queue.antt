@@ -1,17 +1,15 @@
 -- The code's fault queue as that of the meaning (01, "Faults"). Assumes nothing.
-use Prim.Native.Nat.{ℕ, zero, suc}
+use Prim.Native.Nat.{ℕ}
 use mathlib.Core.Path.{_≡_}
-use mathlib.Core.Bool.{Bool, true, false, not}
+use mathlib.Core.Bool.{Bool, false, not}
 use mathlib.Core.List.{List, [], _∷_}
 use lib.Dec.{eqb}
-use lib.ListN.{length, drop}
+use lib.ListN.{drop}
 use Rattle.meaning.specs.Bytes.{pick, both, among, arg}
-use Rattle.meaning.specs.State.{State, withQueue, withLock, queueable, locks}
+use Rattle.meaning.specs.State.{State, withQueue, withLock, queueable}
 use Rattle.meaning.specs.Demands.{waits}
 use Rattle.state.specs.declared.faults.Faults.{Faults}
 use Rattle.state.specs.declared.faults.Oldest.{Oldest}
-use Rattle.state.specs.declared.faults.Noting.{Noting}
-use Rattle.state.specs.declared.faults.Noting.the-variants.{Ignored, Locks, First, Second, Third, Fourth}
 
 -- a place before those that wait: at the end 00h is an empty place
 unfoldable pub waiting : ℕ → List ℕ → List ℕ
@@ -41,28 +39,3 @@ pub record Reads (f : Faults) (r : Oldest) : Type 0 where
 -- 01, "State limits": a place may hold c before those of q
 unfoldable pub mayPrecede : ℕ → List ℕ → Bool
 mayPrecede c q = pick (eqb c 0) (not (waits q)) (both (queueable c) (not (among c q)))
-
--- 01, "a queue of four, oldest first": the place behind those that wait
-abbrev pub placeAt : ℕ → Noting
-placeAt zero = First
-placeAt (suc zero) = Second
-placeAt (suc (suc zero)) = Third
-placeAt (suc (suc (suc zero))) = Fourth
-placeAt (suc (suc (suc (suc n)))) = Ignored
-
--- 01, "one already waiting, or a fifth, is dropped"
-unfoldable pub placeFor : Faults → ℕ → Noting
-placeFor f c = pick (among c (queueOf f)) Ignored (placeAt (length (queueOf f)))
-
--- 01, "The host notes codes": 00h is ignored; 22h and 24h lock the position and are not queued
-unfoldable pub notingOf : Faults → ℕ → Noting
-notingOf f c = pick (eqb c 0) Ignored (pick (locks c) Locks (placeFor f c))
-
--- the waiting codes and the lock after it
-abbrev pub notedAs : Faults → ℕ → Noting → Faults
-notedAs f c Ignored = f
-notedAs f c Locks = record { first = f .first; second = f .second; third = f .third; fourth = f .fourth; locked = true }
-notedAs f c First = record { first = c; second = f .second; third = f .third; fourth = f .fourth; locked = f .locked }
-notedAs f c Second = record { first = f .first; second = c; third = f .third; fourth = f .fourth; locked = f .locked }
-notedAs f c Third = record { first = f .first; second = f .second; third = c; fourth = f .fourth; locked = f .locked }
-notedAs f c Fourth = record { first = f .first; second = f .second; third = f .third; fourth = c; locked = f .locked }

@@ -7,7 +7,8 @@ ghost use Rattle.meaning.specs.Bytes.{among};
 ghost use Rattle.meaning.specs.State.{State, queued, noted, apart, locks};
 ghost use Rattle.meaning.specs.Frames.{warned};
 ghost use Rattle.meaning.specs.Demands.{waits};
-ghost use Rattle.state.specs.Queue.{queueOf, waiting, mayPrecede, noFaults, holding, placeFor, notingOf, notedAs, Queues, Reads};
+ghost use Rattle.state.specs.Queue.{queueOf, waiting, mayPrecede, noFaults, holding, Queues, Reads};
+ghost use Rattle.state.specs.Effects.{placeFor, notingOf, notedAs};
 
 pub struct Faults {
     pub first: u8,

@@ -1,5 +1,5 @@
 -- `image::write::frame_row` meets its contract. Assumes nothing.
-use Rattle.image.specs.Image.{frameRow}
+use Rattle.image.specs.Writes.{frameRow}
 use borrow.Author.Needs.{needs}
 use Rattle.image.proofs.write.frame_row.Statement.{statement}
 use Rattle.image.proofs.write.frame_row.Tie as tie

@@ -2,7 +2,8 @@
 use native.Mathlib.Omega.{arith}
 use denote.Ref.{now}
 use Rattle.state.proofs.Ways.{placed-code}
-use Rattle.image.specs.Image.{counterSet, stateIn}
+use Rattle.image.specs.Image.{stateIn}
+use Rattle.image.specs.Writes.{counterSet}
 use Rattle.image.proofs.Placing.{with-code, put-nothing, put-code, put-counter, put-offset, put-overflow, put-oldest, put-emptied, still-holds}
 use borrow.Author.Needs.{needs}
 use Rattle.image.proofs.write.put_effect.Statement.{statement}
