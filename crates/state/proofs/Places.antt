@@ -258,6 +258,10 @@ unfolding waits
 no-codes [] e = refl
 no-codes (c ∷ q) e = absurd (false≢true (sym e))
 
+pub sound-none : (f : Faults) → waits (queueOf f) ≡ false → apart (queueOf f) ≡ true
+unfolding apart
+sound-none f e = rw (no-codes (queueOf f) e)
+
 -- how many wait, by the places
 module _ (f : Faults) where
   four-wait : eqb (f .fourth) 0 ≡ false → length (queueOf f) ≡ 4

@@ -142,6 +142,9 @@ impl State {
         if !offset_fits(self.offset, bits) {
             return false;
         }
+        if !self.faults.waits() {
+            return true;
+        }
         self.faults.is_sound()
     }
 }

@@ -2,6 +2,7 @@
 use mathlib.Core.Path.{_≡_, sym, _∙_}
 use borrow.Author.Tests.{le-leb, lt-leb, not-true, not-false}
 use lib.ListN.{length}
+use Rattle.state.proofs.Places.{sound-none}
 use Rattle.state.proofs.States.{within}
 use borrow.Author.Needs.{needs}
 use Rattle.state.proofs.state.State.is_ok.Statement.{statement}
@@ -9,6 +10,7 @@ use Rattle.state.proofs.state.State.is_ok.Tie as tie
 use Rattle.state.proofs.state.State.is_ok.Reads as reads
 use Rattle.state.proofs.state.State.is_ok.Lts as lts
 use Rattle.state.proofs.faults.Faults.is_sound.Reads as is-sound-reads
+use Rattle.state.proofs.faults.Faults.waits.Reads as waits-reads
 use Rattle.state.proofs.state.offset_fits.Reads as offset-fits-reads
 
 four-codes : (c : tie.Start) → length (c .args .self .codes) ≡ 4
@@ -24,20 +26,42 @@ offset-fits-requires c κs = search needs
 
 returns-2 : tie.Need-returns-2
 returns-2 c =
-    let after-else1 = c .before .before in
-    let start = after-else1 .before .before in
-    λ p l e few. within _ p l (four-codes start) few (simp (e, le-leb _ _ (after-else1 .if1 .left), sym (c .before .offset-fits .ensures) ∙ not-true _ (c .if2 .taken)))
+    let after-offset-fits = c .before in
+    let after-if1 = after-offset-fits .before in
+    let start = after-if1 .before .before in
+    λ p l e few. within _ p l (four-codes start) few (simp (e, le-leb _ _ (after-if1 .if1 .left), sym (after-offset-fits .offset-fits .ensures) ∙ not-true _ (c .if2 .taken)))
+
+waits-requires : tie.Need-waits-requires
+waits-requires c κs = search needs
+
+returns-3 : tie.Need-returns-3
+returns-3 c =
+    let after-waits = c .before in
+    let after-if2 = after-waits .before in
+    let after-offset-fits = after-if2 .before in
+    let after-if1 = after-offset-fits .before in
+    let start = after-if1 .before .before in
+    λ p l e few. within _ p l (four-codes start) few (simp (e, le-leb _ _ (after-if1 .if1 .left), sym (after-offset-fits .offset-fits .ensures) ∙ not-false _ (after-if2 .if2 .left), sound-none _ (sym (after-waits .waits .ensures) ∙ not-true _ (c .if3 .taken))))
 
 is-sound-requires : tie.Need-is-sound-requires
 is-sound-requires c κs = search needs
 
-returns-3 : tie.Need-returns-3
-returns-3 c =
-    let after-offset-fits = c .before .before in
-    let after-else1 = after-offset-fits .before in
-    let start = after-else1 .before .before in
-    λ p l e few. within _ p l (four-codes start) few (simp (e, le-leb _ _ (after-else1 .if1 .left), sym (after-offset-fits .offset-fits .ensures) ∙ not-false _ (c .before .if2 .left), sym (c .is-sound .ensures)))
+returns-4 : tie.Need-returns-4
+returns-4 c =
+    let after-if2 = c .before .before .before in
+    let after-offset-fits = after-if2 .before in
+    let after-if1 = after-offset-fits .before in
+    let start = after-if1 .before .before in
+    λ p l e few. within _ p l (four-codes start) few (simp (e, le-leb _ _ (after-if1 .if1 .left), sym (after-offset-fits .offset-fits .ensures) ∙ not-false _ (after-if2 .if2 .left), sym (c .is-sound .ensures)))
 
 pub is-ok-spec : {M : Type 1} → statement M
 is-ok-spec =
-    tie.close (tie.spec returns offset-fits-requires returns-2 is-sound-requires returns-3)
+    tie.close
+    (tie.spec
+    returns
+    offset-fits-requires
+    returns-2
+    waits-requires
+    returns-3
+    is-sound-requires
+    returns-4)
