@@ -17,6 +17,7 @@ use Rattle.meaning.proofs.Choices.{both-left, both-right, both-true}
 use Rattle.wire.proofs.Numbers.{low-first, little-at}
 use Rattle.line.specs.Line.{lineOf}
 use Rattle.state.specs.Queue.{waiting, queueOf}
+use Rattle.state.proofs.Places.{no-codes}
 use Rattle.state.proofs.States.{within}
 use Rattle.image.specs.Image.{numberAt, isCore, stateIn, frameIn, keptIn, heldIn}
 use Rattle.image.proofs.Standing.{places}
@@ -25,11 +26,6 @@ use Rattle.image.proofs.Round.{good}
 use Rattle.quicksetter.specs.Calls.{callNumber}
 use Rattle.quicksetter.specs.Cores.{possible, refusalIn, coreCalled, coreAfter, CoreCalled, Unrefused}
 use Rattle.quicksetter.proofs.Leaving.{no-core}
-
-no-codes : (q : List ℕ) → waits q ≡ false → q ≡ []
-unfolding waits
-no-codes [] e = refl
-no-codes (c ∷ q) e = absurd (false≢true (sym e))
 
 empty-queue : (core : List ℕ) → numberAt core 16 ≡ 0 → queueOf (stateIn core .faults) ≡ []
 unfolding queueOf waiting stateIn

@@ -253,7 +253,7 @@ module _ (s : State) (f : Faults) (c : ℕ) where
     queueing e h = rw (n, e, h .queue, h .lock)
 
 -- ---- the place that a code takes
-no-codes : (q : List ℕ) → waits q ≡ false → q ≡ []
+pub no-codes : (q : List ℕ) → waits q ≡ false → q ≡ []
 unfolding waits
 no-codes [] e = refl
 no-codes (c ∷ q) e = absurd (false≢true (sym e))

@@ -102,6 +102,7 @@ impl Faults {
         self.place_for(code)
     }
 
+    // The queue and the lock after that.
     fn noted(self, code: u8, noting: Noting) -> Faults
         ensures { λ r. ⌜ r ≡ notedAs self code noting ⌝ }
     {
@@ -131,6 +132,7 @@ impl Faults {
         }
     }
 
+    // 01, row 47h, "08h is queued".
     pub fn queued(self, code: u8) -> Faults
         requires { ⌜ 0 < code ⌝ }
         ensures { λ r. ⌜ Queues self (queued (queueOf self) code) r ⌝ }
