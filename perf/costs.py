@@ -8,16 +8,18 @@ from process import Failure, run
 
 ENTRIES = ("character", "poll", "measured", "fault", "power_on", "fresh")
 CLOSING = ("poll", "character")
+LIMIT = 1.1  # of the hand-written C's instructions
 
 CALLS_NOTE = """\
 Instructions from the entry's first to its return, with all that it calls. Each call is counted on its own, by callgrind; both boards start from the same
 bytes, and must return and leave the same. A row is every call of its kind in perf/calls.c, on two plates and with 0 to 4 fault codes waiting: the dearest call
-of each board with their ratio, the ratio of the two means, and the ratio of the single call that stands worst for the library."""
+of each board with their ratio, the ratio of the two means, the ratio of the single call that stands worst for the library, and how many single calls cost more
+than 1.1 of the hand-written C's."""
 CLOSING_NOTE = """\
 Counted and compared in the same way. A row is every way of perf/ways.h with that command, whether it is done or answered with an error; below stand the frames
 that are no request. Tried are plates of 1 to 5, 8 and 112 blocks, few fields and many, sound tables and unsound ones, 0 to 4 fault codes waiting, a locked
-position, and the board's own address as well as the broadcast. The worst single calls are those on plates of few blocks, where the walk over the table
-costs next to nothing and what stands around it counts."""
+position, and the board's own address as well as the broadcast. Single calls of 4Ah to 4Eh stand worst on plates of few blocks, where the walk over the table
+costs next to nothing and what stands around it counts; the others where two or three codes wait."""
 
 
 class Call(NamedTuple):
@@ -30,12 +32,14 @@ class Call(NamedTuple):
 
 
 class Row(NamedTuple):
-    """The calls of one row: the dearest of each board, the ratio of the means, and the call that stands worst for the library."""
+    """The calls of one row: the dearest of each board, the ratio of the means, the call that stands worst for the library, and how many are over the limit."""
 
     library: int
     hand: int
     mean: float
     worst: Call
+    over: int
+    calls: int
 
     @property
     def ratio(self) -> float:
@@ -69,7 +73,8 @@ def counted(program: str, entry: str, work: str) -> List[Call]:
 
 def row_of(calls: List[Call]) -> Row:
     library, hand = [call.library for call in calls], [call.hand for call in calls]
-    return Row(max(library), max(hand), sum(library) / sum(hand), max(calls, key=ratio_of))
+    over = sum(ratio_of(call) > LIMIT for call in calls)
+    return Row(max(library), max(hand), sum(library) / sum(hand), max(calls, key=ratio_of), over, len(calls))
 
 
 def rows_of(calls: List[Call]) -> Dict[str, Row]:

@@ -41,7 +41,7 @@ ROUNDS = 7
 KEPT = "character that is kept"
 KEPT_LIMIT = 92
 KEPT_RATIO_LIMIT = 0.92
-OTHER_RATIO_LIMIT = 1.1
+OTHER_RATIO_LIMIT = costs.LIMIT
 
 
 # --- tapes ----------------------------------------------------------------------------------
@@ -256,12 +256,12 @@ def table(head: List[str], rows: List[List[str]]) -> str:
 
 LIMIT_NOTE = f"""\
 The gate holds the ratios of the dearest calls and of the means: to {OTHER_RATIO_LIMIT} in every row of this table and the next, to {KEPT_RATIO_LIMIT} where a
-character is kept, and there to {KEPT_LIMIT} instructions while no code waits. Single calls are shown and not held."""
-COLUMNS = ["Library", "Hand-written C", "Ratio", "Means", "Worst single call"]
+character is kept, and there to {KEPT_LIMIT} instructions while no code waits. It does not hold single calls: those are shown."""
+COLUMNS = ["Library", "Hand-written C", "Ratio", "Means", "Worst single call", "Single calls over 1.1"]
 
 
 def cells(row: Row) -> List[str]:
-    return [str(row.library), str(row.hand), f"{row.ratio:.2f}", f"{row.mean:.2f}", f"{costs.ratio_of(row.worst):.2f}"]
+    return [str(row.library), str(row.hand), f"{row.ratio:.2f}", f"{row.mean:.2f}", f"{costs.ratio_of(row.worst):.2f}", f"{row.over} of {row.calls}"]
 
 
 def call_page(rows: Dict[str, Row]) -> str:
@@ -372,6 +372,9 @@ def check_limits(library: str) -> int:
     for name, row in rows.items():
         found = f"at most {row.library} instructions, hand-written C {row.hand}, ratio {row.ratio:.3f}, of the means {row.mean:.3f}"
         print(f"perf: {name}: {found}" + (f": over its limit (worst: {row.worst.way})" if name in over else ""))
+    single, calls = sum(row.over for row in rows.values()), sum(row.calls for row in rows.values())
+    kinds = sum(row.over > 0 for row in rows.values())
+    print(f"perf: not held: {single} of {calls} single calls, in {kinds} of {len(rows)} kinds, cost more than {costs.LIMIT} of the hand-written C's")
     print(f"perf: {len(over)} of {len(rows)} kinds of calls are over their limit")
     return int(bool(over))
 
