@@ -3,6 +3,6 @@
 // An error code; so many bytes of reply data, from place 2 of the room on; no reply.
 pub enum Answer {
     Refuse(u8),
-    Accept(usize),
+    Accept(u8),
     Quiet,
 }
