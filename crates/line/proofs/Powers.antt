@@ -1,42 +1,17 @@
 -- The ticks per bit are a power of two: one bit is set. Assumes nothing.
-use Prim.Native.Nat.{ℕ, zero, suc, _-_, _<_, _≤_}
+use Prim.Native.Nat.{ℕ, suc, _-_, _<_, _≤_}
 use native.Mathlib.Omega.{arith}
-use native.Mathlib.Decide.{ℕ-discrete}
-use mathlib.Core.Path.{_≡_, refl, sym, _∙_, subst}
+use mathlib.Core.Path.{_≡_, refl, sym, subst}
 use mathlib.Core.Bool.{Bool, true, false}
 use mathlib.Core.List.{_∷_, []}
 use borrow.Author.Tests.{ne-eqb}
 use lib.Bits.{bitAnd}
 use lib.Dec.{eqb}
-use Rattle.meaning.specs.Bytes.{both, among}
-use Rattle.meaning.proofs.Choices.{both-left, both-right}
+use Rattle.meaning.specs.Bytes.{among}
+use Rattle.meaning.proofs.Every.{alike, as-told, every, at}
 
 abbrev power : ℕ → Bool
 power n = among n (1 ∷ 2 ∷ 4 ∷ 8 ∷ 16 ∷ 32 ∷ 64 ∷ [])
-
-abbrev alike : Bool → Bool → Bool
-alike true b = b
-alike false true = false
-alike false false = true
-
-as-told : (a b : Bool) → alike a b ≡ true → a ≡ b
-as-told true b e = sym e
-as-told false true e = e
-as-told false false e = refl
-
--- a test that holds of each number below n
-every : (ℕ → Bool) → ℕ → Bool
-every f zero = true
-every f (suc n) = both (f n) (every f n)
-
-at : (f : ℕ → Bool) (n : ℕ) → every f n ≡ true → (k : ℕ) → k < n → f k ≡ true
-unfolding every
-at f zero t k h = absurd (omega arith)
-at f (suc n) t k h = go (ℕ-discrete k n) (λ l. at f n (both-right (f n) (every f n) t) k l)
-  where
-    go : Dec (k ≡ n) → (k < n → f k ≡ true) → f k ≡ true
-    go (yes e) r = subst (λ (m : ℕ). f m ≡ true) (sym e) (both-left (f n) (every f n) t)
-    go (no d) r = r (omega (arith, d))
 
 test : ℕ → Bool
 test n = alike (eqb (bitAnd (suc n) n) 0) (power (suc n))
