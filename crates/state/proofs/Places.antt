@@ -2,9 +2,10 @@
 use Prim.Native.Nat.{ℕ, _+_, _<_, _%_}
 use native.Mathlib.Omega.{arith}
 use mathlib.Core.Path.{_≡_, refl, sym, ap, _∙_, subst}
-use mathlib.Core.Bool.{Bool, true, false, not, _||_, false≢true}
+use mathlib.Core.Bool.{Bool, true, false, not, false≢true}
 use mathlib.Core.List.{List, [], _∷_, _++_}
 use borrow.Author.Tests.{eqb-true, eqb-false, ne-eqb}
+use lib.Bits.{bitAnd}
 use lib.Dec.{eqb, leb}
 use lib.ListN.{length, drop}
 use Rattle.meaning.specs.Bytes.{pick, both, either, among, arg}
@@ -17,7 +18,8 @@ use Rattle.state.specs.declared.faults.Noting.{Noting}
 use Rattle.state.specs.declared.faults.Noting.the-variants.{Ignored, Locks, First, Second, Third, Fourth}
 use Rattle.state.specs.Queue.{waiting, queueOf, mayPrecede, noFaults, holding, Queues, Reads}
 use Rattle.state.specs.Effects.{placeAt, placeFor, notingOf, notedAs}
-use Rattle.meaning.proofs.Choices.{both-true, either-false}
+use Rattle.meaning.proofs.Choices.{both-true, both-false, either-false}
+use Rattle.meaning.proofs.Every.{alike, as-told, every, at}
 
 no-more-one : (c : ℕ) (q : List ℕ) → not (waits (waiting c q)) ≡ both (eqb c 0) (not (waits q))
 unfolding waits waiting
@@ -109,23 +111,22 @@ among-four f c h e =
     ∙ sym (among-more c (f .first) (waiting (f .second) (waiting (f .third) (waiting (f .fourth) []))) h
     ∙ ap (either (eqb c (f .first))) (among-three c (f .second) (f .third) (f .fourth) h))
 
-pub precedes-none : (c : ℕ) (q : List ℕ) {t : Bool} → eqb c 0 ≡ true → t ≡ not (waits q) → t ≡ mayPrecede c q
-unfolding mayPrecede
-precedes-none c q e h = rw e h
+-- 01, "22h and 24h lock the position": one test for both, computed for every byte
+one-test : ℕ → Bool
+one-test c = alike (eqb (bitAnd (c + 0xDE) 0xFD) 0) (locks c)
 
-pub may-precede : (c x y z : ℕ) {t : Bool} → eqb c 0 ≡ false → both (not (locks c)) (not (either (eqb c x) (either (eqb c y) (eqb c z)))) ≡ t
-    → t ≡ mayPrecede c (waiting x (waiting y (waiting z [])))
-unfolding mayPrecede queueable
-may-precede c x y z h e = rw (h, among-three c x y z (positive c h)) (sym e)
+one-test-computed : every one-test 256 ≡ true
+unfolding every one-test locks
+one-test-computed = refl
 
--- 01, "22h and 24h lock the position": both tests at once
-pub either-locks : (c : ℕ) → (eqb c 0x22 || eqb c 0x24) ≡ locks c
+pub locks-by-one-test : (c : ℕ) → c < 256 → eqb (bitAnd (c + 0xDE) 0xFD) 0 ≡ locks c
+unfolding one-test
+locks-by-one-test c h = as-told _ _ (at one-test 256 one-test-computed c h)
+
+-- 00h locks nothing
+pub lock-fills : (c : ℕ) → locks c ≡ true → eqb c 0 ≡ false
 unfolding locks
-either-locks c = go (eqb c 0x22) (eqb c 0x24)
-  where
-    go : (a b : Bool) → (a || b) ≡ either a b
-    go true b = refl
-    go false b = refl
+lock-fills c h = ne-eqb c 0 (λ e. false≢true (rw e at h))
 
 -- 01, "State limits", one place more in front
 pub apart-more : (c : ℕ) (q : List ℕ) → apart (waiting c q) ≡ both (mayPrecede c q) (apart q)
@@ -143,27 +144,96 @@ apart-more c (x ∷ q) = go (eqb c 0) (locks c) (among c (x ∷ q)) (apart (x �
     go false false true w = refl
     go false false false w = refl
 
-apart-last : (d : ℕ) → apart (waiting d []) ≡ mayPrecede d []
-unfolding apart
-apart-last d = apart-more d [] ∙ both-true (mayPrecede d [])
+-- a place, by what is behind it
+precedes : (c : ℕ) (q : List ℕ) {w m : Bool} → not (waits q) ≡ w → (0 < c → among c q ≡ m) → mayPrecede c q ≡ pick (eqb c 0) w (both (not (locks c)) (not m))
+unfolding mayPrecede queueable
+precedes c q {w} {m} h k = go (eqb c 0) refl
+  where
+    go : (t : Bool) → eqb c 0 ≡ t → pick t (not (waits q)) (both (both (not t) (not (locks c))) (not (among c q))) ≡ pick t w (both (not (locks c)) (not m))
+    go true e = h
+    go false e = ap (λ (x : Bool). both (not (locks c)) (not x)) (k (positive c e))
 
-pub sound-four : (f : Faults) {t : Bool}
-    → both (mayPrecede (f .first) (waiting (f .second) (waiting (f .third) (waiting (f .fourth) []))))
-    (both (mayPrecede (f .second) (waiting (f .third) (waiting (f .fourth) (waiting 0 []))))
-    (both (mayPrecede (f .third) (waiting (f .fourth) (waiting 0 (waiting 0 []))))
-    (mayPrecede (f .fourth) (waiting 0 (waiting 0 (waiting 0 [])))))) ≡ t
-    → t ≡ apart (queueOf f)
-unfolding queueOf waiting
-sound-four f e =
-    let a = f .first in
-    let b = f .second in
-    let c = f .third in
-    let d = f .fourth in
-    sym e
-    ∙ sym (apart-more a (waiting b (waiting c (waiting d [])))
-    ∙ ap (both (mayPrecede a (waiting b (waiting c (waiting d []))))) (apart-more b (waiting c (waiting d []))
-    ∙ ap (both (mayPrecede b (waiting c (waiting d [])))) (apart-more c (waiting d [])
-    ∙ ap (both (mayPrecede c (waiting d []))) (apart-last d))))
+-- .. with nothing behind it
+last-alone : (d : ℕ) → apart (waiting d []) ≡ not (locks d)
+unfolding apart waits among locks
+last-alone d = apart-more d [] ∙ both-true (mayPrecede d []) ∙ precedes d [] refl (λ p. refl) ∙ go (eqb d 0) refl
+  where
+    go : (t : Bool) → eqb d 0 ≡ t → pick t true (both (not (locks d)) true) ≡ not (locks d)
+    go true e = rw (eqb-true d 0 e)
+    go false e = both-true (not (locks d))
+
+-- the four places, where the first holds a code
+unfoldable pub fourApart : Faults → Bool
+fourApart f =
+    both (both (not (locks (f .first))) (not (either (eqb (f .first) (f .second)) (either (eqb (f .first) (f .third)) (eqb (f .first) (f .fourth))))))
+    (both (pick (eqb (f .second) 0) (both (eqb (f .third) 0) (eqb (f .fourth) 0)) (both (not (locks (f .second))) (not (either (eqb (f .second) (f .third)) (eqb (f .second) (f .fourth))))))
+    (both (pick (eqb (f .third) 0) (eqb (f .fourth) 0) (both (not (locks (f .third))) (not (eqb (f .third) (f .fourth)))))
+    (not (locks (f .fourth)))))
+
+module _ (f : Faults) where
+  none-behind : not (waits (waiting (f .fourth) [])) ≡ eqb (f .fourth) 0
+  unfolding waits
+  none-behind = no-more-one (f .fourth) [] ∙ both-true (eqb (f .fourth) 0)
+
+  two-behind : not (waits (waiting (f .third) (waiting (f .fourth) []))) ≡ both (eqb (f .third) 0) (eqb (f .fourth) 0)
+  two-behind = no-more-one (f .third) (waiting (f .fourth) []) ∙ ap (both (eqb (f .third) 0)) none-behind
+
+  places-apart : eqb (f .first) 0 ≡ false → apart (queueOf f) ≡ fourApart f
+  unfolding queueOf fourApart
+  places-apart h =
+      let a = f .first in
+      let b = f .second in
+      let c = f .third in
+      let d = f .fourth in
+      apart-more a (waiting b (waiting c (waiting d [])))
+      ∙ rw (
+        precedes a (waiting b (waiting c (waiting d []))) refl (among-three a b c d),
+        h,
+        apart-more b (waiting c (waiting d [])),
+        precedes b (waiting c (waiting d [])) two-behind (λ p. among-more b c (waiting d []) p ∙ ap (either (eqb b c)) (among-one b d p)),
+        apart-more c (waiting d []),
+        precedes c (waiting d []) none-behind (among-one c d),
+        last-alone d,
+      )
+
+  some-first : eqb (f .first) 0 ≡ false → waits (queueOf f) ≡ true
+  unfolding queueOf
+  some-first h = go (waits (waiting (f .first) (waiting (f .second) (waiting (f .third) (waiting (f .fourth) [])))))
+      (no-more-one (f .first) (waiting (f .second) (waiting (f .third) (waiting (f .fourth) []))) ∙ rw h)
+    where
+      go : (t : Bool) → not t ≡ false → t ≡ true
+      go true e = refl
+      go false e = sym e
+
+  -- a code before an empty place, or none at all
+  pub first-empty : eqb (f .first) 0 ≡ true → false ≡ both (waits (queueOf f)) (apart (queueOf f))
+  unfolding queueOf mayPrecede
+  first-empty h =
+      let q = waiting (f .second) (waiting (f .third) (waiting (f .fourth) [])) in
+      go (waits (waiting (f .first) q)) (waits q) (no-more-one (f .first) q ∙ rw h) (apart q) ∙ sym (rw (apart-more (f .first) q, h))
+    where
+      go : (t u : Bool) → not t ≡ not u → (x : Bool) → false ≡ both t (both (not u) x)
+      go false u e x = refl
+      go true true e x = refl
+      go true false e x = absurd (false≢true e)
+
+  module _ (h : eqb (f .first) 0 ≡ false) where
+    pub apart-so : {t : Bool} → fourApart f ≡ t → t ≡ both (waits (queueOf f)) (apart (queueOf f))
+    apart-so e = sym e ∙ sym (rw (some-first h, places-apart h))
+
+    -- two codes, or one
+    pub two-so : locks (f .first) ≡ false → eqb (f .first) (f .second) ≡ false → locks (f .second) ≡ false → eqb (f .third) 0 ≡ true
+        → eqb (f .fourth) 0 ≡ both (waits (queueOf f)) (apart (queueOf f))
+    unfolding fourApart locks
+    two-so la ab lb zc = apart-so (go (eqb (f .fourth) 0) refl)
+      where
+        go : (t : Bool) → eqb (f .fourth) 0 ≡ t → fourApart f ≡ t
+        go true zd = rw (la, ab, lb, eqb-true (f .third) 0 zc, eqb-true (f .fourth) 0 zd, h) (last (eqb (f .second) 0))
+          where
+            last : (u : Bool) → both (pick u true (not (either u u))) true ≡ true
+            last true = refl
+            last false = refl
+        go false zd = simp (zc, zd, both-false)
 
 joined : (f : Faults) (c : ℕ) {r : Faults} → among c (queueOf f) ≡ false
     → queueOf r ≡ pick (leb 4 (length (queueOf f))) (queueOf f) (queueOf f ++ (c ∷ [])) → r .locked ≡ f .locked → Queues f (queued (queueOf f) c) r
@@ -261,6 +331,10 @@ no-codes (c ∷ q) e = absurd (false≢true (sym e))
 pub sound-none : (f : Faults) → waits (queueOf f) ≡ false → apart (queueOf f) ≡ true
 unfolding apart
 sound-none f e = rw (no-codes (queueOf f) e)
+
+-- .. and where codes wait, by the test of those
+pub sound-some : (q : List ℕ) {t : Bool} → waits q ≡ true → t ≡ both (waits q) (apart q) → apart q ≡ t
+sound-some q w e = sym (rw w at e)
 
 -- how many wait, by the places
 module _ (f : Faults) where

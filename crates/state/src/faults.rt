@@ -3,11 +3,12 @@ ghost use mathlib.Core.Path.{_≡_};
 ghost use mathlib.Core.Bool.{not};
 ghost use mathlib.Core.List.{List, []};
 ghost use Prim.Native.Nat.{ℕ, _<_};
-ghost use Rattle.meaning.specs.Bytes.{among};
+ghost use lib.Dec.{eqb};
+ghost use Rattle.meaning.specs.Bytes.{both, either, among};
 ghost use Rattle.meaning.specs.State.{State, queued, noted, apart, locks};
 ghost use Rattle.meaning.specs.Frames.{warned};
 ghost use Rattle.meaning.specs.Demands.{waits};
-ghost use Rattle.state.specs.Queue.{queueOf, waiting, mayPrecede, noFaults, holding, Queues, Reads};
+ghost use Rattle.state.specs.Queue.{queueOf, waiting, noFaults, holding, Queues, Reads};
 ghost use Rattle.state.specs.Effects.{placeFor, notingOf, notedAs};
 
 pub struct Faults {
@@ -189,20 +190,41 @@ impl Faults {
         !no_more(self.second, self.third, self.fourth)
     }
 
-    // 01, "State limits": the waiting codes all different, none of them 00h, 22h or 24h. An empty queue, the usual one, is told at once.
-    pub fn is_sound(self) -> bool
-        ensures { λ r. ⌜ r ≡ apart (queueOf self) ⌝ }
+    // 01, "State limits": whether codes wait, and all different, none of them 00h, 22h or 24h. Each is held to those before it, and two are told at once.
+    pub fn waits_apart(self) -> bool
+        ensures { λ r. ⌜ r ≡ both (waits (queueOf self)) (apart (queueOf self)) ⌝ }
     {
-        if !may_precede(self.first, self.second, self.third, self.fourth) {
+        if self.first == 0 {
             return false;
         }
-        if !may_precede(self.second, self.third, self.fourth, 0) {
+        if locks(self.first) {
             return false;
         }
-        if !may_precede(self.third, self.fourth, 0, 0) {
+        if self.first == self.second {
             return false;
         }
-        may_precede(self.fourth, 0, 0, 0)
+        if locks(self.second) {
+            return false;
+        }
+        if self.third == 0 {
+            return self.fourth == 0;
+        }
+        if self.second == 0 {
+            return false;
+        }
+        if is_among(self.first, self.third, self.fourth) {
+            return false;
+        }
+        if is_among(self.second, self.third, self.fourth) {
+            return false;
+        }
+        if locks(self.third) {
+            return false;
+        }
+        if self.third == self.fourth {
+            return false;
+        }
+        !locks(self.fourth)
     }
 }
 
@@ -217,11 +239,21 @@ pub fn marked(command: u8, waiting: bool) -> u8
     low
 }
 
-// 01, "22h and 24h lock the position". Both tests at once: the compiler makes one of them.
+// 01, "22h and 24h lock the position". One test for both: to either 0xDE is what is missing to 100h, or to 102h.
 pub fn locks(code: u8) -> bool
     ensures { λ r. ⌜ r ≡ locks code ⌝ }
 {
-    (code == 0x22) | (code == 0x24)
+    (code as u32 + 0xDE) & 0xFD == 0
+}
+
+// Whether the code is one of those two.
+fn is_among(code: u8, third: u8, fourth: u8) -> bool
+    ensures { λ r. ⌜ r ≡ either (eqb code third) (eqb code fourth) ⌝ }
+{
+    if code == third {
+        return true;
+    }
+    code == fourth
 }
 
 fn no_more(second: u8, third: u8, fourth: u8) -> bool
@@ -234,28 +266,6 @@ fn no_more(second: u8, third: u8, fourth: u8) -> bool
         return false;
     }
     if fourth != 0 {
-        return false;
-    }
-    true
-}
-
-// Whether a code may stand in the place before these three.
-fn may_precede(code: u8, second: u8, third: u8, fourth: u8) -> bool
-    ensures { λ r. ⌜ r ≡ mayPrecede code (waiting second (waiting third (waiting fourth []))) ⌝ }
-{
-    if code == 0 {
-        return no_more(second, third, fourth);
-    }
-    if locks(code) {
-        return false;
-    }
-    if code == second {
-        return false;
-    }
-    if code == third {
-        return false;
-    }
-    if code == fourth {
         return false;
     }
     true

@@ -39,7 +39,7 @@ fn refused(code: u8) -> Worked
     }
 }
 
-fn accepted(effect: Effect, count: usize) -> Worked
+fn accepted(effect: Effect, count: u8) -> Worked
     ensures { λ r. ⌜ r ≡ record { effect = effect; answer = Answer.Accept count } ⌝ }
 {
     Worked {

@@ -145,7 +145,7 @@ impl State {
         if !self.faults.waits() {
             return true;
         }
-        self.faults.is_sound()
+        self.faults.waits_apart()
     }
 }
 

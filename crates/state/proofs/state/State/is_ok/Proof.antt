@@ -2,14 +2,14 @@
 use mathlib.Core.Path.{_≡_, sym, _∙_}
 use borrow.Author.Tests.{le-leb, lt-leb, not-true, not-false}
 use lib.ListN.{length}
-use Rattle.state.proofs.Places.{sound-none}
+use Rattle.state.proofs.Places.{sound-none, sound-some}
 use Rattle.state.proofs.States.{within}
 use borrow.Author.Needs.{needs}
 use Rattle.state.proofs.state.State.is_ok.Statement.{statement}
 use Rattle.state.proofs.state.State.is_ok.Tie as tie
 use Rattle.state.proofs.state.State.is_ok.Reads as reads
 use Rattle.state.proofs.state.State.is_ok.Lts as lts
-use Rattle.state.proofs.faults.Faults.is_sound.Reads as is-sound-reads
+use Rattle.state.proofs.faults.Faults.waits_apart.Reads as waits-apart-reads
 use Rattle.state.proofs.faults.Faults.waits.Reads as waits-reads
 use Rattle.state.proofs.state.offset_fits.Reads as offset-fits-reads
 
@@ -43,16 +43,19 @@ returns-3 c =
     let start = after-if1 .before .before in
     λ p l e few. within _ p l (four-codes start) few (simp (e, le-leb _ _ (after-if1 .if1 .left), sym (after-offset-fits .offset-fits .ensures) ∙ not-false _ (after-if2 .if2 .left), sound-none _ (sym (after-waits .waits .ensures) ∙ not-true _ (c .if3 .taken))))
 
-is-sound-requires : tie.Need-is-sound-requires
-is-sound-requires c κs = search needs
+waits-apart-requires : tie.Need-waits-apart-requires
+waits-apart-requires c κs = search needs
 
 returns-4 : tie.Need-returns-4
 returns-4 c =
-    let after-if2 = c .before .before .before in
+    let after-if3 = c .before in
+    let after-waits = after-if3 .before in
+    let after-if2 = after-waits .before in
     let after-offset-fits = after-if2 .before in
     let after-if1 = after-offset-fits .before in
     let start = after-if1 .before .before in
-    λ p l e few. within _ p l (four-codes start) few (simp (e, le-leb _ _ (after-if1 .if1 .left), sym (after-offset-fits .offset-fits .ensures) ∙ not-false _ (after-if2 .if2 .left), sym (c .is-sound .ensures)))
+    let some = sym (after-waits .waits .ensures) ∙ not-false _ (after-if3 .if3 .left) in
+    λ p l e few. within _ p l (four-codes start) few (simp (e, le-leb _ _ (after-if1 .if1 .left), sym (after-offset-fits .offset-fits .ensures) ∙ not-false _ (after-if2 .if2 .left), sound-some _ some (c .waits-apart .ensures)))
 
 pub is-ok-spec : {M : Type 1} → statement M
 is-ok-spec =
@@ -63,5 +66,5 @@ is-ok-spec =
     returns-2
     waits-requires
     returns-3
-    is-sound-requires
+    waits-apart-requires
     returns-4)
