@@ -7,7 +7,8 @@ use mathlib.Core.List.{List}
 use borrow.Author.Tests.{eqb-true, ne-eqb, leb-true}
 use lib.Dec.{eqb, leb}
 use lib.ListN.{length}
-use Rattle.meaning.specs.Bytes.{pick, both}
+use Rattle.meaning.specs.Bytes.{pick, both, longestReply, arg}
+use Rattle.meaning.specs.Fields.{survey}
 use Rattle.meaning.specs.State as meaning
 use Rattle.meaning.specs.State.{none}
 use Rattle.meaning.specs.Commands as commands
@@ -16,8 +17,10 @@ use Rattle.meaning.specs.Commands.{readPosition, setPosition, readCounter, step
 use Rattle.meaning.proofs.Choices.{both-left, both-right}
 use Rattle.wire.specs.declared.answer.Answer.{Answer}
 use Rattle.wire.specs.Answers.{memoryAfter, stateAfter, Works}
-use Rattle.fields.specs.Memory.{Lent}
-use Rattle.fields.specs.Replies.{Asked}
+use Rattle.fields.specs.declared.seen.Survey.{Survey}
+use Rattle.fields.specs.Memory.{Sized, Lent, Saw, surveyOf}
+use Rattle.fields.specs.Replies.{Looked, Tellable}
+use Rattle.fields.proofs.Tables.{first-few, free-few}
 use Rattle.line.specs.declared.plate.Plate.{Plate}
 use Rattle.line.specs.Line.{plateOf}
 use Rattle.line.proofs.Limits.{total-fits, few-bits}
@@ -25,7 +28,7 @@ use Rattle.state.specs.declared.state.State.{State}
 use Rattle.state.specs.declared.rows.Worked.{Worked}
 use Rattle.state.specs.State.{stateWith}
 use Rattle.state.specs.Rows.{Answers}
-use Rattle.board.specs.Work.{Workable, Changeable, WorksOn, leavesState, Tells}
+use Rattle.board.specs.Work.{Workable, MemoryLent, Changeable, WorksOn, onMemory, Tells}
 use Rattle.board.proofs.Endings.{unknown-never}
 
 -- what the rows ask
@@ -45,52 +48,73 @@ module _ (p : Plate) (s : State) {c : ℕ} (d m w : List ℕ) (h : Workable p s 
   pub bits-fit : p .bits ≤ 32
   bits-fit = few-bits (plateOf p) (h .plate)
 
-  pub changeable : leavesState c ≡ false → Changeable (p .bits) s c d w
-  changeable e = record { bits = bits-fit; counter = h .counter; room = h .room; fits = h .fits; changes = e }
+  pub changeable : onMemory c ≡ false → Changeable (p .bits) s c d w
+  changeable e = record { bits = bits-fit; counter = h .counter; room = h .room; fits = h .fits; alone = e }
 
-  pub lent : Lent (p .total) m w
-  lent = record { fit = record { few = total-fits (plateOf p) (h .plate); long = h .size }; room = h .room }
+  pub memory-lent : (codes : List ℕ) → length codes ≡ 4 → onMemory c ≡ true → MemoryLent (p .total) codes c d m w
+  memory-lent codes k e = record { few = total-fits (plateOf p) (h .plate); size = h .size; room = h .room; codes = k; fits = h .fits; memory = e }
+
+-- what the rows on the memory ask, once the table is surveyed for the field that the request names
+module _ {t c : ℕ} (codes d m w : List ℕ) (h : MemoryLent t codes c d m w) where
+  pub sized : Sized t m
+  sized = record { few = h .few; long = h .size }
 
   fitting : {k : Command} → commandOf c ≡ k → asked k d ≡ true
   fitting e = rw e at (h .fits)
 
-  pub asked-4A : c ≡ 0x4A → Asked c4A (p .total) m d w
-  unfolding commandOf
-  asked-4A e = record { lent = lent; wanted = fitting (rw e) }
+  module _ (v : Survey) {f : ℕ} (named : f ≡ arg d 0) (saw : Saw t m f v) where
+    surveyed : surveyOf v ≡ survey t m (arg d 0)
+    surveyed = rw (← named) (saw .seen)
 
-  pub asked-4B : c ≡ 0x4B → Asked c4B (p .total) m d w
-  unfolding commandOf
-  asked-4B e = record { lent = lent; wanted = fitting (rw e) }
+    lent : Lent (v .total) m w
+    lent = rw (saw .total) (record { fit = sized; room = h .room })
 
-  pub asked-4C : c ≡ 0x4C → Asked c4C (p .total) m d w
-  unfolding commandOf
-  asked-4C e = record { lent = lent; wanted = fitting (rw e) }
+    looked : {k : Command} → commandOf c ≡ k → Looked k v codes m d w
+    looked e = record { asked = record { lent = lent; wanted = fitting e }; seen = rw (saw .total) surveyed; codes = h .codes }
 
-  pub asked-4D : c ≡ 0x4D → Asked c4D (p .total) m d w
-  unfolding commandOf
-  asked-4D e = record { lent = lent; wanted = fitting (rw e) }
+    pub looked-4A : c ≡ 0x4A → Looked c4A v codes m d w
+    unfolding commandOf
+    looked-4A e = looked (rw e)
 
--- what leaves the state is no command that changes it
-kept-by : (c : ℕ) → leavesState c ≡ false → (k : ℕ) → leavesState k ≡ true → eqb c k ≡ false
-kept-by c x k y = ne-eqb c k (λ e. false≢true (sym x ∙ ap leavesState e ∙ y))
+    pub looked-4B : c ≡ 0x4B → Looked c4B v codes m d w
+    unfolding commandOf
+    looked-4B e = looked (rw e)
 
--- a command of the table that changes the state and is none of the other five is 53h
-pub last-change : (c : ℕ) (d : List ℕ) → asked (commandOf c) d ≡ true → leavesState c ≡ false → eqb c 0x43 ≡ false → eqb c 0x47 ≡ false → eqb c 0x49 ≡ false
-    → eqb c 0x4F ≡ false → eqb c 0x50 ≡ false → c ≡ 0x53
-unfolding commandOf leavesState
-last-change c d h x j l n o q =
-    let y = kept-by c x in
-    eqb-true c 0x53 (go (eqb c 0x53) (rw (y 0x42 refl, j, y 0x46 refl, l, n, y 0x4A refl, y 0x4B refl, y 0x4C refl, y 0x4D refl, y 0x4E refl, o, q) at h))
+    pub looked-4D : c ≡ 0x4D → Looked c4D v codes m d w
+    unfolding commandOf
+    looked-4D e = looked (rw e)
+
+    pub tellable-4C : c ≡ 0x4C → Tellable c4C v d w
+    unfolding commandOf
+    tellable-4C e = record { wanted = fitting (rw e); few = first-few t m f (surveyOf v) (saw .seen) sized; room = h .room }
+
+    pub told-4E : (v .free ≤ 255) × (longestReply ≤ length w)
+    told-4E = (free-few t m f (surveyOf v) (saw .seen) sized, h .room)
+
+    -- a plate and a state that they are of
+    pub of-plate : (p : meaning.Plate) → p .total ≡ t → surveyOf v ≡ survey (p .total) m (arg d 0)
+    of-plate p e = rw e surveyed
+
+-- a command on the state is none on the memory
+not-on-memory : (c : ℕ) → onMemory c ≡ false → (k : ℕ) → onMemory k ≡ true → eqb c k ≡ false
+not-on-memory c x k y = ne-eqb c k (λ e. false≢true (sym x ∙ ap onMemory e ∙ y))
+
+-- a command of the table that is on the state and none of the other seven is 53h
+pub last-alone : (c : ℕ) (d : List ℕ) → asked (commandOf c) d ≡ true → onMemory c ≡ false → eqb c 0x42 ≡ false → eqb c 0x43 ≡ false → eqb c 0x46 ≡ false
+    → eqb c 0x47 ≡ false → eqb c 0x49 ≡ false → eqb c 0x4F ≡ false → eqb c 0x50 ≡ false → c ≡ 0x53
+unfolding commandOf onMemory
+last-alone c d h x i j k l n o q =
+    let y = not-on-memory c x in
+    eqb-true c 0x53 (go (eqb c 0x53) (rw (i, j, k, l, n, y 0x4A refl, y 0x4B refl, y 0x4C refl, y 0x4D refl, y 0x4E refl, o, q) at h))
   where
     go : (t : Bool) → asked (pick t c53 unknown) d ≡ true → t ≡ true
     go true e = refl
     go false e = absurd (false≢true (sym (unknown-never d) ∙ e))
 
--- the last of those that leave the state
-pub last-told : (c : ℕ) → leavesState c ≡ true → eqb c 0x42 ≡ false → eqb c 0x46 ≡ false → (c ≡ 0x4A → ⊥) → (c ≡ 0x4B → ⊥) → (c ≡ 0x4C → ⊥) → (c ≡ 0x4D → ⊥) → c ≡ 0x4E
-unfolding leavesState
-last-told c h i j k l n o =
-    let e : both (leb 0x4A c) (leb c 0x4E) ≡ true = rw (i, j) at h in
+-- the last of those on the memory
+pub last-on-memory : (c : ℕ) → onMemory c ≡ true → (c ≡ 0x4A → ⊥) → (c ≡ 0x4B → ⊥) → (c ≡ 0x4C → ⊥) → (c ≡ 0x4D → ⊥) → c ≡ 0x4E
+unfolding onMemory
+last-on-memory c e k l n o =
     let low : 0x4A ≤ c = leb-true 0x4A c (both-left (leb 0x4A c) (leb c 0x4E) e) in
     let high : c ≤ 0x4E = leb-true c 0x4E (both-right (leb 0x4A c) (leb c 0x4E) e) in
     omega arith
@@ -119,13 +143,13 @@ module _ (s : meaning.State) where
   chosen false a b h k = k
 
 module _ (p : meaning.Plate) (s : State) {c : ℕ} (d m w : List ℕ) {r : Worked} {w′ : List ℕ} where
-  pub told-42 : c ≡ 0x42 → Answers c42 p s none m d w r w′ → Tells (worked (commandOf c) p (stateWith s none) m d) (stateWith s none) m w (r .answer) m w′
+  pub row-42 : c ≡ 0x42 → Answers c42 p s none m d w r w′ → WorksOn (commandOf c) p s d m w r m w′
   unfolding commandOf worked readPosition
-  told-42 e h = rw e (record { works = record { answer = h .answer; memory = sym (keeps m _ _ _ refl); room = h .room }; state = stays (stateWith s none) _ _ _ refl })
+  row-42 e h = rw e (record { row = h; memory = sym (keeps m _ _ _ refl) })
 
-  pub told-46 : c ≡ 0x46 → Answers c46 p s none m d w r w′ → Tells (worked (commandOf c) p (stateWith s none) m d) (stateWith s none) m w (r .answer) m w′
+  pub row-46 : c ≡ 0x46 → Answers c46 p s none m d w r w′ → WorksOn (commandOf c) p s d m w r m w′
   unfolding commandOf worked readCounter
-  told-46 e h = rw e (record { works = record { answer = h .answer; memory = refl; room = h .room }; state = refl })
+  row-46 e h = rw e (record { row = h; memory = refl })
 
   pub row-43 : c ≡ 0x43 → Answers c43 p s none m d w r w′ → WorksOn (commandOf c) p s d m w r m w′
   unfolding commandOf worked setPosition

@@ -5,7 +5,7 @@ use mathlib.Core.Bool.{Bool, true, false}
 use mathlib.Core.List.{List, [], _∷_}
 use lib.Dec.{eqb, leb}
 use lib.ListN.{length}
-use Rattle.meaning.specs.Bytes.{pick, both, either, longestReply, part, put}
+use Rattle.meaning.specs.Bytes.{pick, both, longestReply, part, put}
 use Rattle.meaning.specs.State as meaning
 use Rattle.meaning.specs.State.{none, lastCount, plateOk}
 use Rattle.meaning.specs.Fields.{memoryLength}
@@ -46,11 +46,20 @@ pub record WorksOn (k : Command) (p : meaning.Plate) (s : State) (d m w : List �
   pub row : Answers k p s none m d w r w′
   pub memory : m′ ≡ memoryAfter (worked k p (stateWith s none) m d) m
 
--- 01, rows 42h, 46h, 4Ah to 4Eh
-unfoldable pub leavesState : ℕ → Bool
-leavesState c = either (eqb c 0x42) (either (eqb c 0x46) (both (leb 0x4A c) (leb c 0x4E)))
+-- 01, rows 4Ah to 4Eh
+unfoldable pub onMemory : ℕ → Bool
+onMemory c = both (leb 0x4A c) (leb c 0x4E)
 
--- .. which leave the state as it is
+-- what they ask: memory and room, the four codes, and a request whose data d has its row's length
+pub record MemoryLent (t : ℕ) (codes : List ℕ) (c : ℕ) (d m w : List ℕ) : Type 0 where
+  pub few : t ≤ 112
+  pub size : length m ≡ memoryLength t
+  pub room : longestReply ≤ length w
+  pub codes : length codes ≡ 4
+  pub fits : asked (commandOf c) d ≡ true
+  pub memory : onMemory c ≡ true
+
+-- .. and that they leave the state as it is
 pub record Tells (a : commands.Answer) (s : meaning.State) (m w : List ℕ) (r : Answer) (m′ w′ : List ℕ) : Type 0 where
   pub works : Works a m w r m′ w′
   pub state : stateAfter a s ≡ s
@@ -61,7 +70,7 @@ pub record Changeable (n : ℕ) (s : State) (c : ℕ) (d w : List ℕ) : Type 0 
   pub counter : s .counter ≤ lastCount
   pub room : longestReply ≤ length w
   pub fits : asked (commandOf c) d ≡ true
-  pub changes : leavesState c ≡ false
+  pub alone : onMemory c ≡ false
 
 -- 01, "An error reply is address, 50h, code, checksum"; other data stands from place 2 of the room on; the state is the one after the work
 unfoldable pub replyOf : meaning.Plate → meaning.State → ℕ → Answer → List ℕ → List ℕ

@@ -55,7 +55,7 @@ pub fn poll(
     if frame.is_over(plate, tick) {
         let closed = close(plate, state, frame, kept, memory, room);
         let next = closed.state;
-        return stepped(next, OpenFrame::none(), Outcome::Over(closed.sent));
+        return stepped(next, OpenFrame::none(), Outcome::Over(closed.sent as usize));
     }
     stepped(state, frame, Outcome::Still)
 }

@@ -2,11 +2,11 @@
 ghost use mathlib.Core.Path.{_≡_};
 ghost use mathlib.Core.Bool.{true, false};
 ghost use Rattle.line.specs.Line.{plateOf};
-ghost use Rattle.board.specs.Work.{leavesState, Ready, Workable, Answerable, Refused, Serves, Closes};
+ghost use Rattle.board.specs.Work.{onMemory, Ready, Workable, Answerable, Refused, Serves, Closes};
 use crate::reply::send;
-use crate::rows::change;
-use crate::rows::leaves_state;
-use crate::rows::tell;
+use crate::rows::needs_memory;
+use crate::rows::on_memory;
+use crate::rows::on_state;
 use line::Judgement;
 use line::OpenFrame;
 use line::Plate;
@@ -17,11 +17,11 @@ use wire::codes::ERROR_REPLY;
 // The state after a frame is closed, and how many reply bytes stand at the room's front, 0 being silence.
 pub struct Closed {
     pub state: State,
-    pub sent: usize,
+    pub sent: u8,
 }
 
 // A frame that is no request is answered by its error code; 00h is silence. The reply's length comes back.
-pub fn refuse(plate: Plate, state: State, code: u8, room: &mut [u8]) -> usize
+pub fn refuse(plate: Plate, state: State, code: u8, room: &mut [u8]) -> u8
     requires { ⌜ Answerable plate (now room) ⌝ }
     ensures { λ r. ⌜ Refused (plateOf plate) state code (now (room .entry)) r (now (room .exit)) ⌝ }
 {
@@ -32,20 +32,22 @@ pub fn refuse(plate: Plate, state: State, code: u8, room: &mut [u8]) -> usize
     send(plate, waiting, ERROR_REPLY, Answer::Refuse(code), room)
 }
 
-// A request that leaves the state as it is.
-pub fn ask(
+// A request that needs the memory, and leaves the state as it is.
+fn ask(
     plate: Plate,
     state: State,
     command: u8,
     request: &[u8],
     memory: &mut [u8],
     room: &mut [u8],
-) -> usize
-    requires { ⌜ (Workable plate state command (now request) (now memory) (now room)) × (leavesState command ≡ true) ⌝ }
+) -> u8
+    requires { ⌜ (Workable plate state command (now request) (now memory) (now room)) × (onMemory command ≡ true) ⌝ }
     ensures { λ r. ⌜ Serves (plateOf plate) state command (now (request .entry)) (now (memory .entry)) (now (room .entry)) state r (now (memory .exit)) (now (room .exit)) ⌝ }
 {
+    let total = plate.total as usize;
+    let codes = state.codes;
+    let answer = on_memory(total, &codes, command, request, memory, room);
     let waiting = state.faults.waits();
-    let answer = tell(plate, state, command, request, memory, room);
     send(plate, waiting, command, answer, room)
 }
 
@@ -58,10 +60,10 @@ fn order(
     memory: &[u8],
     room: &mut [u8],
 ) -> Closed
-    requires { ⌜ (Workable plate state command (now request) (now memory) (now room)) × (leavesState command ≡ false) ⌝ }
+    requires { ⌜ (Workable plate state command (now request) (now memory) (now room)) × (onMemory command ≡ false) ⌝ }
     ensures { λ r. ⌜ Serves (plateOf plate) state command (now (request .entry)) (now (memory .entry)) (now (room .entry)) (r .state) (r .sent) (now (memory .entry)) (now (room .exit)) ⌝ }
 {
-    let worked = change(plate.bits, state, command, request, room);
+    let worked = on_state(plate.bits, state, command, request, room);
     let effect = worked.effect;
     let answer = worked.answer;
     let next = state.after(effect);
@@ -81,7 +83,7 @@ fn serve(
     requires { ⌜ Workable plate state command (now request) (now memory) (now room) ⌝ }
     ensures { λ r. ⌜ Serves (plateOf plate) state command (now (request .entry)) (now (memory .entry)) (now (room .entry)) (r .state) (r .sent) (now (memory .exit)) (now (room .exit)) ⌝ }
 {
-    if leaves_state(command) {
+    if needs_memory(command) {
         let sent = ask(plate, state, command, request, memory, room);
         return Closed { state, sent };
     }

@@ -10,7 +10,7 @@ use wire::Answer;
 use wire::codes::ERROR_REPLY;
 
 // `waiting` is whether a code waits after the work. The reply's data stands at place 2 of the room on; its length comes back, 0 being silence.
-pub fn send(plate: Plate, waiting: bool, command: u8, answer: Answer, room: &mut [u8]) -> usize
+pub fn send(plate: Plate, waiting: bool, command: u8, answer: Answer, room: &mut [u8]) -> u8
     requires { ⌜ Sendable plate answer (now room) ⌝ }
     ensures { λ r. ⌜ ((s : State) → waiting ≡ waits (queueOf (s .faults)) → Sends (plateOf plate) s command answer (now (room .entry)) r (now (room .exit))) ⌝ }
 {
@@ -22,7 +22,7 @@ pub fn send(plate: Plate, waiting: bool, command: u8, answer: Answer, room: &mut
             4
         }
         Answer::Accept(n) => {
-            wire::seal(own, state::marked(command, waiting), n, room);
+            wire::seal(own, state::marked(command, waiting), n as usize, room);
             n + 3
         }
         Answer::Quiet => 0,
