@@ -5,7 +5,7 @@ ghost use Prim.Native.Nat.{ℕ};
 ghost use Rattle.meaning.specs.State.{Plate, State};
 ghost use Rattle.meaning.specs.Commands.{c4A, c4B, readField, storeField};
 ghost use Rattle.wire.specs.Answers.{Works};
-ghost use Rattle.fields.specs.Replies.{Asked, Readable, Storable, readOwn, storeOwn};
+ghost use Rattle.fields.specs.Replies.{Looked, Readable, Storable, readOwn, storeOwn};
 use crate::find::Found;
 use crate::find::open_field;
 use crate::reply::repeat_three;

@@ -1,6 +1,10 @@
 // A named field looked up in the table, with the checks that 4Ah, 4Bh and 4Ch begin with (01, "The commands").
 ghost use mathlib.Core.Path.{_≡_};
-ghost use Rattle.fields.specs.Memory.{Sized};
+ghost use mathlib.Core.List.{List};
+ghost use Prim.Native.Nat.{ℕ, _≤_};
+ghost use lib.ListN.{length};
+ghost use Rattle.meaning.specs.Fields.{survey};
+ghost use Rattle.fields.specs.Memory.{surveyOf};
 ghost use Rattle.fields.specs.Found.{FoundIn, OpenTo, codeIn};
 use crate::sizes::bytes_of;
 use crate::status::blocks_in;

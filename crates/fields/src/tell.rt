@@ -2,11 +2,13 @@
 ghost use mathlib.Core.Path.{_≡_};
 ghost use mathlib.Core.List.{List};
 ghost use Prim.Native.Nat.{ℕ, _≤_};
+ghost use Rattle.meaning.specs.Bytes.{arg};
 ghost use Rattle.meaning.specs.State.{Plate, State};
+ghost use Rattle.meaning.specs.Fields.{survey};
 ghost use Rattle.meaning.specs.Commands.{c4C, fieldStatus, memoryStatus, freeByte};
 ghost use Rattle.wire.specs.Answers.{Works};
-ghost use Rattle.fields.specs.Memory.{Lent};
-ghost use Rattle.fields.specs.Replies.{Asked};
+ghost use Rattle.fields.specs.Memory.{surveyOf};
+ghost use Rattle.fields.specs.Replies.{Countable, Tellable};
 use crate::find::Found;
 use crate::find::find_field;
 use crate::reply::reply_two;
@@ -44,7 +46,7 @@ fn free_byte(free: usize) -> u8
 
 // 4Eh: no data. 03h; free blocks, number of fields.
 pub fn memory_status(seen: Survey, room: &mut [u8]) -> Answer
-    requires { ⌜ (seen .free ≤ 255) × (longestReply ≤ length (now room)) ⌝ }
+    requires { ⌜ Countable seen (now room) ⌝ }
     ensures { λ r. ⌜ ((p : Plate) (s : State) (m d : List ℕ) (f : ℕ) → surveyOf seen ≡ survey (p .total) m f
         → Works (memoryStatus p s m d) m (now (room .entry)) r m (now (room .exit))) ⌝ }
 {
