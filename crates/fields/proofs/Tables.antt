@@ -42,13 +42,13 @@ pub blocks-most : (s : ℕ) → blocks s ≤ 8
 unfolding blocks
 blocks-most s = omega arith
 
--- and at most eight blocks to a byte
-pub used-le : (l : List ℕ) → used l ≤ 8 * length l
-used-le [] = omega (arith, used-nil)
-used-le (s ∷ r) = go (exists s) refl (used-le r)
+-- and at most eight blocks to a field
+pub used-most : (l : List ℕ) → used l ≤ 8 * fieldCount l
+used-most [] = omega (arith, used-nil)
+used-most (s ∷ r) = go (exists s) refl (used-most r)
   where
-    go : (b : Bool) → exists s ≡ b → used r ≤ 8 * length r → used (s ∷ r) ≤ 8 * suc (length r)
-    go true e h = omega (arith, used-yes s r e, blocks-most s)
+    go : (b : Bool) → exists s ≡ b → used r ≤ 8 * fieldCount r → used (s ∷ r) ≤ 8 * fieldCount (s ∷ r)
+    go true e h = omega (arith, used-yes s r e, count-yes s r e, blocks-most s)
     go false e h = omega (arith, used-no s r e)
 
 -- a walk that halts before field f and goes on where it halted passes all fields
@@ -131,27 +131,10 @@ pub free-le : (t : ℕ) (m : List ℕ) (f : ℕ) (v : Survey) → v ≡ survey t
 free-le t m f v e = subst (λ (w : Survey). w .free ≤ t) (sym e) (free-in t m f)
 
 -- .. and no more than a command's numbers hold, in a memory of at most 112 blocks
-module _ (t : ℕ) (m : List ℕ) (f : ℕ) (fit : Sized t m) where
+module _ (t : ℕ) (m : List ℕ) (fit : Sized t m) where
   table-length : length (table t m) ≡ t
   unfolding table
   table-length = simp length-drop (omega (arith, fit .long))
-
-  first-in : (survey t m f) .first ≤ 65535
-  unfolding survey
-  first-in = omega (arith, used-le (take f (table t m)), length-take f (table t m), table-length, fit .few)
-
-  fields-in : (survey t m f) .fields ≤ 255
-  unfolding survey
-  fields-in = omega (arith, count-le (table t m), table-length, fit .few)
-
-  pub first-few : (v : Survey) → v ≡ survey t m f → v .first ≤ 65535
-  first-few v e = subst (λ (w : Survey). w .first ≤ 65535) (sym e) first-in
-
-  pub free-few : (v : Survey) → v ≡ survey t m f → v .free ≤ 255
-  free-few v e = omega (arith, free-le t m f v e, fit .few)
-
-  pub fields-few : (v : Survey) → v ≡ survey t m f → v .fields ≤ 255
-  fields-few v e = subst (λ (w : Survey). w .fields ≤ 255) (sym e) fields-in
 
   -- `&m[16t..17t]` is the table
   pub table-is : (from to : ℕ) → from ≡ bytesOf t → to ≡ from + t → table t m ≡ take (to - from) (drop from m)
@@ -159,6 +142,26 @@ module _ (t : ℕ) (m : List ℕ) (f : ℕ) (fit : Sized t m) where
   table-is from to p q =
       let k : to - from ≡ length m - from = omega (arith, fit .long) in
       ap (λ (a : ℕ). drop a m) (sym p) ∙ sym (ap (λ (n : ℕ). take n (drop from m)) k ∙ rest-is m from)
+
+  first-in : (f : ℕ) → (survey t m f) .first ≤ 65535
+  unfolding survey
+  first-in f =
+      let l = take f (table t m) in
+      omega (arith, used-most l, count-le l, length-take f (table t m), table-length, fit .few)
+
+  fields-in : (f : ℕ) → (survey t m f) .fields ≤ 255
+  unfolding survey
+  fields-in f = omega (arith, count-le (table t m), table-length, fit .few)
+
+  module _ (f : ℕ) (v : Survey) (e : v ≡ survey t m f) where
+    pub first-few : v .first ≤ 65535
+    first-few = subst (λ (w : Survey). w .first ≤ 65535) (sym e) (first-in f)
+
+    pub free-few : v .free ≤ 255
+    free-few = omega (arith, free-le t m f v e, fit .few)
+
+    pub fields-few : v .fields ≤ 255
+    fields-few = subst (λ (w : Survey). w .fields ≤ 255) (sym e) (fields-in f)
 
 -- what a command took apart
 trusted : Trust → Bool

@@ -62,7 +62,10 @@ fn walk(statuses: &[u8], total: usize, field: usize) -> Survey
     requires { ⌜ Statuses total (now statuses) ⌝ }
     ensures { λ r. ⌜ ((m : List ℕ) → table total m ≡ now (statuses .entry) → Saw total m field r) ⌝ }
 {
-    let none = Tally { fields: 0, blocks: 0 };
+    let none = Tally {
+        fields: 0,
+        blocks: 0,
+    };
     let before = count_on(wire::front(statuses, field), none);
     let all = count_on(statuses, before);
     let fields = all.fields;

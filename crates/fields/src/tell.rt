@@ -12,8 +12,8 @@ ghost use Rattle.fields.specs.Replies.{Countable, Tellable};
 use crate::find::Found;
 use crate::find::find_field;
 use crate::reply::reply_two;
-use crate::seen::Trust;
 use crate::seen::Survey;
+use crate::seen::Trust;
 use wire::Answer;
 use wire::codes::TABLE_DESTROYED;
 

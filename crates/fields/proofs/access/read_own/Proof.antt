@@ -62,7 +62,13 @@ same-length : tie.Need-same-length
 same-length c = search needs
 
 returns-2 : tie.Need-returns-2
-returns-2 c = ?
+returns-2 c = λ s m.
+    let f = c .before .before .before in
+    let t = f .before .before .before .before .before in
+    let e = t .before .before in
+    let a = e .before .before .before .before .before .before .args in
+    works-accept _ m (a .room .now) _ s m _ _ (read-within (a .own .now) (a .request .now) s m (e .if1 .left))
+    (read-told (a .own .now) (a .request .now) (a .room .now) _ _ (e .if1 .left) (omega arith) (omega arith) (t .repeat-three .ensures) (f .fill .ensures))
 
 pub read-own-spec : {M : Type 1} → statement M
 read-own-spec =

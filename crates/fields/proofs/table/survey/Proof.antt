@@ -1,10 +1,7 @@
 -- `fields::table::survey` meets its contract. Assumes nothing.
-use Prim.Native.Nat.{ℕ}
-use mathlib.Core.Path.{sym, ap, _∙_}
-use native.Mathlib.Omega.{arith}
-use lib.ListN.{drop, length-drop}
+use mathlib.Core.Path.{refl}
 use borrow.Author.Needs.{needs}
-use Rattle.meaning.specs.Fields.{table}
+use Rattle.fields.proofs.Tables.{table-is}
 use Rattle.fields.proofs.table.survey.Statement.{statement}
 use Rattle.fields.proofs.table.survey.Tie as tie
 
@@ -27,7 +24,11 @@ walk-requires : tie.Need-walk-requires
 walk-requires c κs = search needs
 
 returns : tie.Need-returns
-returns c = ?
+returns c =
+    let after-bytes-of = c .before .before in
+    let start = after-bytes-of .before .before in
+    let a = start .args in
+    c .walk .ensures (a .memory .now) (table-is (a .total) (a .memory .now) (start .pre) _ _ (after-bytes-of .bytes-of .ensures) refl)
 
 pub survey-spec : {M : Type 1} → statement M
 survey-spec = tie.close (tie.spec bytes-of-requires add-to sub-walk part-walk-start part-walk-end walk-requires returns)
