@@ -1,4 +1,4 @@
--- A walk over status bytes from the front. `drop i l` is what is left at place i; each law says what one more byte, or the end, does to
+-- A walk over status bytes from the front. `drop i l` is what is left at place i; each law says what one more byte, four more, or the end does to
 -- a definition of the meaning on what is left. Assumes nothing.
 use Prim.Native.Nat.{ℕ, zero, suc, _+_, _*_, _≤_, _<_}
 use mathlib.Core.Bool.{Bool, true, false}
@@ -26,7 +26,7 @@ low-zero b n = go (eqb b 0) (eqb n 0) refl refl
     go true false p q = ne-eqb (b + 256 * n) 0 (λ z. eqb-false n 0 q (omega arith))
     go false y p q = ne-eqb (b + 256 * n) 0 (λ z. eqb-false b 0 p (omega arith))
 
-pub little-zero : (l : List ℕ) → eqb (little l) 0 ≡ blank l
+little-zero : (l : List ℕ) → eqb (little l) 0 ≡ blank l
 unfolding little blank
 little-zero [] = refl
 little-zero (b ∷ bs) = low-zero b (little bs) ∙ ap (both (eqb b 0)) (little-zero bs)

@@ -1,4 +1,4 @@
--- What the commands ask of request, memory and room, and the data of a reply in the room. Assumes nothing.
+-- What the commands ask of request, survey, memory and room, and the data of a reply in the room. Assumes nothing.
 use Prim.Native.Nat.{ℕ, _+_, _≤_}
 use mathlib.Core.Bool.{true}
 use mathlib.Core.Path.{_≡_}
@@ -20,13 +20,13 @@ pub record Asked (k : Command) (total : ℕ) (m d w : List ℕ) : Type 0 where
   pub lent : Lent total m w
   pub wanted : asked k d ≡ true
 
--- .. with a survey v of that memory, for the field that the request names, and the four codes
+-- .. with a survey v of that memory, made for the field that the request names, and the four codes
 pub record Looked (k : Command) (v : Survey) (cs m d w : List ℕ) : Type 0 where
   pub asked : Asked k (v .total) m d w
   pub seen : surveyOf v ≡ survey (v .total) m (arg d 0)
   pub codes : length cs ≡ 4
 
--- .. where a survey with a first block of that size is enough, and no memory is read
+-- a request that a survey v is enough for: no memory is read
 pub record Tellable (k : Command) (v : Survey) (d w : List ℕ) : Type 0 where
   pub wanted : asked k d ≡ true
   pub few : v .first ≤ 65535

@@ -52,7 +52,8 @@ fn clear(part: &mut [u8])
 }
 
 // 01, "Blocks granted and blocks given back are set to 00h": that run of memory is lent on and cleared, then the status is stored.
-pub(crate) fn apply(memory: &mut [u8], total: usize, field: u8, change: Change, status: u8) {
+pub(crate) fn apply(memory: &mut [u8], total: usize, field: u8, change: Change, status: u8)
+{
     let from = bytes_of(change.from);
     let to = bytes_of(change.to);
     clear(&mut memory[from..to]);
