@@ -63,24 +63,28 @@ asked-4B d e =
     let k = all-three (leb 5 (length d)) (leb (length d) 132) (eqb (length d) (4 + arg d 2)) e in
     (leb-true 5 (length d) (k .0), leb-true (length d) 132 (k .1), eqb-true (length d) (4 + arg d 2) (k .2))
 
--- 4Ch
-module _ (p : Plate) (s : State) (t : ℕ) (m d : List ℕ) (e : p .total ≡ t) where
-  status-of : fieldStatus p s m d ≡ onField (survey t m (arg d 0)) (arg d 0) (accept (arg d 0 ∷ (survey t m (arg d 0)) .status ∷ []) s m)
-  unfolding fieldStatus
-  status-of = rw e
+module _ (p : Plate) (s : State) (m d : List ℕ) where
+  -- 4Ch
+  abbrev v : Survey
+  v = survey (p .total) m (arg d 0)
 
-  pub status-refused : (g : Found) → FoundIn t m (arg d 0) g → OneOf (1 ∷ []) (tagOf declared.the-type g) → fieldStatus p s m d ≡ refuse (codeIn g)
+  status-of : fieldStatus p s m d ≡ onField v (arg d 0) (accept (arg d 0 ∷ v .status ∷ []) s m)
+  unfolding fieldStatus
+  status-of = refl
+
+  pub status-refused : (g : Found) → FoundIn (p .total) m (arg d 0) g → OneOf (1 ∷ []) (tagOf declared.the-type g) → fieldStatus p s m d ≡ refuse (codeIn g)
   status-refused g w k = status-of ∙ w .chain _ ∙ refused-is g k _
 
-  pub status-told : (from to st : ℕ) → FoundIn t m (arg d 0) (Field from to st) → fieldStatus p s m d ≡ accept (arg d 0 ∷ st ∷ []) s m
+  pub status-told : (from to st : ℕ) → FoundIn (p .total) m (arg d 0) (Field from to st) → fieldStatus p s m d ≡ accept (arg d 0 ∷ st ∷ []) s m
   status-told from to st w = status-of ∙ w .chain _ ∙ ap (λ (x : ℕ). accept (arg d 0 ∷ x ∷ []) s m) (sym (w .place .status))
 
-  -- 4Eh, whatever field the walk was to find
-  memory-of : (f : ℕ) → memoryStatus p s m d ≡ error 0x03 (not ((survey t m f) .trusted)) (accept (freeByte ((survey t m f) .free) ∷ (survey t m f) .fields ∷ []) s m)
+  -- 4Eh, whatever field the survey was made for
+  memory-of : (f : ℕ) → memoryStatus p s m d
+      ≡ error 0x03 (not ((survey (p .total) m f) .trusted)) (accept (freeByte ((survey (p .total) m f) .free) ∷ (survey (p .total) m f) .fields ∷ []) s m)
   unfolding memoryStatus survey
-  memory-of f = rw e
+  memory-of f = refl
 
-  module _ (f : ℕ) (v : Survey) (q : v ≡ survey t m f) where
+  module _ (f : ℕ) (v : Survey) (q : v ≡ survey (p .total) m f) where
     at-survey : memoryStatus p s m d ≡ error 0x03 (not (v .trusted)) (accept (freeByte (v .free) ∷ v .fields ∷ []) s m)
     at-survey = memory-of f ∙ ap (λ (x : Survey). error 0x03 (not (x .trusted)) (accept (freeByte (x .free) ∷ x .fields ∷ []) s m)) (sym q)
 

@@ -4,18 +4,18 @@ use mathlib.Core.Bool.{Bool, true, false, _&&_}
 use mathlib.Core.Path.{_≡_, refl, sym, ap, subst, _∙_}
 use mathlib.Core.List.{List, [], _∷_}
 use native.Mathlib.Omega.{arith}
-use lib.ListN.{length, take, drop, length-drop}
+use lib.ListN.{length, take, drop, length-take, length-drop}
 use lib.Seq.{take-all}
 use lib.Dec.{leb}
 use borrow.Author.Tests.{leb-true}
 use Rattle.fields.specs.declared.seen.Trust.{Trust}
 use Rattle.fields.specs.declared.seen.Trust.the-variants.{Sound, Unsound}
-use Rattle.fields.specs.Memory.{Sits, trustOf}
+use Rattle.fields.specs.Memory.{Sits, Sized, trustOf}
 use Rattle.meaning.specs.Bytes.{both, blank}
-use Rattle.meaning.specs.Fields.{blocks, exists, fieldCount, used, sound, table, freeBlocks, statusAt, Survey, survey}
+use Rattle.meaning.specs.Fields.{bytesOf, blocks, exists, fieldCount, used, sound, table, freeBlocks, statusAt, Survey, survey}
 use Rattle.meaning.proofs.Choices.{both-right, and-both}
 use Rattle.meaning.proofs.Wire.{within}
-use Rattle.meaning.proofs.Tables.{used-nil}
+use Rattle.meaning.proofs.Tables.{used-nil, count-le}
 
 module _ (s : ℕ) (r : List ℕ) where
   count-yes : exists s ≡ true → fieldCount (s ∷ r) ≡ suc (fieldCount r)
@@ -42,13 +42,13 @@ pub blocks-most : (s : ℕ) → blocks s ≤ 8
 unfolding blocks
 blocks-most s = omega arith
 
--- and at most eight blocks to a byte
-pub used-le : (l : List ℕ) → used l ≤ 8 * length l
-used-le [] = omega (arith, used-nil)
-used-le (s ∷ r) = go (exists s) refl (used-le r)
+-- and at most eight blocks to a field
+pub used-most : (l : List ℕ) → used l ≤ 8 * fieldCount l
+used-most [] = omega (arith, used-nil)
+used-most (s ∷ r) = go (exists s) refl (used-most r)
   where
-    go : (b : Bool) → exists s ≡ b → used r ≤ 8 * length r → used (s ∷ r) ≤ 8 * suc (length r)
-    go true e h = omega (arith, used-yes s r e, blocks-most s)
+    go : (b : Bool) → exists s ≡ b → used r ≤ 8 * fieldCount r → used (s ∷ r) ≤ 8 * fieldCount (s ∷ r)
+    go true e h = omega (arith, used-yes s r e, count-yes s r e, blocks-most s)
     go false e h = omega (arith, used-no s r e)
 
 -- a walk that halts before field f and goes on where it halted passes all fields
@@ -77,13 +77,13 @@ used-halt (s ∷ r) (suc f) = go (exists s) refl (used-halt r f)
 pub rest-is : (l : List ℕ) (a : ℕ) → take (length l - a) (drop a l) ≡ drop a l
 rest-is l a = take-all (length l - a) (drop a l) (omega (arith, length-drop a l))
 
--- what a walk that halts before field f finds, first and then
-module _ (l : List ℕ) (f n b n₂ b₂ : ℕ) (first : n ≡ fieldCount (take f l)) (start : b ≡ used (take f l)) (then : n₂ ≡ fieldCount (drop n l)) (more : b₂ ≡ used (drop n l)) where
-  pub walk-fields : n + n₂ ≡ fieldCount l
-  walk-fields = rw (then, first) (sym (count-halt l f))
+-- a walk that came to n fields of b blocks before field f, and went on from there
+module _ (l : List ℕ) (f n b : ℕ) (first : n ≡ fieldCount (take f l)) where
+  pub walk-fields : (all : ℕ) → all ≡ n + fieldCount (drop n l) → all ≡ fieldCount l
+  walk-fields all e = e ∙ rw first (sym (count-halt l f))
 
-  pub walk-used : b + b₂ ≡ used l
-  walk-used = rw (start, more, first) (sym (used-halt l f))
+  pub walk-used : b ≡ used (take f l) → (all : ℕ) → all ≡ b + used (drop n l) → all ≡ used l
+  walk-used start all e = e ∙ rw (start, first) (sym (used-halt l f))
 
 -- what it finds is the survey
 pub survey-is : (t f : ℕ) (m l : List ℕ) → table t m ≡ l → (trusted blank-rest : Bool) (n u free first status : ℕ)
@@ -129,6 +129,39 @@ free-in t m f = omega arith
 
 pub free-le : (t : ℕ) (m : List ℕ) (f : ℕ) (v : Survey) → v ≡ survey t m f → v .free ≤ t
 free-le t m f v e = subst (λ (w : Survey). w .free ≤ t) (sym e) (free-in t m f)
+
+-- .. and no more than a command's numbers hold, in a memory of at most 112 blocks
+module _ (t : ℕ) (m : List ℕ) (fit : Sized t m) where
+  table-length : length (table t m) ≡ t
+  unfolding table
+  table-length = simp length-drop (omega (arith, fit .long))
+
+  -- `&m[16t..17t]` is the table
+  pub table-is : (from to : ℕ) → from ≡ bytesOf t → to ≡ from + t → table t m ≡ take (to - from) (drop from m)
+  unfolding table
+  table-is from to p q =
+      let k : to - from ≡ length m - from = omega (arith, fit .long) in
+      ap (λ (a : ℕ). drop a m) (sym p) ∙ sym (ap (λ (n : ℕ). take n (drop from m)) k ∙ rest-is m from)
+
+  first-in : (f : ℕ) → (survey t m f) .first ≤ 65535
+  unfolding survey
+  first-in f =
+      let l = take f (table t m) in
+      omega (arith, used-most l, count-le l, length-take f (table t m), table-length, fit .few)
+
+  fields-in : (f : ℕ) → (survey t m f) .fields ≤ 255
+  unfolding survey
+  fields-in f = omega (arith, count-le (table t m), table-length, fit .few)
+
+  module _ (f : ℕ) (v : Survey) (e : v ≡ survey t m f) where
+    pub first-few : v .first ≤ 65535
+    first-few = subst (λ (w : Survey). w .first ≤ 65535) (sym e) (first-in f)
+
+    pub free-few : v .free ≤ 255
+    free-few = omega (arith, free-le t m f v e, fit .few)
+
+    pub fields-few : v .fields ≤ 255
+    fields-few = subst (λ (w : Survey). w .fields ≤ 255) (sym e) (fields-in f)
 
 -- what a command took apart
 trusted : Trust → Bool

@@ -8,14 +8,17 @@ use Rattle.meaning.specs.Commands.{Answer}
 use Rattle.wire.specs.declared.answer.Answer as declared
 use Rattle.wire.specs.Answers.{Works}
 use Rattle.wire.proofs.Tight.{one-outcome}
-use Rattle.fields.specs.Memory.{surveyOf}
+use Rattle.fields.specs.Memory.{Saw, surveyOf}
 use Rattle.fields.specs.declared.seen.Survey.{Survey}
 
-abbrev surveyBack : meaning.Survey → Survey
-surveyBack v = record { sound = v .trusted; fields = v .fields; free = v .free; first = v .first; status = v .status }
+abbrev surveyBack : ℕ × meaning.Survey → Survey
+surveyBack x = record { total = x .0; sound = x .1 .trusted; fields = x .1 .fields; free = x .1 .free; first = x .1 .first; status = x .1 .status }
 
-pub survey-tight : (t : ℕ) (m : List ℕ) (f : ℕ) (a b : Survey) → surveyOf a ≡ meaning.survey t m f → surveyOf b ≡ meaning.survey t m f → a ≡ b
-survey-tight t m f a b p q = one-outcome surveyOf surveyBack (λ v. refl) (meaning.survey t m f) a b p q
+abbrev tells : Survey → ℕ × meaning.Survey
+tells r = (r .total, surveyOf r)
+
+pub survey-tight : (t : ℕ) (m : List ℕ) (f : ℕ) (a b : Survey) → Saw t m f a → Saw t m f b → a ≡ b
+survey-tight t m f a b p q = one-outcome tells surveyBack (λ v. refl) (t, meaning.survey t m f) a b (cc) (cc)
 
 -- no two differing outcomes satisfy a row's contract
 pub works-tight : {a : Answer} {m w : List ℕ} {r r₂ : declared.Answer} {m₁ m₂ w₁ w₂ : List ℕ} → Works a m w r m₁ w₁ → Works a m w r₂ m₂ w₂ → (r ≡ r₂) × (m₁ ≡ m₂) × (w₁ ≡ w₂)
@@ -30,3 +33,12 @@ field-row-tight row t codes m w r r₂ m₁ m₂ w₁ w₂ x y =
     let p : Plate = record { total = t; bits = 1; address = 0; ticks = 1; pause = 22 } in
     let s : State = withCodes (fresh p) codes in
     works-tight (x p s refl refl) (y p s refl refl)
+
+-- .. for every memory that the survey is of: there is one
+pub told-row-tight : (row : Plate → State → List ℕ → Answer) (v : meaning.Survey) (t : ℕ) (m : List ℕ) (f : ℕ) → v ≡ meaning.survey t m f → (w : List ℕ) (r r₂ : declared.Answer) (w₁ w₂ : List ℕ)
+    → ((p : Plate) (s : State) (m : List ℕ) → v ≡ meaning.survey (p .total) m f → Works (row p s m) m w r m w₁)
+    → ((p : Plate) (s : State) (m : List ℕ) → v ≡ meaning.survey (p .total) m f → Works (row p s m) m w r₂ m w₂) → (r ≡ r₂) × (w₁ ≡ w₂)
+told-row-tight row v t m f e w r r₂ w₁ w₂ x y =
+    let p : Plate = record { total = t; bits = 1; address = 0; ticks = 1; pause = 22 } in
+    let k = works-tight (x p (fresh p) m e) (y p (fresh p) m e) in
+    (k .0, k .2)

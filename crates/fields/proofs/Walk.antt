@@ -1,44 +1,72 @@
--- A walk over status bytes from the front. `drop i l` is what is left at place i; each law says what one more byte, or the end, does to
+-- A walk over status bytes from the front. `drop i l` is what is left at place i; each law says what one more byte, four more, or the end does to
 -- a definition of the meaning on what is left. Assumes nothing.
-use Prim.Native.Nat.{ℕ, suc, _+_, _≤_, _<_}
+use Prim.Native.Nat.{ℕ, zero, suc, _+_, _*_, _≤_, _<_}
 use mathlib.Core.Bool.{Bool, true, false}
 use mathlib.Core.Path.{_≡_, refl, sym, ap, _∙_}
-use mathlib.Core.List.{List, _∷_}
+use mathlib.Core.List.{List, [], _∷_}
 use native.Mathlib.Numerals.{add-one}
 use native.Mathlib.Omega.{arith}
-use lib.Bits.{bitOr, or-zero-l, or-add-and, and-le-r}
 use lib.Dec.{eqb}
-use lib.ListN.{length, drop, getD, drop-of-length-le}
-use lib.Seq.{drop-cons}
-use borrow.Author.Tests.{ne-eqb, eqb-true, eqb-false}
-use Rattle.meaning.specs.Bytes.{both, blank}
+use lib.ListN.{length, take, drop, getD, drop-of-length-le}
+use lib.Seq.{drop-cons, drop-drop}
+use borrow.Author.Tests.{eq-eqb, ne-eqb, eqb-true, eqb-false}
+use Rattle.meaning.specs.Bytes.{both, blank, part, little}
 use Rattle.meaning.specs.Fields.{blocks, exists, fieldCount, used}
-use Rattle.meaning.proofs.Choices.{both-true}
 
 both-assoc : (a b c : Bool) → both (both a b) c ≡ both a (both b c)
 both-assoc true b c = refl
 both-assoc false b c = refl
 
--- no bit is set in either exactly where none is set in both together
-or-zero : (a b : ℕ) → eqb (bitOr a b) 0 ≡ both (eqb a 0) (eqb b 0)
-or-zero a b = go (eqb a 0) refl
+-- a low byte before the others: all are 00h exactly where the number is 0
+low-zero : (b n : ℕ) → eqb (b + 256 * n) 0 ≡ both (eqb b 0) (eqb n 0)
+low-zero b n = go (eqb b 0) (eqb n 0) refl refl
   where
-    go : (q : Bool) → eqb a 0 ≡ q → eqb (bitOr a b) 0 ≡ both q (eqb b 0)
-    go true e = ap (λ (x : ℕ). eqb x 0) (ap (λ (x : ℕ). bitOr x b) (eqb-true a 0 e) ∙ or-zero-l b)
-    go false e = ne-eqb (bitOr a b) 0 (λ z. eqb-false a 0 e (omega (arith, or-add-and a b, and-le-r a b)))
+    go : (x y : Bool) → eqb b 0 ≡ x → eqb n 0 ≡ y → eqb (b + 256 * n) 0 ≡ both x y
+    go true true p q = eq-eqb (b + 256 * n) 0 (omega (arith, eqb-true b 0 p, eqb-true n 0 q))
+    go true false p q = ne-eqb (b + 256 * n) 0 (λ z. eqb-false n 0 q (omega arith))
+    go false y p q = ne-eqb (b + 256 * n) 0 (λ z. eqb-false b 0 p (omega arith))
+
+little-zero : (l : List ℕ) → eqb (little l) 0 ≡ blank l
+unfolding little blank
+little-zero [] = refl
+little-zero (b ∷ bs) = low-zero b (little bs) ∙ ap (both (eqb b 0)) (little-zero bs)
+
+-- the first n bytes, and the others
+blank-split : (n : ℕ) (l : List ℕ) → blank l ≡ both (blank (take n l)) (blank (drop n l))
+unfolding blank
+blank-split zero l = refl
+blank-split (suc n) [] = refl
+blank-split (suc n) (b ∷ bs) = ap (both (eqb b 0)) (blank-split n bs) ∙ sym (both-assoc (eqb b 0) (blank (take n bs)) (blank (drop n bs)))
 
 module _ (l : List ℕ) (i : ℕ) where
   pub next : i < length l → drop i l ≡ getD l i 0 ∷ drop (i + 1) l
   next h = rw (add-one, drop-cons l i 0)
 
-  -- the bits gathered so far, and what is left
-  pub blank-more : (bits : ℕ) → i < length l → both (eqb bits 0) (blank (drop i l)) ≡ both (eqb (bitOr bits (getD l i 0)) 0) (blank (drop (i + 1) l))
-  unfolding blank
-  blank-more bits h = rw (next h, or-zero bits (getD l i 0)) (sym (both-assoc (eqb bits 0) (eqb (getD l i 0) 0) (blank (drop (i + 1) l))))
+  -- four bytes as a number, and what is left
+  blank-four : blank (drop i l) ≡ both (eqb (little (part l i 4)) 0) (blank (drop (i + 4) l))
+  unfolding part
+  blank-four = blank-split 4 (drop i l) ∙ rw (little-zero (take 4 (drop i l)), drop-drop 4 i l)
 
-  pub blank-end : (bits : ℕ) → length l ≤ i → both (eqb bits 0) (blank (drop i l)) ≡ eqb bits 0
+  pub four-more : little (part l i 4) ≡ 0 → blank (drop i l) ≡ blank (drop (i + 4) l)
+  four-more e = blank-four ∙ ap (λ (b : Bool). both b (blank (drop (i + 4) l))) (eq-eqb (little (part l i 4)) 0 e)
+
+  pub four-stop : (little (part l i 4) ≡ 0 → ⊥) → blank (drop i l) ≡ false
+  four-stop e = blank-four ∙ ap (λ (b : Bool). both b (blank (drop (i + 4) l))) (ne-eqb (little (part l i 4)) 0 e)
+
+  -- one byte, and what is left
+  blank-one : i < length l → blank (drop i l) ≡ both (eqb (getD l i 0) 0) (blank (drop (i + 1) l))
   unfolding blank
-  blank-end bits h = rw (drop-of-length-le l h) (both-true (eqb bits 0))
+  blank-one h = rw (next h)
+
+  pub blank-more : i < length l → getD l i 0 ≡ 0 → blank (drop i l) ≡ blank (drop (i + 1) l)
+  blank-more h e = blank-one h ∙ ap (λ (b : Bool). both b (blank (drop (i + 1) l))) (eq-eqb (getD l i 0) 0 e)
+
+  pub blank-stop : i < length l → (getD l i 0 ≡ 0 → ⊥) → blank (drop i l) ≡ false
+  blank-stop h e = blank-one h ∙ ap (λ (b : Bool). both b (blank (drop (i + 1) l))) (ne-eqb (getD l i 0) 0 e)
+
+  pub blank-end : length l ≤ i → blank (drop i l) ≡ true
+  unfolding blank
+  blank-end h = rw (drop-of-length-le l h)
 
   pub count-more : i < length l → exists (getD l i 0) ≡ true → fieldCount (drop i l) ≡ suc (fieldCount (drop (i + 1) l))
   unfolding fieldCount

@@ -1,9 +1,9 @@
 -- The lent memory as the code holds it: its size, and what a walk of the table finds. Assumes nothing.
-use Prim.Native.Nat.{ℕ, _+_, _≤_, _<_}
+use Prim.Native.Nat.{ℕ, _+_, _*_, _≤_, _<_}
 use mathlib.Core.Path.{_≡_}
 use mathlib.Core.Bool.{Bool, true, false}
 use mathlib.Core.List.{List}
-use lib.ListN.{length}
+use lib.ListN.{length, drop}
 use Rattle.meaning.specs.Bytes.{longestReply}
 use Rattle.meaning.specs.Fields as meaning
 use Rattle.fields.specs.declared.seen.Survey.{Survey}
@@ -26,14 +26,25 @@ pub record Statuses (total : ℕ) (l : List ℕ) : Type 0 where
   pub few : total ≤ 65535
   pub long : length l ≡ total
 
--- 01, "03h": the fields at the front of some status bytes, and their blocks
-pub record Tallied (statuses : List ℕ) (r : Tally) : Type 0 where
-  pub fields : r .fields ≡ meaning.fieldCount statuses
-  pub blocks : r .blocks ≡ meaning.used statuses
+-- a count that has come to some place among status bytes, with at most eight blocks to a byte
+pub record Counted (l : List ℕ) (from : Tally) : Type 0 where
+  pub within : from .fields ≤ length l
+  pub small : from .blocks ≤ 8 * from .fields
+  pub few : length l ≤ 65535
+
+-- 01, "03h": .. goes on over the fields that stand there, and their blocks
+pub record CountedOn (l : List ℕ) (from r : Tally) : Type 0 where
+  pub fields : r .fields ≡ from .fields + meaning.fieldCount (drop (from .fields) l)
+  pub blocks : r .blocks ≡ from .blocks + meaning.used (drop (from .fields) l)
 
 -- the survey that the struct stands for
 abbrev pub surveyOf : Survey → meaning.Survey
 surveyOf v = record { trusted = v .sound; fields = v .fields; free = v .free; first = v .first; status = v .status }
+
+-- 01, "Memory": what is seen of a memory m of t blocks, for the field f
+pub record Saw (t : ℕ) (m : List ℕ) (f : ℕ) (r : Survey) : Type 0 where
+  pub total : r .total ≡ t
+  pub seen : surveyOf r ≡ meaning.survey t m f
 
 -- 01, "03h": what a command takes apart
 abbrev pub trustOf : Bool → Trust

@@ -1,4 +1,4 @@
--- What the commands ask of request, memory and room, and the data of a reply in the room. Assumes nothing.
+-- What the commands ask of request, survey, memory and room, and the data of a reply in the room. Assumes nothing.
 use Prim.Native.Nat.{ℕ, _+_, _≤_}
 use mathlib.Core.Bool.{true}
 use mathlib.Core.Path.{_≡_}
@@ -7,16 +7,36 @@ use lib.ListN.{length, drop}
 use lib.Dec.{ltb}
 use Rattle.meaning.specs.Bytes.{longestReply, mostCount, arg, part, put}
 use Rattle.meaning.specs.State.{State}
+use Rattle.meaning.specs.Fields.{survey}
 use Rattle.meaning.specs.Commands as Commands
 use Rattle.meaning.specs.Commands.{Command, asked, error, accept}
 use Rattle.wire.specs.declared.answer.Answer.{Answer}
 use Rattle.wire.specs.declared.answer.Answer.the-variants.{Accept}
-use Rattle.fields.specs.Memory.{Lent}
+use Rattle.fields.specs.declared.seen.Survey.{Survey}
+use Rattle.fields.specs.Memory.{Lent, surveyOf}
 
 -- a request's data d of the length that the command k wants (01, "judged in this order", 6), and what is lent
 pub record Asked (k : Command) (total : ℕ) (m d w : List ℕ) : Type 0 where
   pub lent : Lent total m w
   pub wanted : asked k d ≡ true
+
+-- .. with a survey v of that memory, made for the field that the request names, and the four codes
+pub record Looked (k : Command) (v : Survey) (cs m d w : List ℕ) : Type 0 where
+  pub asked : Asked k (v .total) m d w
+  pub seen : surveyOf v ≡ survey (v .total) m (arg d 0)
+  pub codes : length cs ≡ 4
+
+-- a request that a survey v is enough for: no memory is read
+pub record Tellable (k : Command) (v : Survey) (d w : List ℕ) : Type 0 where
+  pub wanted : asked k d ≡ true
+  pub few : v .first ≤ 65535
+  pub room : longestReply ≤ length w
+
+-- 01, row 4Eh: two numbers that fit a byte each
+pub record Countable (v : Survey) (w : List ℕ) : Type 0 where
+  pub free : v .free ≤ 255
+  pub fields : v .fields ≤ 255
+  pub room : longestReply ≤ length w
 
 -- the data d stands in the room w′, and is told
 pub record Replied (d w : List ℕ) (r : Answer) (w′ : List ℕ) : Type 0 where

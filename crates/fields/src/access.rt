@@ -5,10 +5,11 @@ ghost use Prim.Native.Nat.{ℕ};
 ghost use Rattle.meaning.specs.State.{Plate, State};
 ghost use Rattle.meaning.specs.Commands.{c4A, c4B, readField, storeField};
 ghost use Rattle.wire.specs.Answers.{Works};
-ghost use Rattle.fields.specs.Replies.{Asked, Readable, Storable, readOwn, storeOwn};
+ghost use Rattle.fields.specs.Replies.{Looked, Readable, Storable, readOwn, storeOwn};
 use crate::find::Found;
 use crate::find::open_field;
 use crate::reply::repeat_three;
+use crate::seen::Survey;
 use crate::status::is_writable;
 use wire::Answer;
 use wire::codes::MOST_COUNT;
@@ -30,22 +31,22 @@ fn read_own(own: &[u8], request: &[u8], room: &mut [u8]) -> Answer
     }
     repeat_three(request, room);
     fill(&own[from..to], &mut room[5..]);
-    Answer::Accept(3 + count)
+    Answer::Accept(3 + request[2])
 }
 
 // 4Ah: field, offset, count, code. 03h; 12h; 0Fh; 0Dh if count is 0 or over 128; 11h.
 pub fn read_field(
+    seen: Survey,
     memory: &[u8],
-    total: usize,
-    codes: [u8; 4],
+    codes: &[u8],
     request: &[u8],
     room: &mut [u8],
 ) -> Answer
-    requires { ⌜ Asked c4A total (now memory) (now request) (now room) ⌝ }
-    ensures { λ r. ⌜ ((p : Plate) (s : State) → p .total ≡ total → s .codes ≡ codes
+    requires { ⌜ Looked c4A seen (now codes) (now memory) (now request) (now room) ⌝ }
+    ensures { λ r. ⌜ ((p : Plate) (s : State) → p .total ≡ seen .total → s .codes ≡ now (codes .entry)
         → Works (readField p s (now (memory .entry)) (now (request .entry))) (now (memory .entry)) (now (room .entry)) r (now (memory .entry)) (now (room .exit))) ⌝ }
 {
-    let found = open_field(memory, total, codes, request[0], request[3]);
+    let found = open_field(seen, codes, request[0], request[3]);
     let Found::Field {
         from,
         to,
@@ -79,17 +80,17 @@ fn store_own(own: &mut [u8], request: &[u8], room: &mut [u8]) -> Answer
 
 // 4Bh: field, offset, count, code, data. 03h; 12h; 0Fh; 0Eh if bit 6 is clear; 11h; stores.
 pub fn store_field(
+    seen: Survey,
     memory: &mut [u8],
-    total: usize,
-    codes: [u8; 4],
+    codes: &[u8],
     request: &[u8],
     room: &mut [u8],
 ) -> Answer
-    requires { ⌜ Asked c4B total (now memory) (now request) (now room) ⌝ }
-    ensures { λ r. ⌜ ((p : Plate) (s : State) → p .total ≡ total → s .codes ≡ codes
+    requires { ⌜ Looked c4B seen (now codes) (now memory) (now request) (now room) ⌝ }
+    ensures { λ r. ⌜ ((p : Plate) (s : State) → p .total ≡ seen .total → s .codes ≡ now (codes .entry)
         → Works (storeField p s (now (memory .entry)) (now (request .entry))) (now (memory .entry)) (now (room .entry)) r (now (memory .exit)) (now (room .exit))) ⌝ }
 {
-    let found = open_field(memory, total, codes, request[0], request[3]);
+    let found = open_field(seen, codes, request[0], request[3]);
     let Found::Field { from, to, status } = found else {
         return Answer::Refuse(found.code());
     };

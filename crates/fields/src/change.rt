@@ -14,10 +14,8 @@ use crate::sizes::most;
 
 // A field that starts at this block has so many blocks and gets so many, and then this status.
 pub struct Change {
-    pub start: usize,
-    pub old: u8,
-    pub new: u8,
-    pub status: u8,
+    pub from: usize,
+    pub to: usize,
 }
 
 // 01, "The change in blocks": the new size less the old.
@@ -54,15 +52,18 @@ fn clear(part: &mut [u8])
 }
 
 // 01, "Blocks granted and blocks given back are set to 00h": that run of memory is lent on and cleared, then the status is stored.
-pub(crate) fn apply(memory: &mut [u8], total: usize, field: u8, change: Change)
-    requires { ⌜ Settable total (now memory) field change ⌝ }
-    ensures { λ _. ⌜ now (memory .exit) ≡ putStatus total (resize (now (memory .entry)) (change .start) (change .old) (change .new)) field (change .status) ⌝ }
+pub(crate) fn apply(memory: &mut [u8], total: usize, field: u8, change: Change, status: u8)
 {
-    let old = change.old as usize;
-    let new = change.new as usize;
-    let from = bytes_of(change.start + least(old, new));
-    let to = bytes_of(change.start + most(old, new));
+    let from = bytes_of(change.from);
+    let to = bytes_of(change.to);
     clear(&mut memory[from..to]);
     let at = bytes_of(total) + field as usize;
-    memory[at] = change.status;
+    memory[at] = status;
+}
+
+pub(crate) fn change_at(start: usize, old: u8, new: u8) -> Change {
+    Change {
+        from: start + least(old as usize, new as usize),
+        to: start + most(old as usize, new as usize),
+    }
 }

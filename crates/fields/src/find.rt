@@ -1,11 +1,15 @@
 // A named field looked up in the table, with the checks that 4Ah, 4Bh and 4Ch begin with (01, "The commands").
 ghost use mathlib.Core.Path.{_≡_};
-ghost use Rattle.fields.specs.Memory.{Sized};
+ghost use mathlib.Core.List.{List};
+ghost use Prim.Native.Nat.{ℕ, _≤_};
+ghost use lib.ListN.{length};
+ghost use Rattle.meaning.specs.Fields.{survey};
+ghost use Rattle.fields.specs.Memory.{surveyOf};
 ghost use Rattle.fields.specs.Found.{FoundIn, OpenTo, codeIn};
+use crate::seen::Survey;
 use crate::sizes::bytes_of;
 use crate::status::blocks_in;
 use crate::status::is_barred;
-use crate::table::survey;
 use wire::codes::TABLE_DESTROYED;
 use wire::codes::WRONG_CODE;
 use wire::codes::WRONG_FIELD;
@@ -34,11 +38,10 @@ impl Found {
 }
 
 // 03h; 12h.
-pub(crate) fn find_field(memory: &[u8], total: usize, field: u8) -> Found
-    requires { ⌜ Sized total (now memory) ⌝ }
-    ensures { λ r. ⌜ FoundIn total (now (memory .entry)) field r ⌝ }
+pub(crate) fn find_field(seen: Survey, field: u8) -> Found
+    requires { ⌜ seen .first ≤ 65535 ⌝ }
+    ensures { λ r. ⌜ ((t : ℕ) (m : List ℕ) → surveyOf seen ≡ survey t m field → FoundIn t m field r) ⌝ }
 {
-    let seen = survey(memory, total, field);
     if !seen.sound {
         return Found::Refused(TABLE_DESTROYED);
     }
@@ -55,11 +58,11 @@ pub(crate) fn find_field(memory: &[u8], total: usize, field: u8) -> Found
 }
 
 // 03h; 12h; 0Fh.
-pub(crate) fn open_field(memory: &[u8], total: usize, codes: [u8; 4], field: u8, code: u8) -> Found
-    requires { ⌜ Sized total (now memory) ⌝ }
-    ensures { λ r. ⌜ OpenTo codes code total (now (memory .entry)) field r ⌝ }
+pub(crate) fn open_field(seen: Survey, codes: &[u8], field: u8, code: u8) -> Found
+    requires { ⌜ (seen .first ≤ 65535) × (length (now codes) ≡ 4) ⌝ }
+    ensures { λ r. ⌜ ((t : ℕ) (m : List ℕ) → surveyOf seen ≡ survey t m field → OpenTo (now (codes .entry)) code t m field r) ⌝ }
 {
-    let found = find_field(memory, total, field);
+    let found = find_field(seen, field);
     let Found::Field {
         from: _,
         to: _,

@@ -2,8 +2,9 @@
 ghost use mathlib.Core.Path.{_≡_};
 ghost use Rattle.fields.specs.Memory.{trustOf};
 
-// Whether the table is sound; the number of fields; the free blocks; of the named field its first block and its status.
+// Of how many blocks; whether the table is sound; the number of fields; the free blocks; of the named field its first block and its status.
 pub struct Survey {
+    pub total: usize,
     pub sound: bool,
     pub fields: usize,
     pub free: usize,

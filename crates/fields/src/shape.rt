@@ -11,13 +11,13 @@ ghost use Rattle.fields.specs.Replies.{Asked};
 ghost use Rattle.fields.specs.Shape.{Blocks, Judged, Shapes, Surveyed, grantCode};
 use crate::change::Change;
 use crate::change::apply;
+use crate::change::change_at;
 use crate::change::lacks_room;
 use crate::reply::reply_two;
 use crate::seen::Survey;
 use crate::status::blocks_in;
 use crate::status::has_field;
 use crate::status::is_wrong_code;
-use crate::table::survey;
 use wire::Answer;
 use wire::codes::FIXED_SIZE;
 use wire::codes::TABLE_DESTROYED;
@@ -53,10 +53,10 @@ fn is_held(seen: Survey, field: u8, new: u8, old: u8) -> bool
 }
 
 // 0Fh unless the code equals the one the new status names, whatever bit 3 says; 10h.
-fn judge_create(seen: Survey, total: usize, codes: [u8; 4], new: u8, code: u8) -> Grant
+fn judge_create(seen: Survey, codes: &[u8], new: u8, code: u8) -> Grant
     requires { ⌜ Blocks total (seen .free) ⌝ }
     ensures { λ r. ⌜ ((f : ℕ) → Sits total (surveyOf seen) f → f ≡ seen .fields
-        → Judged codes total f new (λ (s : State) (m : List ℕ). create total s m (surveyOf seen) f new code) r) ⌝ }
+        → Judged (now (codes .entry)) (seen .total) f new (λ (s : State) (m : List ℕ). create (seen .total) s m (surveyOf seen) f new code) r) ⌝ }
 {
     if is_wrong_code(codes, new, code) {
         return Grant::Refused(WRONG_CODE);
@@ -65,19 +65,14 @@ fn judge_create(seen: Survey, total: usize, codes: [u8; 4], new: u8, code: u8) -
     if lacks_room(seen.free, blocks, 0) {
         return Grant::Refused(FIXED_SIZE);
     }
-    Grant::Granted(Change {
-        start: total - seen.free,
-        old: 0,
-        new: blocks,
-        status: new,
-    })
+    Grant::Granted(change_at(seen.total - seen.free, 0, blocks))
 }
 
 // 0Fh unless the code equals the one the stored status names; 10h; 10h.
-fn judge_modify(seen: Survey, codes: [u8; 4], field: u8, new: u8, code: u8) -> Grant
+fn judge_modify(seen: Survey, codes: &[u8], field: u8, new: u8, code: u8) -> Grant
     requires { ⌜ seen .free ≤ 65535 ⌝ }
     ensures { λ r. ⌜ ((t : ℕ) → Sits t (surveyOf seen) field → field < seen .fields
-        → Judged codes t field new (λ (s : State) (m : List ℕ). modify t s m (surveyOf seen) field new code) r) ⌝ }
+        → Judged (now (codes .entry)) t field new (λ (s : State) (m : List ℕ). modify t s m (surveyOf seen) field new code) r) ⌝ }
 {
     let stored = seen.status;
     if is_wrong_code(codes, stored, code) {
@@ -91,18 +86,13 @@ fn judge_modify(seen: Survey, codes: [u8; 4], field: u8, new: u8, code: u8) -> G
     if lacks_room(seen.free, blocks, old) {
         return Grant::Refused(FIXED_SIZE);
     }
-    Grant::Granted(Change {
-        start: seen.first,
-        old,
-        new: blocks,
-        status: new,
-    })
+    Grant::Granted(change_at(seen.first, old, blocks))
 }
 
 // 0Fh as for modify; 10h if not the last. The status is 00h then, whatever was asked.
-fn judge_delete(seen: Survey, codes: [u8; 4], field: u8, code: u8) -> Grant
+fn judge_delete(seen: Survey, codes: &[u8], field: u8, code: u8) -> Grant
     ensures { λ r. ⌜ ((t gone : ℕ) → Sits t (surveyOf seen) field → field < seen .fields
-        → Judged codes t field gone (λ (s : State) (m : List ℕ). delete t s m (surveyOf seen) field gone code) r) ⌝ }
+        → Judged (now (codes .entry)) t field gone (λ (s : State) (m : List ℕ). delete t s m (surveyOf seen) field gone code) r) ⌝ }
 {
     if is_wrong_code(codes, seen.status, code) {
         return Grant::Refused(WRONG_CODE);
@@ -110,16 +100,11 @@ fn judge_delete(seen: Survey, codes: [u8; 4], field: u8, code: u8) -> Grant
     if field as usize + 1 != seen.fields {
         return Grant::Refused(FIXED_SIZE);
     }
-    Grant::Granted(Change {
-        start: seen.first,
-        old: blocks_in(seen.status),
-        new: 0,
-        status: 0,
-    })
+    Grant::Granted(change_at(seen.first, blocks_in(seen.status), 0))
 }
 
 // 03h; then create, modify or delete, otherwise 12h.
-fn judge_shape(seen: Survey, total: usize, codes: [u8; 4], request: &[u8]) -> Grant
+fn judge_shape(seen: Survey, codes: &[u8], request: &[u8]) -> Grant
     requires { ⌜ Surveyed total (surveyOf seen) (now request) ⌝ }
     ensures { λ r. ⌜ Shapes codes total (surveyOf seen) (now (request .entry)) r ⌝ }
 {
@@ -132,7 +117,7 @@ fn judge_shape(seen: Survey, total: usize, codes: [u8; 4], request: &[u8]) -> Gr
     }
     if has_field(status) {
         if number == seen.fields {
-            return judge_create(seen, total, codes, status, code);
+            return judge_create(seen, codes, status, code);
         }
         if seen.fields < number {
             return Grant::Refused(WRONG_FIELD);
@@ -145,11 +130,18 @@ fn judge_shape(seen: Survey, total: usize, codes: [u8; 4], request: &[u8]) -> Gr
     judge_delete(seen, codes, field, code)
 }
 
+fn stored_as(status: u8) -> u8 {
+    if has_field(status) {
+        return status;
+    }
+    0
+}
+
 // 4Dh: field, status, code. The reply repeats the status as received.
 pub fn shape_field(
+    seen: Survey,
     memory: &mut [u8],
-    total: usize,
-    codes: [u8; 4],
+    codes: &[u8],
     request: &[u8],
     room: &mut [u8],
 ) -> Answer
@@ -158,11 +150,10 @@ pub fn shape_field(
         → Works (shapeField p s (now (memory .entry)) (now (request .entry))) (now (memory .entry)) (now (room .entry)) r (now (memory .exit)) (now (room .exit))) ⌝ }
 {
     let field = request[0];
-    let seen = survey(memory, total, field);
-    let grant = judge_shape(seen, total, codes, request);
+    let grant = judge_shape(seen, codes, request);
     let Grant::Granted(change) = grant else {
         return Answer::Refuse(grant.code());
     };
-    apply(memory, total, field, change);
+    apply(memory, seen.total, field, change, stored_as(request[1]));
     reply_two(field, request[1], room)
 }

@@ -1,5 +1,6 @@
 // The status byte (01, "Status byte").
 ghost use mathlib.Core.Path.{_≡_};
+ghost use lib.ListN.{length};
 ghost use Rattle.meaning.specs.Bytes.{both};
 ghost use Rattle.meaning.specs.State.{State};
 ghost use Rattle.meaning.specs.Fields.{blocks, coded, writable, exists};
@@ -34,16 +35,18 @@ pub(crate) fn has_field(status: u8) -> bool
 }
 
 // Bits 4 and 5: code number. Whether the code is not the one that the status names.
-pub(crate) fn is_wrong_code(codes: [u8; 4], status: u8, code: u8) -> bool
-    ensures { λ r. ⌜ ((s : State) → s .codes ≡ codes → r ≡ wrongCode s status code) ⌝ }
+pub(crate) fn is_wrong_code(codes: &[u8], status: u8, code: u8) -> bool
+    requires { ⌜ length (now codes) ≡ 4 ⌝ }
+    ensures { λ r. ⌜ ((s : State) → s .codes ≡ now (codes .entry) → r ≡ wrongCode s status code) ⌝ }
 {
     let number = (status / 16 % 4) as usize;
     code != codes[number]
 }
 
 // 01, "0Fh in 4Ah and 4Bh only where the field's status bit 3 is set".
-pub(crate) fn is_barred(codes: [u8; 4], status: u8, code: u8) -> bool
-    ensures { λ r. ⌜ ((s : State) → s .codes ≡ codes → r ≡ both (coded status) (wrongCode s status code)) ⌝ }
+pub(crate) fn is_barred(codes: &[u8], status: u8, code: u8) -> bool
+    requires { ⌜ length (now codes) ≡ 4 ⌝ }
+    ensures { λ r. ⌜ ((s : State) → s .codes ≡ now (codes .entry) → r ≡ both (coded status) (wrongCode s status code)) ⌝ }
 {
     if !wants_code(status) {
         return false;

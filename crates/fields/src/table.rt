@@ -4,8 +4,8 @@ ghost use Prim.Native.Nat.{ℕ, _≤_};
 ghost use mathlib.Core.List.{List};
 ghost use lib.ListN.{length, drop};
 ghost use Rattle.meaning.specs.Bytes.{blank};
-ghost use Rattle.meaning.specs.Fields.{survey, table};
-ghost use Rattle.fields.specs.Memory.{Sized, Statuses, Tallied, surveyOf};
+ghost use Rattle.meaning.specs.Fields.{table};
+ghost use Rattle.fields.specs.Memory.{Counted, CountedOn, Saw, Sized, Statuses};
 use crate::seen::Survey;
 use crate::sizes::bytes_of;
 use crate::sizes::less;
@@ -18,13 +18,13 @@ pub struct Tally {
     pub blocks: usize,
 }
 
-// 01, "its first n bytes have bit 7 set": the status bytes at the front that have it.
-pub(crate) fn count_fields(statuses: &[u8]) -> Tally
-    requires { ⌜ length (now statuses) ≤ 65535 ⌝ }
-    ensures { λ r. ⌜ Tallied (now (statuses .entry)) r ⌝ }
+// 01, "its first n bytes have bit 7 set": the status bytes at the front that have it. The count goes on from what was counted before.
+fn count_on(statuses: &[u8], from: Tally) -> Tally
+    requires { ⌜ Counted (now statuses) from ⌝ }
+    ensures { λ r. ⌜ CountedOn (now (statuses .entry)) from r ⌝ }
 {
-    let mut blocks: usize = 0;
-    let mut fields = 0;
+    let mut fields = from.fields;
+    let mut blocks = from.blocks;
     while fields < statuses.len() {
         let status = statuses[fields];
         if !has_field(status) {
@@ -36,37 +36,43 @@ pub(crate) fn count_fields(statuses: &[u8]) -> Tally
     Tally { fields, blocks }
 }
 
-// 01, "the rest are 00h". The bits of all bytes are gathered, with no test in the loop: the usual table is blank to its end.
-pub(crate) fn is_blank(rest: &[u8]) -> bool
-    ensures { λ r. ⌜ r ≡ blank (now (rest .entry)) ⌝ }
+// 01, "the rest are 00h": four bytes at a time, and then what is left.
+fn is_blank_from(statuses: &[u8], place: usize) -> bool
+    requires { ⌜ place ≤ length (now statuses) ⌝ }
+    ensures { λ r. ⌜ r ≡ blank (drop place (now (statuses .entry))) ⌝ }
 {
-    let mut bits: u8 = 0;
-    let mut i = 0;
-    while i < rest.len() {
-        bits |= rest[i];
+    let mut i = place;
+    while i + 4 <= statuses.len() {
+        if wire::number_at(statuses, i) != 0 {
+            return false;
+        }
+        i += 4;
+    }
+    while i < statuses.len() {
+        if statuses[i] != 0 {
+            return false;
+        }
         i += 1;
     }
-    bits == 0
-}
-
-fn past(bytes: &[u8], n: usize) -> &[u8]
-    requires { ⌜ n ≤ length (now bytes) ⌝ }
-    ensures { λ r. ⌜ now r ≡ drop n (now (bytes .entry)) ⌝ }
-{
-    &bytes[n..]
+    true
 }
 
 // The walk halts at the named field, to note where it starts, and goes on from there: no status is passed twice.
 fn walk(statuses: &[u8], total: usize, field: usize) -> Survey
     requires { ⌜ Statuses total (now statuses) ⌝ }
-    ensures { λ r. ⌜ ((m : List ℕ) → table total m ≡ now (statuses .entry) → surveyOf r ≡ survey total m field) ⌝ }
+    ensures { λ r. ⌜ ((m : List ℕ) → table total m ≡ now (statuses .entry) → Saw total m field r) ⌝ }
 {
-    let before = count_fields(wire::front(statuses, field));
-    let after = count_fields(past(statuses, before.fields));
-    let fields = before.fields + after.fields;
-    let used = before.blocks + after.blocks;
-    let rest_blank = is_blank(past(statuses, fields));
+    let none = Tally {
+        fields: 0,
+        blocks: 0,
+    };
+    let before = count_on(wire::front(statuses, field), none);
+    let all = count_on(statuses, before);
+    let fields = all.fields;
+    let used = all.blocks;
+    let rest_blank = is_blank_from(statuses, fields);
     Survey {
+        total,
         sound: rest_blank & (used <= total),
         fields,
         free: less(total, used),
@@ -76,9 +82,11 @@ fn walk(statuses: &[u8], total: usize, field: usize) -> Survey
 }
 
 // 01, "Memory": all that a command reads of the table, whether it is sound or not.
-pub(crate) fn survey(memory: &[u8], total: usize, field: u8) -> Survey
+pub fn survey(memory: &[u8], total: usize, field: u8) -> Survey
     requires { ⌜ Sized total (now memory) ⌝ }
-    ensures { λ r. ⌜ surveyOf r ≡ survey total (now (memory .entry)) field ⌝ }
+    ensures { λ r. ⌜ Saw total (now (memory .entry)) field r ⌝ }
 {
-    walk(past(memory, bytes_of(total)), total, field as usize)
+    let from = bytes_of(total);
+    let to = from + total;
+    walk(&memory[from..to], total, field as usize)
 }

@@ -52,15 +52,18 @@ part-fill-end-2 c = search needs
 fill-requires : tie.Need-fill-requires
 fill-requires c κs = search needs
 
-add-t10 : tie.Need-add-t10
-add-t10 c = search needs
+shared-slice-read-t8 : tie.Need-shared-slice-read-t8
+shared-slice-read-t8 c = search needs
+
+add-t23 : tie.Need-add-t23
+add-t23 c = search needs
 
 same-length : tie.Need-same-length
 same-length c = search needs
 
 returns-2 : tie.Need-returns-2
 returns-2 c = λ s m.
-    let f = c .before .before in
+    let f = c .before .before .before in
     let t = f .before .before .before .before .before in
     let e = t .before .before in
     let a = e .before .before .before .before .before .before .args in
@@ -85,6 +88,7 @@ read-own-spec =
     part-fill-start-2
     part-fill-end-2
     fill-requires
-    add-t10
+    shared-slice-read-t8
+    add-t23
     same-length
     returns-2)

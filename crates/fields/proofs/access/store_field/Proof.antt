@@ -11,37 +11,38 @@ use Rattle.fields.specs.declared.find.Found.{Found}
 use Rattle.fields.specs.Found.{OpenTo}
 use Rattle.fields.proofs.Accesses.{store-refused, store-locked, store-own}
 use Rattle.fields.proofs.Rows.{asked-4B, works-refuse}
+use Rattle.fields.proofs.Tables.{first-few}
 use Rattle.fields.proofs.access.store_field.Statement.{statement}
 use Rattle.fields.proofs.access.store_field.Tie as tie
 
 -- where the call began
 abbrev entry : tie.After-open-field → tie.Start
-entry c =
-    let start = c .before .before .before .before .before .before .before in
-    start
+entry c = c .before .before .before .before .before .before .before
 
 -- past the `let` the field is there
-said : (c : tie.After-found) → OpenTo (entry (c .before .before) .args .codes) (arg (entry (c .before .before) .args .request .now) 3) (entry (c .before .before) .args .total) (entry (c .before .before) .args .memory .now)
-    (arg (entry (c .before .before) .args .request .now) 0) (Field (c .found .given .0 .0) (c .found .given .0 .1 .0) (c .found .given .0 .1 .1 .0))
+said : (c : tie.After-found) → OpenTo (entry (c .before .before) .args .codes .now) (arg (entry (c .before .before) .args .request .now) 3) (entry (c .before .before) .args .seen .total)
+    (entry (c .before .before) .args .memory .now) (arg (entry (c .before .before) .args .request .now) 0) (Field (c .found .given .0 .0) (c .found .given .0 .1 .0) (c .found .given .0 .1 .1 .0))
 said c =
     let after-open-field = c .before .before in
-    let a = entry (c .before .before) .args in
-    subst (λ (g : Found). OpenTo (a .codes) (arg (a .request .now) 3) (a .total) (a .memory .now) (arg (a .request .now) 0) g) (c .found .given .1) (after-open-field .open-field .ensures)
+    let start = entry after-open-field in
+    let a = start .args in
+    subst (λ (g : Found). OpenTo (a .codes .now) (arg (a .request .now) 3) (a .seen .total) (a .memory .now) (arg (a .request .now) 0) g)
+    (c .found .given .1) (after-open-field .open-field .ensures (a .seen .total) (a .memory .now) (start .pre .seen))
 
 shared-slice-read-open-field : tie.Need-shared-slice-read-open-field
 shared-slice-read-open-field c =
-    let start = c .before .before .before .before .before in
-    let s = start in
-    omega (arith, asked-4B (s .args .request .now) (s .pre .wanted))
+    let s = c .before .before .before .before .before in
+    omega (arith, asked-4B (s .args .request .now) (s .pre .asked .wanted))
 
 shared-slice-read-open-field-2 : tie.Need-shared-slice-read-open-field-2
 shared-slice-read-open-field-2 c =
-    let start = c .before .before .before .before .before .before in
-    let s = start in
-    omega (arith, asked-4B (s .args .request .now) (s .pre .wanted))
+    let s = c .before .before .before .before .before .before in
+    omega (arith, asked-4B (s .args .request .now) (s .pre .asked .wanted))
 
 open-field-requires : tie.Need-open-field-requires
-open-field-requires c κs = search needs
+open-field-requires c κs =
+    let s = c .before .before .before .before .before .before in
+    (first-few (s .args .seen .total) (s .args .memory .now) (s .pre .asked .lent .fit) _ _ (s .pre .seen), s .pre .codes)
 
 enum-known-found : tie.Need-enum-known-found
 enum-known-found c = search needs
@@ -63,7 +64,7 @@ returns c =
     let k = after-open-field in
     let a = entry k .args in
     rw (c .code .ensures)
-    (works-refuse _ (a .memory .now) (a .room .now) _ (store-refused p s (a .codes) (a .total) (a .memory .now) (a .request .now) e q _ (k .open-field .ensures) (at-match-keys2 .match .keys2)))
+    (works-refuse _ (a .memory .now) (a .room .now) _ (store-refused p s (a .codes .now) (a .seen .total) (a .memory .now) (a .request .now) e q _ (k .open-field .ensures (a .seen .total) (a .memory .now) (entry k .pre .seen)) (at-match-keys2 .match .keys2)))
 
 is-writable-requires : tie.Need-is-writable-requires
 is-writable-requires c κs = search needs
@@ -78,7 +79,7 @@ returns-2 c =
     let f = after-found in
     let a = entry (f .before .before) .args in
     works-refuse _ (a .memory .now) (a .room .now) _
-    (store-locked p s (a .codes) (a .total) (a .memory .now) (a .request .now) e q _ _ _ (said f) (sym (c .before .is-writable .ensures) ∙ not-true _ (c .if1 .taken)))
+    (store-locked p s (a .codes .now) (a .seen .total) (a .memory .now) (a .request .now) e q _ _ _ (said f) (sym (c .before .is-writable .ensures) ∙ not-true _ (c .if1 .taken)))
 
 sub-store-own : tie.Need-sub-store-own
 sub-store-own c =
@@ -97,20 +98,14 @@ part-store-own-end c =
     let after-found = c .before .before .before in
     let f = after-found in
     let l = said f .place in
-    omega (arith, l .within, entry (f .before .before) .pre .lent .fit .long)
+    omega (arith, l .within, entry (f .before .before) .pre .asked .lent .fit .long)
 
 store-own-requires : tie.Need-store-own-requires
 store-own-requires c κs =
     let after-open-field = c .before .before .before .before .before .before .before in
     let s = entry (after-open-field) in
-    let k = asked-4B (s .args .request .now) (s .pre .wanted) in
-    record { long = k .2; some = k .0; room = s .pre .lent .room }
-
-same-length-3 : tie.Need-same-length-3
-same-length-3 c = search needs
-
-same-length-4 : tie.Need-same-length-4
-same-length-4 c = search needs
+    let k = asked-4B (s .args .request .now) (s .pre .asked .wanted) in
+    record { long = k .2; some = k .0; room = s .pre .asked .lent .room }
 
 returns-3 : tie.Need-returns-3
 returns-3 c =
@@ -121,8 +116,8 @@ returns-3 c =
     let f = l .before .before .before in
     let b = entry (f .before .before) in
     let a = b .args in
-    let k = asked-4B (a .request .now) (b .pre .wanted) in
-    store-own p s (a .codes) (a .total) (a .memory .now) (a .request .now) e q _ _ _ (said f) (b .pre .lent .fit)
+    let k = asked-4B (a .request .now) (b .pre .asked .wanted) in
+    store-own p s (a .codes .now) (a .seen .total) (a .memory .now) (a .request .now) e q _ _ _ (said f) (b .pre .asked .lent .fit)
     (sym (l .before .is-writable .ensures) ∙ not-false _ (l .if1 .left)) (simp length-drop (omega arith)) (a .room .now) _ _ _ (y .store-own .ensures s)
 
 pub store-field-spec : {M : Type 1} → statement M
@@ -135,15 +130,13 @@ store-field-spec =
     enum-known-found
     enum-told
     code-requires
-    same-length
     returns
     is-writable-requires
-    same-length-2
     returns-2
     sub-store-own
     part-store-own-start
     part-store-own-end
     store-own-requires
-    same-length-3
-    same-length-4
+    same-length
+    same-length-2
     returns-3)

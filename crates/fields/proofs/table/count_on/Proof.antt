@@ -1,4 +1,4 @@
--- `fields::table::count_fields` meets its contract. Assumes nothing.
+-- `fields::table::count_on` meets its contract. Assumes nothing.
 use Prim.Native.Nat.{_≤_, _-_, _+_, _*_}
 use mathlib.Core.Path.{_≡_, sym, _∙_}
 use native.Mathlib.Omega.{arith}
@@ -8,14 +8,15 @@ use borrow.Author.Needs.{needs}
 use Rattle.meaning.specs.Fields.{blocks, fieldCount, used}
 use Rattle.fields.proofs.Tables.{blocks-most}
 use Rattle.fields.proofs.Walk.{count-more, count-stop, count-end, used-more, used-stop, used-end}
-use Rattle.fields.proofs.table.count_fields.Statement.{statement}
-use Rattle.fields.proofs.table.count_fields.Tie as tie
+use Rattle.fields.proofs.table.count_on.Statement.{statement}
+use Rattle.fields.proofs.table.count_on.Tie as tie
 
 abbrev Inv-loop : tie.InvT-loop
-Inv-loop statuses blocks₀ fields₀ blocks fields = (fields ≤ length statuses) × (blocks ≤ 8 * fields) × (fieldCount statuses ≡ fields + fieldCount (drop fields statuses)) × (used statuses ≡ blocks + used (drop fields statuses))
+Inv-loop statuses fields₀ blocks₀ fields blocks = (fields ≤ length statuses) × (blocks ≤ 8 * fields)
+    × (fields₀ + fieldCount (drop fields₀ statuses) ≡ fields + fieldCount (drop fields statuses)) × (blocks₀ + used (drop fields₀ statuses) ≡ blocks + used (drop fields statuses))
 
 abbrev μ-loop : tie.MeasureT-loop
-μ-loop statuses blocks₀ fields₀ blocks fields = length statuses - fields
+μ-loop statuses fields₀ blocks₀ fields blocks = length statuses - fields
 
 loop-holds : tie.Need-loop-holds Inv-loop μ-loop
 loop-holds c = omega arith
@@ -72,8 +73,8 @@ returns-2 c =
       blocks = omega (arith, used-end l (at .loop .fields) (omega arith));
     }
 
-pub count-fields-spec : {M : Type 1} → statement M
-count-fields-spec =
+pub count-on-spec : {M : Type 1} → statement M
+count-on-spec =
     tie.close
     (tie.spec
     Inv-loop
