@@ -28,7 +28,7 @@ said c =
 
 shared-slice-read-field : tie.Need-shared-slice-read-field
 shared-slice-read-field c =
-    let start = c .before .before .before .before in
+    let start = c .before .before .before .before .before in
     let s = start in
     omega (arith, asked-4D (s .args .request .now) (s .pre .asked .wanted))
 
@@ -71,16 +71,24 @@ returns c =
     (k .judge-shape .ensures .answer p s (a .memory .now) e q (b .pre .seen) ∙ not-granted (k .judge-shape .result) (at-match-keys2 .match .keys2) (a .seen .total) s (a .memory .now) (arg d 0) (arg d 1)))
 
 shared-slice-read-stored-as : tie.Need-shared-slice-read-stored-as
-shared-slice-read-stored-as c = ?
+shared-slice-read-stored-as c =
+    let after-judge-shape = c .before .before .before .before .before in
+    let b = entry after-judge-shape in
+    omega (arith, asked-4D (b .args .request .now) (b .pre .asked .wanted))
 
 stored-as-requires : tie.Need-stored-as-requires
 stored-as-requires c κs = search needs
 
 apply-requires : tie.Need-apply-requires
-apply-requires c κs = ?
+apply-requires c κs =
+    let g = c .before .before .before .before in
+    record { fit = entry (g .before .before) .pre .asked .lent .fit; room = said g .place }
 
 shared-slice-read-reply-two : tie.Need-shared-slice-read-reply-two
-shared-slice-read-reply-two c = ?
+shared-slice-read-reply-two c =
+    let after-judge-shape = c .before .before .before .before .before .before .before .before .before .before in
+    let b = entry after-judge-shape in
+    omega (arith, asked-4D (b .args .request .now) (b .pre .asked .wanted))
 
 reply-two-requires : tie.Need-reply-two-requires
 reply-two-requires c κs = search needs
@@ -92,7 +100,17 @@ same-length-2 : tie.Need-same-length-2
 same-length-2 c = search needs
 
 returns-2 : tie.Need-returns-2
-returns-2 c = ?
+returns-2 c =
+    let after-reply-two = c .before .before in
+    let after-apply = after-reply-two .before .before .before .before .before in
+    λ p s e q.
+    let y = after-apply in
+    let z = y .before in
+    let g = z .before .before .before .before in
+    let b = entry (g .before .before) in
+    let a = b .args in
+    rw (y .apply .ensures, z .stored-as .ensures)
+    (works-accept _ (a .memory .now) (a .room .now) _ s _ _ _ (said g .answer p s (a .memory .now) e q (b .pre .seen)) (after-reply-two .reply-two .ensures))
 
 pub shape-field-spec : {M : Type 1} → statement M
 shape-field-spec =
