@@ -135,11 +135,11 @@ fn judge_shape(seen: Survey, codes: &[u8], request: &[u8]) -> Grant
 }
 
 // The status that is stored. Where bit 7 says that there is no field it is 00h, whatever the other bits are.
-fn stored_as(status: u8) -> u8
-    ensures { λ r. ⌜ r ≡ storedAs status ⌝ }
+fn stored_as(asked: u8) -> u8
+    ensures { λ r. ⌜ r ≡ storedAs asked ⌝ }
 {
-    if has_field(status) {
-        return status;
+    if has_field(asked) {
+        return asked;
     }
     0
 }

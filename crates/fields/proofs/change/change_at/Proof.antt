@@ -16,7 +16,7 @@ add-t11 : tie.Need-add-t11
 add-t11 c = search needs
 
 returns : tie.Need-returns
-returns c = cc
+returns c = rw (c .before .least .ensures, c .most .ensures)
 
 pub change-at-spec : {M : Type 1} → statement M
 change-at-spec = tie.close (tie.spec least-requires add-t7 most-requires add-t11 returns)
