@@ -62,7 +62,7 @@ pub(crate) fn apply(memory: &mut [u8], total: usize, field: u8, change: Change, 
     memory[at] = status;
 }
 
-// 01, "The change in blocks": a field that starts at this block has so many blocks and gets so many. Those from the smaller size up to the larger change hands.
+// 01, "Blocks granted and blocks given back": of a field that starts at this block, those from the smaller size up to the larger.
 pub(crate) fn change_at(start: usize, old: u8, new: u8) -> Change
     requires { ⌜ start ≤ 65535 ⌝ }
     ensures { λ r. ⌜ r ≡ record { from = start + min old new; to = start + max old new } ⌝ }

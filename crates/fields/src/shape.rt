@@ -134,7 +134,7 @@ fn judge_shape(seen: Survey, codes: &[u8], request: &[u8]) -> Grant
     judge_delete(seen, codes, field, code)
 }
 
-// The status that is stored. Where bit 7 says that there is no field it is 00h, whatever the other bits are.
+// The status that is stored: 00h where bit 7 is clear, for the bits below it are ignored then (01, "Bits 0 to 6 are ignored").
 fn stored_as(asked: u8) -> u8
     ensures { λ r. ⌜ r ≡ storedAs asked ⌝ }
 {
