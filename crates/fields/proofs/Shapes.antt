@@ -16,7 +16,8 @@ use Rattle.meaning.specs.Fields.{bytesOf, dataBytes, blocks, exists, clear, put
 use Rattle.meaning.specs.Commands.{Answer, refuse, accept, error, choose, wrongCode, create, modify, delete, resize, shapeField}
 use Rattle.meaning.proofs.Puts.{length-put, stored-is-put}
 use Rattle.fields.specs.Memory.{Sits}
-use Rattle.fields.specs.Shape.{shaped, grantCode, Judged, Shapes}
+use Rattle.fields.specs.Shape.{storedAs, shaped, grantCode, Judged, Shapes}
+use Rattle.fields.specs.declared.change.Change.{Change}
 use Rattle.fields.specs.declared.shape.Grant.{Grant}
 use Rattle.fields.specs.declared.shape.Grant.the-variants.{Granted, Refused}
 use Rattle.fields.proofs.shape.Grant as declared
@@ -32,38 +33,34 @@ part-cleared m b n from to ys p q h e =
     rw (e, k, post-is from to m (omega arith), length-replicate, ← p, i)
 
 -- the run and the status, done
-module _ (t : ℕ) (m : List ℕ) (f start old new st : ℕ) (from to at : ℕ) (ys : List ℕ) (p : from ≡ bytesOf (start + min old new)) (q : to ≡ bytesOf (start + max old new))
+module _ (t : ℕ) (m : List ℕ) (f st : ℕ) (run : Change) (from to at : ℕ) (ys : List ℕ) (p : from ≡ bytesOf (run .from)) (q : to ≡ bytesOf (run .to)) (o : run .from ≤ run .to)
     (h : to ≤ length m) (e : ys ≡ zeros (length (midOf from (to - from) m))) where
-  run-is : putMid from (to - from) m ys ≡ resize m start old new
-  unfolding resize
-  run-is = part-cleared m (start + min old new) (max old new - min old new) from to ys p (omega arith) h e
+  run-is : putMid from (to - from) m ys ≡ clear m (run .from) (run .to - run .from)
+  run-is = part-cleared m (run .from) (run .to - run .from) from to ys p (omega arith) h e
 
   run-length : length (putMid from (to - from) m ys) ≡ length m
-  unfolding resize clear
-  run-length =
-      ap length run-is
-      ∙ length-put m (bytesOf (start + min old new)) (zeros (bytesOf (max old new - min old new))) (rw length-replicate (omega arith))
+  unfolding clear
+  run-length = ap length run-is ∙ length-put m (bytesOf (run .from)) (zeros (bytesOf (run .to - run .from))) (rw length-replicate (omega arith))
 
-  pub applied : at ≡ dataBytes t + f → at < length m → set (putMid from (to - from) m ys) at st ≡ putStatus t (resize m start old new) f st
+  pub applied : at ≡ dataBytes t + f → at < length m → set (putMid from (to - from) m ys) at st ≡ putStatus t (clear m (run .from) (run .to - run .from)) f st
   unfolding putStatus
   applied i k =
       stored-is-put (putMid from (to - from) m ys) at (st ∷ []) (omega (arith, run-length))
-      ∙ ap (λ (l : List ℕ). put l at (st ∷ [])) run-is ∙ ap (λ (j : ℕ). put (resize m start old new) j (st ∷ [])) i
+      ∙ ap (λ (l : List ℕ). put l at (st ∷ [])) run-is ∙ ap (λ (j : ℕ). put (clear m (run .from) (run .to - run .from)) j (st ∷ [])) i
 
--- from nothing, and to nothing
-resize-up : (m : List ℕ) (b n : ℕ) → resize m b 0 n ≡ clear m b n
-unfolding resize
-resize-up m b n =
-    let i : b + min 0 n ≡ b = omega arith in
-    let j : max 0 n - min 0 n ≡ n = omega arith in
-    rw (i, j)
+-- the status that is stored: a field's, and none's
+pub stored-field : (st : ℕ) → exists st ≡ true → storedAs st ≡ st
+unfolding storedAs
+stored-field st e = rw e
 
-resize-down : (m : List ℕ) (b n : ℕ) → resize m b n 0 ≡ clear m b n
-unfolding resize
-resize-down m b n =
-    let i : b + min n 0 ≡ b = omega arith in
-    let j : max n 0 - min n 0 ≡ n = omega arith in
-    rw (i, j)
+pub stored-none : (st : ℕ) → exists st ≡ false → storedAs st ≡ 0
+unfolding storedAs
+stored-none st e = rw e
+
+-- a granted change, by its first block, its blocks and the status that is stored
+granted-as : (run : Change) (t : ℕ) (s : State) (m : List ℕ) (f asked b n st : ℕ) → run .from ≡ b → run .to - run .from ≡ n → storedAs asked ≡ st
+    → accept (f ∷ asked ∷ []) s (putStatus t (clear m b n) f st) ≡ shaped (Granted run) t s m f asked
+granted-as run t s m f asked b n st p q e = cc
 
 module _ (codes : List ℕ) (t f : ℕ) (v : Survey) (c : ℕ) where
   -- whether the code is wrong for the status st
@@ -95,16 +92,18 @@ module _ (codes : List ℕ) (t f : ℕ) (v : Survey) (c : ℕ) where
       place = tt;
     }
 
-    pub create-granted : Wrong new false → (n : ℕ) → n ≡ blocks new → false ≡ ltb (0 + v .free) n → Sits t v f → f ≡ v .fields
-        → Creates (Granted (record { start = t - v .free; old = 0; new = n; status = new }))
+    pub create-granted : Wrong new false → (n : ℕ) → n ≡ blocks new → false ≡ ltb (0 + v .free) n → Sits t v f → f ≡ v .fields → exists new ≡ true
+        → (run : Change) → run ≡ record { from = t - v .free + min 0 n; to = t - v .free + max 0 n } → Creates (Granted run)
     unfolding error made
-    create-granted w n i h sits at =
+    create-granted w n i h sits at x run e =
         let k = ltb-false (0 + v .free) n (sym h) in
         let r = sits .room in
+        let p = ap (λ (z : Change). z .from) e in
+        let q = ap (λ (z : Change). z .to) e in
         record {
-          answer = λ s m e. create-as false false w (le-ltb (v .free) (blocks new) (omega arith)) s m e
-              ∙ ap (λ (l : List ℕ). accept (f ∷ new ∷ []) s (putStatus t l f new)) (sym (ap (λ (x : ℕ). resize m (t - v .free) 0 x) i ∙ resize-up m (t - v .free) (blocks new)));
-          place = record { below = omega (arith, blocks-some new); ends = omega arith; will-end = omega arith };
+          answer = λ s m o. create-as false false w (le-ltb (v .free) (blocks new) (omega arith)) s m o
+              ∙ granted-as run t s m f new (t - v .free) (blocks new) new (omega arith) (omega arith) (stored-field new x);
+          place = record { below = omega (arith, blocks-some new); run = omega arith; within = omega arith };
         }
 
   -- modify
@@ -143,18 +142,21 @@ module _ (codes : List ℕ) (t f : ℕ) (v : Survey) (c : ℕ) where
       unfolding error
       modify-short w h k = record { answer = λ s m e. modify-as false false true w (held-as h) (short-as k) s m e; place = tt }
 
-      pub modify-granted : Wrong (v .status) false → false ≡ both (differ n old) (differ (f + 1) (v .fields)) → false ≡ ltb (old + v .free) n → Sits t v f → f < v .fields
-          → Modifies (Granted (record { start = v .first; old = old; new = n; status = new }))
-      unfolding error sized
-      modify-granted w h k sits there =
+      pub modify-granted : Wrong (v .status) false → false ≡ both (differ n old) (differ (f + 1) (v .fields)) → false ≡ ltb (old + v .free) n → Sits t v f → f < v .fields → exists new ≡ true
+          → (run : Change) → run ≡ record { from = v .first + min old n; to = v .first + max old n } → Modifies (Granted run)
+      unfolding error sized resize
+      modify-granted w h k sits there x run e =
           let r = sits .room in
           let y = sits .own there in
-          let x = ltb-false (old + v .free) n (sym k) in
+          let z = ltb-false (old + v .free) n (sym k) in
+          let p = ap (λ (z : Change). z .from) e in
+          let q = ap (λ (z : Change). z .to) e in
+          let was = blocks (v .status) in
+          let will = blocks new in
           record {
-            answer = λ s m e. modify-as false false false w (held-as h) (short-as k) s m e
-                ∙ ap (λ (l : List ℕ). accept (f ∷ new ∷ []) s (putStatus t l f new))
-                (sym (ap (λ (z : ℕ). resize m (v .first) z n) o ∙ ap (λ (z : ℕ). resize m (v .first) (blocks (v .status)) z) i));
-            place = record { below = omega arith; ends = omega arith; will-end = omega arith };
+            answer = λ s m u. modify-as false false false w (held-as h) (short-as k) s m u
+                ∙ granted-as run t s m f new (v .first + min was will) (max was will - min was will) new (omega arith) (omega arith) (stored-field new x);
+            place = record { below = omega arith; run = omega arith; within = omega arith };
           }
 
   -- delete
@@ -179,16 +181,18 @@ module _ (codes : List ℕ) (t f : ℕ) (v : Survey) (c : ℕ) where
     unfolding error
     delete-held w h = record { answer = λ s m e. delete-as false true w (ap not (ne-eqb (f + 1) (v .fields) h)) s m e; place = tt }
 
-    pub delete-granted : Wrong (v .status) false → f + 1 ≡ v .fields → (old : ℕ) → old ≡ blocks (v .status) → Sits t v f
-        → Deletes (Granted (record { start = v .first; old = old; new = 0; status = 0 }))
+    pub delete-granted : Wrong (v .status) false → f + 1 ≡ v .fields → (old : ℕ) → old ≡ blocks (v .status) → Sits t v f → exists gone ≡ false
+        → (run : Change) → run ≡ record { from = v .first + min old 0; to = v .first + max old 0 } → Deletes (Granted run)
     unfolding error freed
-    delete-granted w h old o sits =
+    delete-granted w h old o sits x run e =
         let r = sits .room in
         let y = sits .own (omega arith) in
+        let p = ap (λ (z : Change). z .from) e in
+        let q = ap (λ (z : Change). z .to) e in
         record {
-          answer = λ s m e. delete-as false false w (ap not (eq-eqb (f + 1) (v .fields) h)) s m e
-              ∙ ap (λ (l : List ℕ). accept (f ∷ gone ∷ []) s (putStatus t l f 0)) (sym (ap (λ (z : ℕ). resize m (v .first) z 0) o ∙ resize-down m (v .first) (blocks (v .status))));
-          place = record { below = omega arith; ends = omega arith; will-end = omega arith };
+          answer = λ s m u. delete-as false false w (ap not (eq-eqb (f + 1) (v .fields) h)) s m u
+              ∙ granted-as run t s m f gone (v .first) (blocks (v .status)) 0 (omega arith) (omega arith) (stored-none gone x);
+          place = record { below = omega arith; run = omega arith; within = omega arith };
         }
 
 -- the whole row

@@ -1,15 +1,15 @@
 -- What a judgement of 4Dh comes to, in the terms of the meaning. Assumes nothing.
-use Prim.Native.Nat.{ℕ, _+_, _≤_, _<_}
+use Prim.Native.Nat.{ℕ, _-_, _≤_, _<_}
 use mathlib.Core.Bool.{true}
 use mathlib.Core.Path.{_≡_}
 use mathlib.Core.List.{List, [], _∷_}
 use lib.ListN.{length}
 use lib.IntN.{ℤ}
 use lib.Signed.{mag}
-use Rattle.meaning.specs.Bytes.{arg}
+use Rattle.meaning.specs.Bytes.{pick, arg}
 use Rattle.meaning.specs.State.{Plate, State}
-use Rattle.meaning.specs.Fields.{Survey, survey, putStatus}
-use Rattle.meaning.specs.Commands.{Answer, refuse, accept, resize, shapeField}
+use Rattle.meaning.specs.Fields.{exists, clear, Survey, survey, putStatus}
+use Rattle.meaning.specs.Commands.{Answer, refuse, accept, shapeField}
 use Rattle.fields.specs.declared.change.Change.{Change}
 use Rattle.fields.specs.declared.shape.Grant.{Grant}
 use Rattle.fields.specs.declared.shape.Grant.the-variants.{Granted, Refused}
@@ -20,9 +20,13 @@ pub record Chargeable (free : ℕ) (change : ℤ) : Type 0 where
   pub few : free ≤ 65535
   pub small : mag change < 1024
 
+-- the status that is stored: the one that was asked for, and 00h where its bit 7 is clear (01, "Bits 0 to 6 are ignored")
+unfoldable pub storedAs : ℕ → ℕ
+storedAs status = pick (exists status) status 0
+
 -- what is granted is done and told, with the status that was asked for; else the error code
 abbrev pub shaped : Grant → ℕ → State → List ℕ → ℕ → ℕ → Answer
-shaped (Granted c) t s m f asked = accept (f ∷ asked ∷ []) s (putStatus t (resize m (c .start) (c .old) (c .new)) f (c .status))
+shaped (Granted c) t s m f asked = accept (f ∷ asked ∷ []) s (putStatus t (clear m (c .from) (c .to - c .from)) f (storedAs asked))
 shaped (Refused e) t s m f asked = refuse e
 
 -- the error code, 0 where there is none
@@ -30,11 +34,11 @@ abbrev pub grantCode : Grant → ℕ
 grantCode (Granted c) = 0
 grantCode (Refused e) = e
 
--- the field has its place in the table, and its blocks in the memory before and after
+-- the field has its place in the table, and the run of blocks its place in the memory
 pub record Room (t f : ℕ) (c : Change) : Type 0 where
   pub below : f < t
-  pub ends : c .start + c .old ≤ t
-  pub will-end : c .start + c .new ≤ t
+  pub run : c .from ≤ c .to
+  pub within : c .to ≤ t
 
 abbrev pub SitsIn : ℕ → ℕ → Grant → Type 0
 SitsIn t f (Granted c) = Room t f c
@@ -54,11 +58,12 @@ pub record Blocks (t free : ℕ) : Type 0 where
   pub few : t ≤ 65535
   pub free-few : free ≤ t
 
--- what the judge is given: a request's data of three bytes, and a survey for the field that it names
-pub record Surveyed (t : ℕ) (v : Survey) (d : List ℕ) : Type 0 where
+-- what the judge is given: a request's data of three bytes, a survey for the field that it names, and the four codes
+pub record Surveyed (t : ℕ) (v : Survey) (codes d : List ℕ) : Type 0 where
   pub few : t ≤ 65535
   pub free : v .free ≤ t
   pub sits : v .trusted ≡ true → Sits t v (arg d 0)
+  pub four : length codes ≡ 4
   pub long : length d ≡ 3
 
 -- the whole row judged, for every memory that the survey is of

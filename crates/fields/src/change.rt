@@ -1,18 +1,17 @@
 // A change in a field's blocks: counted with its sign, and done in memory (01, "The change in blocks is a signed number").
 ghost use mathlib.Core.Path.{_≡_};
-ghost use Prim.Native.Nat.{_+_, _≤_};
+ghost use Prim.Native.Nat.{_+_, _-_, _≤_, min, max};
 ghost use lib.ListN.{length};
 ghost use lib.Dec.{ltb};
 ghost use lib.IntN.{pos, _-ℤ_};
 ghost use Rattle.meaning.specs.Bytes.{zeros};
-ghost use Rattle.meaning.specs.Fields.{putStatus};
-ghost use Rattle.meaning.specs.Commands.{resize};
+ghost use Rattle.meaning.specs.Fields as meaning;
 ghost use Rattle.fields.specs.Shape.{Chargeable, Settable};
 use crate::sizes::bytes_of;
 use crate::sizes::least;
 use crate::sizes::most;
 
-// A field that starts at this block has so many blocks and gets so many, and then this status.
+// The run of blocks to be cleared: the first of them, and the one past the last.
 pub struct Change {
     pub from: usize,
     pub to: usize,
@@ -53,6 +52,8 @@ fn clear(part: &mut [u8])
 
 // 01, "Blocks granted and blocks given back are set to 00h": that run of memory is lent on and cleared, then the status is stored.
 pub(crate) fn apply(memory: &mut [u8], total: usize, field: u8, change: Change, status: u8)
+    requires { ⌜ Settable total (now memory) field change ⌝ }
+    ensures { λ _. ⌜ now (memory .exit) ≡ meaning.putStatus total (meaning.clear (now (memory .entry)) (change .from) (change .to - change .from)) field status ⌝ }
 {
     let from = bytes_of(change.from);
     let to = bytes_of(change.to);
@@ -61,7 +62,11 @@ pub(crate) fn apply(memory: &mut [u8], total: usize, field: u8, change: Change, 
     memory[at] = status;
 }
 
-pub(crate) fn change_at(start: usize, old: u8, new: u8) -> Change {
+// 01, "Blocks granted and blocks given back": of a field that starts at this block, those from the smaller size up to the larger.
+pub(crate) fn change_at(start: usize, old: u8, new: u8) -> Change
+    requires { ⌜ start ≤ 65535 ⌝ }
+    ensures { λ r. ⌜ r ≡ record { from = start + min old new; to = start + max old new } ⌝ }
+{
     Change {
         from: start + least(old as usize, new as usize),
         to: start + most(old as usize, new as usize),

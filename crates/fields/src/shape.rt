@@ -1,14 +1,17 @@
 // 4Dh: a field created, modified or deleted (01, "4Dh").
 ghost use mathlib.Core.Path.{_≡_};
+ghost use mathlib.Core.Bool.{true, false};
 ghost use mathlib.Core.List.{List};
+ghost use lib.ListN.{length};
 ghost use Prim.Native.Nat.{ℕ, _+_, _≤_, _<_};
 ghost use Rattle.meaning.specs.Bytes.{both, differ};
 ghost use Rattle.meaning.specs.State.{Plate, State};
+ghost use Rattle.meaning.specs.Fields.{exists};
 ghost use Rattle.meaning.specs.Commands.{c4D, create, modify, delete, shapeField};
 ghost use Rattle.wire.specs.Answers.{Works};
 ghost use Rattle.fields.specs.Memory.{Sits, surveyOf};
-ghost use Rattle.fields.specs.Replies.{Asked};
-ghost use Rattle.fields.specs.Shape.{Blocks, Judged, Shapes, Surveyed, grantCode};
+ghost use Rattle.fields.specs.Replies.{Looked};
+ghost use Rattle.fields.specs.Shape.{Blocks, Judged, Shapes, Surveyed, grantCode, storedAs};
 use crate::change::Change;
 use crate::change::apply;
 use crate::change::change_at;
@@ -54,8 +57,8 @@ fn is_held(seen: Survey, field: u8, new: u8, old: u8) -> bool
 
 // 0Fh unless the code equals the one the new status names, whatever bit 3 says; 10h.
 fn judge_create(seen: Survey, codes: &[u8], new: u8, code: u8) -> Grant
-    requires { ⌜ Blocks total (seen .free) ⌝ }
-    ensures { λ r. ⌜ ((f : ℕ) → Sits total (surveyOf seen) f → f ≡ seen .fields
+    requires { ⌜ Blocks (seen .total) (seen .free) × (length (now codes) ≡ 4) ⌝ }
+    ensures { λ r. ⌜ ((f : ℕ) → Sits (seen .total) (surveyOf seen) f → f ≡ seen .fields → exists new ≡ true
         → Judged (now (codes .entry)) (seen .total) f new (λ (s : State) (m : List ℕ). create (seen .total) s m (surveyOf seen) f new code) r) ⌝ }
 {
     if is_wrong_code(codes, new, code) {
@@ -70,8 +73,8 @@ fn judge_create(seen: Survey, codes: &[u8], new: u8, code: u8) -> Grant
 
 // 0Fh unless the code equals the one the stored status names; 10h; 10h.
 fn judge_modify(seen: Survey, codes: &[u8], field: u8, new: u8, code: u8) -> Grant
-    requires { ⌜ seen .free ≤ 65535 ⌝ }
-    ensures { λ r. ⌜ ((t : ℕ) → Sits t (surveyOf seen) field → field < seen .fields
+    requires { ⌜ (seen .free ≤ 65535) × (seen .first ≤ 65535) × (length (now codes) ≡ 4) ⌝ }
+    ensures { λ r. ⌜ ((t : ℕ) → Sits t (surveyOf seen) field → field < seen .fields → exists new ≡ true
         → Judged (now (codes .entry)) t field new (λ (s : State) (m : List ℕ). modify t s m (surveyOf seen) field new code) r) ⌝ }
 {
     let stored = seen.status;
@@ -89,9 +92,10 @@ fn judge_modify(seen: Survey, codes: &[u8], field: u8, new: u8, code: u8) -> Gra
     Grant::Granted(change_at(seen.first, old, blocks))
 }
 
-// 0Fh as for modify; 10h if not the last. The status is 00h then, whatever was asked.
+// 0Fh as for modify; 10h if not the last.
 fn judge_delete(seen: Survey, codes: &[u8], field: u8, code: u8) -> Grant
-    ensures { λ r. ⌜ ((t gone : ℕ) → Sits t (surveyOf seen) field → field < seen .fields
+    requires { ⌜ (seen .first ≤ 65535) × (length (now codes) ≡ 4) ⌝ }
+    ensures { λ r. ⌜ ((t gone : ℕ) → Sits t (surveyOf seen) field → field < seen .fields → exists gone ≡ false
         → Judged (now (codes .entry)) t field gone (λ (s : State) (m : List ℕ). delete t s m (surveyOf seen) field gone code) r) ⌝ }
 {
     if is_wrong_code(codes, seen.status, code) {
@@ -105,8 +109,8 @@ fn judge_delete(seen: Survey, codes: &[u8], field: u8, code: u8) -> Grant
 
 // 03h; then create, modify or delete, otherwise 12h.
 fn judge_shape(seen: Survey, codes: &[u8], request: &[u8]) -> Grant
-    requires { ⌜ Surveyed total (surveyOf seen) (now request) ⌝ }
-    ensures { λ r. ⌜ Shapes codes total (surveyOf seen) (now (request .entry)) r ⌝ }
+    requires { ⌜ Surveyed (seen .total) (surveyOf seen) (now codes) (now request) ⌝ }
+    ensures { λ r. ⌜ Shapes (now (codes .entry)) (seen .total) (surveyOf seen) (now (request .entry)) r ⌝ }
 {
     let field = request[0];
     let number = field as usize;
@@ -130,9 +134,12 @@ fn judge_shape(seen: Survey, codes: &[u8], request: &[u8]) -> Grant
     judge_delete(seen, codes, field, code)
 }
 
-fn stored_as(status: u8) -> u8 {
-    if has_field(status) {
-        return status;
+// The status that is stored: 00h where bit 7 is clear, for the bits below it are ignored then (01, "Bits 0 to 6 are ignored").
+fn stored_as(asked: u8) -> u8
+    ensures { λ r. ⌜ r ≡ storedAs asked ⌝ }
+{
+    if has_field(asked) {
+        return asked;
     }
     0
 }
@@ -145,8 +152,8 @@ pub fn shape_field(
     request: &[u8],
     room: &mut [u8],
 ) -> Answer
-    requires { ⌜ Asked c4D total (now memory) (now request) (now room) ⌝ }
-    ensures { λ r. ⌜ ((p : Plate) (s : State) → p .total ≡ total → s .codes ≡ codes
+    requires { ⌜ Looked c4D seen (now codes) (now memory) (now request) (now room) ⌝ }
+    ensures { λ r. ⌜ ((p : Plate) (s : State) → p .total ≡ seen .total → s .codes ≡ now (codes .entry)
         → Works (shapeField p s (now (memory .entry)) (now (request .entry))) (now (memory .entry)) (now (room .entry)) r (now (memory .exit)) (now (room .exit))) ⌝ }
 {
     let field = request[0];

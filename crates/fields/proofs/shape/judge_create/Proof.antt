@@ -11,10 +11,10 @@ is-wrong-code-requires c κs = search needs
 
 returns : tie.Need-returns
 returns c =
-    let start = c .before .before in
-    λ f sits at.
+    let start = c .before .before .before in
+    λ f sits at x.
     let a = start .args in
-    create-barred (a .codes) (a .total) f (surveyOf (a .seen)) (a .code) (a .new) (λ s e. sym (c .if1 .taken) ∙ c .before .is-wrong-code .ensures s e)
+    create-barred (a .codes .now) (a .seen .total) f (surveyOf (a .seen)) (a .code) (a .new) (λ s e. sym (c .if1 .taken) ∙ c .before .is-wrong-code .ensures s e)
 
 blocks-in-requires : tie.Need-blocks-in-requires
 blocks-in-requires c κs = search needs
@@ -23,24 +23,27 @@ lacks-room-requires : tie.Need-lacks-room-requires
 lacks-room-requires c κs = search needs
 
 returns-2 : tie.Need-returns-2
-returns-2 c = λ f sits at.
+returns-2 c = λ f sits at x.
     let b = c .before .before in
     let l = b .before in
-    let a = l .before .before .args in
-    create-short (a .codes) (a .total) f (surveyOf (a .seen)) (a .code) (a .new) (λ s e. sym (l .if1 .left) ∙ l .before .is-wrong-code .ensures s e) _ (b .blocks-in .ensures)
+    let a = l .before .before .before .args in
+    create-short (a .codes .now) (a .seen .total) f (surveyOf (a .seen)) (a .code) (a .new) (λ s e. sym (l .if1 .left) ∙ l .before .is-wrong-code .ensures s e) _ (b .blocks-in .ensures)
     (sym (c .if2 .taken) ∙ c .before .lacks-room .ensures)
 
-sub-t9 : tie.Need-sub-t9
-sub-t9 c = search needs
+sub-change-at : tie.Need-sub-change-at
+sub-change-at c = search needs
+
+change-at-requires : tie.Need-change-at-requires
+change-at-requires c κs = search needs
 
 returns-3 : tie.Need-returns-3
-returns-3 c = λ f sits at.
-    let k = c .before in
+returns-3 c = λ f sits at x.
+    let k = c .before .before in
     let b = k .before .before in
     let l = b .before in
-    let a = l .before .before .args in
-    create-granted (a .codes) (a .total) f (surveyOf (a .seen)) (a .code) (a .new) (λ s e. sym (l .if1 .left) ∙ l .before .is-wrong-code .ensures s e) _ (b .blocks-in .ensures)
-    (sym (k .if2 .left) ∙ k .before .lacks-room .ensures) sits at
+    let a = l .before .before .before .args in
+    create-granted (a .codes .now) (a .seen .total) f (surveyOf (a .seen)) (a .code) (a .new) (λ s e. sym (l .if1 .left) ∙ l .before .is-wrong-code .ensures s e) _ (b .blocks-in .ensures)
+    (sym (k .if2 .left) ∙ k .before .lacks-room .ensures) sits at x _ (c .change-at .ensures)
 
 pub judge-create-spec : {M : Type 1} → statement M
 judge-create-spec =
@@ -51,5 +54,6 @@ judge-create-spec =
     blocks-in-requires
     lacks-room-requires
     returns-2
-    sub-t9
+    sub-change-at
+    change-at-requires
     returns-3)

@@ -11,32 +11,34 @@ is-wrong-code-requires c κs = search needs
 
 returns : tie.Need-returns
 returns c =
-    let start = c .before .before in
-    λ t gone sits there.
+    let start = c .before .before .before in
+    λ t gone sits there x.
     let a = start .args in
-    delete-barred (a .codes) t (a .field) (surveyOf (a .seen)) (a .code) gone (λ s e. sym (c .if1 .taken) ∙ c .before .is-wrong-code .ensures s e)
+    delete-barred (a .codes .now) t (a .field) (surveyOf (a .seen)) (a .code) gone (λ s e. sym (c .if1 .taken) ∙ c .before .is-wrong-code .ensures s e)
 
 add-if2 : tie.Need-add-if2
 add-if2 c = search needs
 
 returns-2 : tie.Need-returns-2
-returns-2 c = λ t gone sits there.
+returns-2 c = λ t gone sits there x.
     let l = c .before .before in
-    let a = l .before .before .args in
-    delete-held (a .codes) t (a .field) (surveyOf (a .seen)) (a .code) gone (λ s e. sym (l .if1 .left) ∙ l .before .is-wrong-code .ensures s e) (c .if2 .taken)
+    let a = l .before .before .before .args in
+    delete-held (a .codes .now) t (a .field) (surveyOf (a .seen)) (a .code) gone (λ s e. sym (l .if1 .left) ∙ l .before .is-wrong-code .ensures s e) (c .if2 .taken)
 
 blocks-in-requires : tie.Need-blocks-in-requires
 blocks-in-requires c κs = search needs
 
+change-at-requires : tie.Need-change-at-requires
+change-at-requires c κs = search needs
+
 returns-3 : tie.Need-returns-3
-returns-3 c =
-    let after-else1 = c .before .before .before in
-    λ t gone sits there.
-    let l = after-else1 in
-    let a = l .before .before .args in
-    delete-granted (a .codes) t (a .field) (surveyOf (a .seen)) (a .code) gone (λ s e. sym (l .if1 .left) ∙ l .before .is-wrong-code .ensures s e) (c .before .if2 .left) _ (c .blocks-in .ensures) sits
+returns-3 c = λ t gone sits there x.
+    let b = c .before in
+    let l = b .before .before .before in
+    let a = l .before .before .before .args in
+    delete-granted (a .codes .now) t (a .field) (surveyOf (a .seen)) (a .code) gone (λ s e. sym (l .if1 .left) ∙ l .before .is-wrong-code .ensures s e) (b .before .if2 .left) _ (b .blocks-in .ensures) sits x _ (c .change-at .ensures)
 
 pub judge-delete-spec : {M : Type 1} → statement M
 judge-delete-spec =
     tie.close
-    (tie.spec is-wrong-code-requires returns add-if2 returns-2 blocks-in-requires returns-3)
+    (tie.spec is-wrong-code-requires returns add-if2 returns-2 blocks-in-requires change-at-requires returns-3)

@@ -14,7 +14,7 @@ use Rattle.fields.proofs.shape.judge_shape.Tie as tie
 -- where the call began
 abbrev entry : tie.Else1 → tie.Start
 entry c =
-    let start = c .before .before .before .before .before .before in
+    let start = c .before .before .before .before .before .before .before in
     start
 
 -- past the first test the table is sound
@@ -25,7 +25,7 @@ shared-slice-read-field : tie.Need-shared-slice-read-field
 shared-slice-read-field c = search needs
 
 cast-number : tie.Need-cast-number
-cast-number c = omega (arith, c .shared-slice-known2 .given 0)
+cast-number c = omega (arith, c .shared-slice-known3 .given 0)
 
 shared-slice-read-status : tie.Need-shared-slice-read-status
 shared-slice-read-status c = search needs
@@ -35,9 +35,9 @@ shared-slice-read-code c = search needs
 
 returns : tie.Need-returns
 returns c =
-    let start = c .before .before .before .before .before .before in
+    let start = c .before .before .before .before .before .before .before in
     let a = start .args in
-    shape-unsound (a .codes) (a .total) (surveyOf (a .seen)) (a .request .now) (not-true _ (c .if1 .taken))
+    shape-unsound (a .codes .now) (a .seen .total) (surveyOf (a .seen)) (a .request .now) (not-true _ (c .if1 .taken))
 
 has-field-requires : tie.Need-has-field-requires
 has-field-requires c κs = search needs
@@ -53,8 +53,8 @@ returns-2 c =
     let s = entry l in
     let a = s .args in
     let d = a .request .now in
-    shape-create (a .codes) (a .total) (surveyOf (a .seen)) d (sound-at l) (sym (k .before .has-field .ensures) ∙ k .if2 .taken) (n .if3 .taken) _
-    (c .judge-create .ensures (arg d 0) (s .pre .sits (sound-at l)) (n .if3 .taken))
+    shape-create (a .codes .now) (a .seen .total) (surveyOf (a .seen)) d (sound-at l) (sym (k .before .has-field .ensures) ∙ k .if2 .taken) (n .if3 .taken) _
+    (c .judge-create .ensures (arg d 0) (s .pre .sits (sound-at l)) (n .if3 .taken) (sym (k .before .has-field .ensures) ∙ k .if2 .taken))
 
 returns-3 : tie.Need-returns-3
 returns-3 c =
@@ -62,10 +62,15 @@ returns-3 c =
     let k = after-2 in
     let l = k .before .before in
     let a = entry l .args in
-    shape-past (a .codes) (a .total) (surveyOf (a .seen)) (a .request .now) (sound-at l) (sym (k .before .has-field .ensures) ∙ k .if2 .taken) (c .if4 .taken)
+    shape-past (a .codes .now) (a .seen .total) (surveyOf (a .seen)) (a .request .now) (sound-at l) (sym (k .before .has-field .ensures) ∙ k .if2 .taken) (c .if4 .taken)
 
 judge-modify-requires : tie.Need-judge-modify-requires
-judge-modify-requires c κs = search needs
+judge-modify-requires c κs =
+    let n = c .before .before in
+    let l = n .before .before .before .before in
+    let b = entry l .pre in
+    let y = b .sits (sound-at l) .own (omega (arith, c .if4 .left, n .if3 .left)) in
+    (omega arith, omega arith, b .four)
 
 returns-4 : tie.Need-returns-4
 returns-4 c =
@@ -78,18 +83,22 @@ returns-4 c =
     let d = a .request .now in
     let different = n .if3 .left in
     let there : arg d 0 < a .seen .fields = omega (arith, m .if4 .left) in
-    shape-modify (a .codes) (a .total) (surveyOf (a .seen)) d (sound-at l) (sym (k .before .has-field .ensures) ∙ k .if2 .taken) there _
-    (c .judge-modify .ensures (a .total) (s .pre .sits (sound-at l)) there)
+    shape-modify (a .codes .now) (a .seen .total) (surveyOf (a .seen)) d (sound-at l) (sym (k .before .has-field .ensures) ∙ k .if2 .taken) there _
+    (c .judge-modify .ensures (a .seen .total) (s .pre .sits (sound-at l)) there (sym (k .before .has-field .ensures) ∙ k .if2 .taken))
 
 returns-5 : tie.Need-returns-5
 returns-5 c =
     let k = c .before .before in
     let l = k .before .before in
     let a = entry l .args in
-    shape-none (a .codes) (a .total) (surveyOf (a .seen)) (a .request .now) (sound-at l) (sym (k .before .has-field .ensures) ∙ k .if2 .left) (c .if5 .taken)
+    shape-none (a .codes .now) (a .seen .total) (surveyOf (a .seen)) (a .request .now) (sound-at l) (sym (k .before .has-field .ensures) ∙ k .if2 .left) (c .if5 .taken)
 
 judge-delete-requires : tie.Need-judge-delete-requires
-judge-delete-requires c κs = search needs
+judge-delete-requires c κs =
+    let l = c .before .before .before .before in
+    let b = entry l .pre in
+    let y = b .sits (sound-at l) .own (c .if5 .left) in
+    (omega arith, b .four)
 
 returns-6 : tie.Need-returns-6
 returns-6 c =
@@ -99,8 +108,8 @@ returns-6 c =
     let s = entry l in
     let a = s .args in
     let d = a .request .now in
-    shape-delete (a .codes) (a .total) (surveyOf (a .seen)) d (sound-at l) (sym (k .before .has-field .ensures) ∙ k .if2 .left) (n .if5 .left) _
-    (c .judge-delete .ensures (a .total) (arg d 1) (s .pre .sits (sound-at l)) (n .if5 .left))
+    shape-delete (a .codes .now) (a .seen .total) (surveyOf (a .seen)) d (sound-at l) (sym (k .before .has-field .ensures) ∙ k .if2 .left) (n .if5 .left) _
+    (c .judge-delete .ensures (a .seen .total) (arg d 1) (s .pre .sits (sound-at l)) (n .if5 .left) (sym (k .before .has-field .ensures) ∙ k .if2 .left))
 
 pub judge-shape-spec : {M : Type 1} → statement M
 judge-shape-spec =
