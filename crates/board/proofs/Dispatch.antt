@@ -1,13 +1,13 @@
 -- Each command by its row: what it asks, and what it leaves as it was. Assumes nothing.
 use Prim.Native.Nat.{ℕ, _≤_}
 use native.Mathlib.Omega.{arith}
-use mathlib.Core.Path.{_≡_, refl, sym, ap, _∙_}
+use mathlib.Core.Path.{_≡_, refl, sym, ap, subst, _∙_}
 use mathlib.Core.Bool.{Bool, true, false, false≢true}
 use mathlib.Core.List.{List}
 use borrow.Author.Tests.{eqb-true, ne-eqb, leb-true}
 use lib.Dec.{eqb, leb}
 use lib.ListN.{length}
-use Rattle.meaning.specs.Bytes.{pick, both, longestReply, arg}
+use Rattle.meaning.specs.Bytes.{pick, both, arg}
 use Rattle.meaning.specs.Fields.{survey}
 use Rattle.meaning.specs.State as meaning
 use Rattle.meaning.specs.State.{none}
@@ -19,8 +19,8 @@ use Rattle.wire.specs.declared.answer.Answer.{Answer}
 use Rattle.wire.specs.Answers.{memoryAfter, stateAfter, Works}
 use Rattle.fields.specs.declared.seen.Survey.{Survey}
 use Rattle.fields.specs.Memory.{Sized, Lent, Saw, surveyOf}
-use Rattle.fields.specs.Replies.{Looked, Tellable}
-use Rattle.fields.proofs.Tables.{first-few, free-few}
+use Rattle.fields.specs.Replies.{Asked, Looked, Tellable, Countable}
+use Rattle.fields.proofs.Gives.{looked, tellable, countable}
 use Rattle.line.specs.declared.plate.Plate.{Plate}
 use Rattle.line.specs.Line.{plateOf}
 use Rattle.line.proofs.Limits.{total-fits, few-bits}
@@ -59,41 +59,38 @@ module _ {t c : ℕ} (codes d m w : List ℕ) (h : MemoryLent t codes c d m w) w
   pub sized : Sized t m
   sized = record { few = h .few; long = h .size }
 
-  fitting : {k : Command} → commandOf c ≡ k → asked k d ≡ true
-  fitting e = rw e at (h .fits)
+  lent : Lent t m w
+  lent = record { fit = sized; room = h .room }
+
+  asks : {k : Command} → commandOf c ≡ k → Asked k t m d w
+  asks e = record { lent = lent; wanted = rw e at (h .fits) }
 
   module _ (v : Survey) {f : ℕ} (named : f ≡ arg d 0) (saw : Saw t m f v) where
-    surveyed : surveyOf v ≡ survey t m (arg d 0)
-    surveyed = rw (← named) (saw .seen)
-
-    lent : Lent (v .total) m w
-    lent = rw (saw .total) (record { fit = sized; room = h .room })
-
-    looked : {k : Command} → commandOf c ≡ k → Looked k v codes m d w
-    looked e = record { asked = record { lent = lent; wanted = fitting e }; seen = rw (saw .total) surveyed; codes = h .codes }
+    saw-named : Saw t m (arg d 0) v
+    saw-named = subst (λ (n : ℕ). Saw t m n v) named saw
 
     pub looked-4A : c ≡ 0x4A → Looked c4A v codes m d w
     unfolding commandOf
-    looked-4A e = looked (rw e)
+    looked-4A e = looked saw-named (asks (rw e)) (h .codes)
 
     pub looked-4B : c ≡ 0x4B → Looked c4B v codes m d w
     unfolding commandOf
-    looked-4B e = looked (rw e)
+    looked-4B e = looked saw-named (asks (rw e)) (h .codes)
 
     pub looked-4D : c ≡ 0x4D → Looked c4D v codes m d w
     unfolding commandOf
-    looked-4D e = looked (rw e)
+    looked-4D e = looked saw-named (asks (rw e)) (h .codes)
 
     pub tellable-4C : c ≡ 0x4C → Tellable c4C v d w
     unfolding commandOf
-    tellable-4C e = record { wanted = fitting (rw e); few = first-few t m f (surveyOf v) (saw .seen) sized; room = h .room }
+    tellable-4C e = tellable saw-named (asks (rw e))
 
-    pub told-4E : (v .free ≤ 255) × (longestReply ≤ length w)
-    told-4E = (free-few t m f (surveyOf v) (saw .seen) sized, h .room)
+    pub countable-4E : Countable v w
+    countable-4E = countable saw lent
 
-    -- a plate and a state that they are of
-    pub of-plate : (p : meaning.Plate) → p .total ≡ t → surveyOf v ≡ survey (p .total) m (arg d 0)
-    of-plate p e = rw e surveyed
+    -- of each plate with so many blocks
+    pub seen-by : (p : meaning.Plate) → p .total ≡ t → surveyOf v ≡ survey (p .total) m (arg d 0)
+    seen-by p e = rw e (saw-named .seen)
 
 -- a command on the state is none on the memory
 not-on-memory : (c : ℕ) → onMemory c ≡ false → (k : ℕ) → onMemory k ≡ true → eqb c k ≡ false

@@ -20,6 +20,7 @@ use Rattle.wire.specs.declared.answer.Answer.{Answer}
 use Rattle.wire.specs.declared.answer.Answer.the-variants.{Refuse, Accept, Quiet}
 use Rattle.wire.specs.Answers.{told, dataIn, memoryAfter, stateAfter}
 use Rattle.wire.proofs.Laws.{seal-data}
+use Rattle.fields.proofs.Tight.{field-row-tight}
 use Rattle.line.specs.declared.plate.Plate.{Plate}
 use Rattle.line.specs.declared.characters.OpenFrame.{OpenFrame}
 use Rattle.line.specs.declared.judge.Judgement.{Judgement}
@@ -178,9 +179,14 @@ serves-tight p s c d m w t u x y =
       room = x .room ∙ sym (y .room);
     }
 
-pub change-tight : (k : commands.Command) (p : meaning.Plate) (s : State) (d m w : List ℕ) (r t : Worked) (u v : List ℕ) → WorksOn k p s d m w r m u → WorksOn k p s d m w t m v
+pub state-row-tight : (k : commands.Command) (p : meaning.Plate) (s : State) (d m w : List ℕ) (r t : Worked) (u v : List ℕ) → WorksOn k p s d m w r m u → WorksOn k p s d m w t m v
     → (r ≡ t) × (u ≡ v)
-change-tight k p s d m w r t u v h i = row-tight k p s none m d w r t u v (h .row) (i .row)
+state-row-tight k p s d m w r t u v h i = row-tight k p s none m d w r t u v (h .row) (i .row)
+
+pub memory-row-tight : (c t : ℕ) (cs d m w : List ℕ) (r x : Answer) (m₁ m₂ w₁ w₂ : List ℕ)
+    → ((p : meaning.Plate) (s : meaning.State) → p .total ≡ t → s .codes ≡ cs → Tells (worked (commandOf c) p s m d) s m w r m₁ w₁)
+    → ((p : meaning.Plate) (s : meaning.State) → p .total ≡ t → s .codes ≡ cs → Tells (worked (commandOf c) p s m d) s m w x m₂ w₂) → (r ≡ x) × (m₁ ≡ m₂) × (w₁ ≡ w₂)
+memory-row-tight c t cs d m w r x m₁ m₂ w₁ w₂ h k = field-row-tight (λ p s. worked (commandOf c) p s m d) t cs m w r x m₁ m₂ w₁ w₂ (λ p s e i. h p s e i .works) (λ p s e i. k p s e i .works)
 
 pub sends-tight : (p : meaning.Plate) (s : State) (c : ℕ) (a : Answer) (w : List ℕ) {n k : ℕ} {w′ w″ : List ℕ} → Sends p s c a w n w′ → Sends p s c a w k w″ → (n ≡ k) × (w′ ≡ w″)
 sends-tight p s c a w x y = (x .count ∙ sym (y .count), x .bytes ∙ sym (y .bytes))

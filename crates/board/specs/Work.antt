@@ -51,11 +51,11 @@ unfoldable pub onMemory : ℕ → Bool
 onMemory c = both (leb 0x4A c) (leb c 0x4E)
 
 -- what they ask: memory and room, the four codes, and a request whose data d has its row's length
-pub record MemoryLent (t : ℕ) (codes : List ℕ) (c : ℕ) (d m w : List ℕ) : Type 0 where
+pub record MemoryLent (t : ℕ) (cs : List ℕ) (c : ℕ) (d m w : List ℕ) : Type 0 where
   pub few : t ≤ 112
   pub size : length m ≡ memoryLength t
   pub room : longestReply ≤ length w
-  pub codes : length codes ≡ 4
+  pub codes : length cs ≡ 4
   pub fits : asked (commandOf c) d ≡ true
   pub memory : onMemory c ≡ true
 

@@ -55,7 +55,8 @@ pub fn poll(
     if frame.is_over(plate, tick) {
         let closed = close(plate, state, frame, kept, memory, room);
         let next = closed.state;
-        return stepped(next, OpenFrame::none(), Outcome::Over(closed.sent as usize));
+        let sent = closed.sent as usize;
+        return stepped(next, OpenFrame::none(), Outcome::Over(sent));
     }
     stepped(state, frame, Outcome::Still)
 }

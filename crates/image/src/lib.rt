@@ -7,6 +7,7 @@ mod write;
 pub use head::is_ours;
 pub use head::plate_in;
 pub use head::put_head;
+pub use layout::CODES;
 pub use layout::CORE;
 pub use layout::CORE_LENGTH;
 pub use layout::COUNTER;

@@ -13,6 +13,7 @@ ghost use Rattle.image.specs.Image.{coreLength, stateIn, heldIn};
 ghost use Rattle.quicksetter.specs.Calls.{Called};
 ghost use Rattle.quicksetter.specs.Cores.{possible, dataTo, Unrefused, Servable, ServedIn, ClosedIn, ShutIn, ImageUnrefused, ImageShuts, ImagePolls};
 use crate::given::REFUSED;
+use image::CODES;
 use image::CORE;
 use image::COUNTER;
 use image::KEPT;
@@ -25,17 +26,17 @@ use line::Plate;
 use state::LAST_COUNT;
 use wire::codes::LONGEST_REPLY;
 
-// R1 of the plate and of the core, but for the waiting codes.
+// R1 of the plate and of the core, but for the waiting codes. What a host may get wrong comes first.
 pub(crate) fn is_possible(core: &[u8], plate: Plate) -> bool
     ensures { λ r. ⌜ r ≡ possible (plateOf plate) (now (core .entry)) ⌝ }
 {
+    if !plate.is_ok() {
+        return false;
+    }
     if !image::is_core(core) {
         return false;
     }
     if LAST_COUNT < wire::number_at(core, COUNTER) {
-        return false;
-    }
-    if !plate.is_ok() {
         return false;
     }
     state::offset_fits(wire::number_at(core, OFFSET), plate.bits)
@@ -53,7 +54,7 @@ pub(crate) fn is_sound(core: &[u8]) -> bool
     if waiting < 0x100 {
         return !state::locks(waiting as u8);
     }
-    image::faults_in(core).is_sound()
+    image::faults_in(core).waits_apart()
 }
 
 // Whether a code waits: one of the four places is not 00h.
@@ -81,18 +82,19 @@ fn served(
     end: usize,
     memory: &mut [u8],
     room: &mut [u8],
-) -> usize
+) -> u8
     requires { ⌜ Servable plate command end (now core) (now memory) (now room) ⌝ }
     ensures { λ r. ⌜ ServedIn (plateOf plate) command (dataTo end (now (core .entry))) (now (core .entry)) (now (memory .entry)) (now (room .entry)) r (now (core .exit)) (now (memory .exit)) (now (room .exit)) ⌝ }
 {
-    if board::leaves_state(command) {
-        let state = image::state_in(core);
+    if board::needs_memory(command) {
+        let codes = &core[CODES..COUNTER];
         let request = wire::data_part(&core[KEPT..end]);
-        return board::ask(plate, state, command, request, memory, room);
+        let answer = board::on_memory(plate.total as usize, codes, command, request, memory, room);
+        return board::send(plate, waits(core), command, answer, room);
     }
     let state = image::state_in(core);
     let request = wire::data_part(&core[KEPT..end]);
-    let worked = board::change(plate.bits, state, command, request, room);
+    let worked = board::on_state(plate.bits, state, command, request, room);
     let effect = worked.effect;
     let answer = worked.answer;
     image::put_effect(effect, core);
@@ -100,7 +102,7 @@ fn served(
 }
 
 // The open frame, judged, worked and answered. The number is the reply's length.
-fn answered(core: &mut [u8], plate: Plate, memory: &mut [u8], room: &mut [u8]) -> usize
+fn answered(core: &mut [u8], plate: Plate, memory: &mut [u8], room: &mut [u8]) -> u8
     requires { ⌜ Unrefused (plateOf plate) (now core) (length (now memory)) (length (now room)) ⌝ }
     ensures { λ r. ⌜ ClosedIn (plateOf plate) (now (core .entry)) (now (memory .entry)) (now (room .entry)) r (now (core .exit)) (now (memory .exit)) (now (room .exit)) ⌝ }
 {
@@ -115,7 +117,7 @@ fn answered(core: &mut [u8], plate: Plate, memory: &mut [u8], room: &mut [u8]) -
 }
 
 // The open frame is over: it is answered and put away.
-fn shut_core(core: &mut [u8], plate: Plate, memory: &mut [u8], room: &mut [u8]) -> usize
+fn shut_core(core: &mut [u8], plate: Plate, memory: &mut [u8], room: &mut [u8]) -> u8
     requires { ⌜ Unrefused (plateOf plate) (now core) (length (now memory)) (length (now room)) ⌝ }
     ensures { λ r. ⌜ ShutIn (plateOf plate) (now (core .entry)) (now (memory .entry)) (now (room .entry)) r (now (core .exit)) (now (memory .exit)) (now (room .exit)) ⌝ }
 {
@@ -125,7 +127,7 @@ fn shut_core(core: &mut [u8], plate: Plate, memory: &mut [u8], room: &mut [u8]) 
 }
 
 // .. of an image: the plate is read where it is needed, so that no call hands it on.
-fn shut(image: &mut [u8], memory: &mut [u8], room: &mut [u8]) -> usize
+fn shut(image: &mut [u8], memory: &mut [u8], room: &mut [u8]) -> u8
     requires { ⌜ ImageUnrefused (now image) (length (now memory)) (length (now room)) ⌝ }
     ensures { λ r. ⌜ ImageShuts (now (image .entry)) (now (memory .entry)) (now (room .entry)) r (now (image .exit)) (now (memory .exit)) (now (room .exit)) ⌝ }
 {
@@ -140,7 +142,7 @@ fn polled(image: &mut [u8], tick: u32, memory: &mut [u8], room: &mut [u8]) -> us
 {
     let plate = image::plate_in(image);
     if is_over(&image[CORE..LENGTH], tick, plate) {
-        return shut(image, memory, room);
+        return shut(image, memory, room) as usize;
     }
     0
 }
@@ -204,7 +206,7 @@ pub extern "C" fn qs_poll(image: &mut [u8], tick: u32, memory: &mut [u8], room: 
         return REFUSED + 3;
     }
     if is_over(&image[CORE..LENGTH], tick, plate) {
-        return shut(image, memory, room);
+        return shut(image, memory, room) as usize;
     }
     0
 }

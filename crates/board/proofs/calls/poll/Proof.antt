@@ -55,6 +55,9 @@ close-requires c κs =
     let after-else1 = c .before .before .before .before .before in
     enough (after-else1)
 
+cast-sent : tie.Need-cast-sent
+cast-sent c = search needs
+
 none-requires : tie.Need-none-requires
 none-requires c κs = search needs
 
@@ -72,7 +75,7 @@ same-length-3 c = search needs
 
 returns-2 : tie.Need-returns-2
 returns-2 c =
-    let after-close = c .before .before .before .before .before .before .before in
+    let after-close = c .before .before .before .before .before .before .before .before in
     let after-2 = after-close .before .before .before .before in
     let after-is-over = after-2 .before in
     let after-else1 = after-is-over .before in
@@ -97,6 +100,7 @@ poll-spec =
     returns
     is-over-requires
     close-requires
+    cast-sent
     none-requires
     stepped-requires-2
     same-length

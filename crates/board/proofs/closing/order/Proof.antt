@@ -11,29 +11,29 @@ use Rattle.board.proofs.closing.order.Tie as tie
 use Rattle.board.proofs.closing.order.Reads as reads
 use Rattle.board.proofs.closing.order.Lts as lts
 use Rattle.board.proofs.reply.send.Reads as send-reads
-use Rattle.board.proofs.rows.change.Reads as change-reads
+use Rattle.board.proofs.rows.on_state.Reads as on-state-reads
 use Rattle.state.proofs.faults.Faults.waits.Reads as waits-reads
 use Rattle.state.proofs.state.State.after.Reads as after-reads
 
-change-requires : tie.Need-change-requires
-change-requires c κs =
+on-state-requires : tie.Need-on-state-requires
+on-state-requires c κs =
     let start = c .before .before .before .before in
     changeable _ _ _ _ _ (start .pre .0) (start .pre .1)
 
 after-requires : tie.Need-after-requires
 after-requires c κs =
-    let after-change = c .before .before in
-    let start = after-change .before .before .before .before .before in
-    (after-change .change .ensures (plateOf (start .args .plate)) (now (start .args .memory)) refl) .row .placed
+    let after-on-state = c .before .before in
+    let start = after-on-state .before .before .before .before .before in
+    (after-on-state .on-state .ensures (plateOf (start .args .plate)) (now (start .args .memory)) refl) .row .placed
 
 waits-requires : tie.Need-waits-requires
 waits-requires c κs = search needs
 
 send-requires : tie.Need-send-requires
 send-requires c κs =
-    let after-change = c .before .before .before .before .before in
-    let start = after-change .before .before .before .before .before in
-    sendable _ _ _ _ _ _ (start .pre .0) ((after-change .change .ensures (plateOf (start .args .plate)) (now (start .args .memory)) refl) .row .answer) (search needs)
+    let after-on-state = c .before .before .before .before .before in
+    let start = after-on-state .before .before .before .before .before in
+    sendable _ _ _ _ _ _ (start .pre .0) ((after-on-state .on-state .ensures (plateOf (start .args .plate)) (now (start .args .memory)) refl) .row .answer) (search needs)
 
 same-length : tie.Need-same-length
 same-length c = search needs
@@ -43,11 +43,11 @@ returns c =
     let after-send = c .before .before in
     let after-waits = after-send .before .before in
     let after-after = after-waits .before in
-    let after-change = after-after .before .before .before in
-    let start = after-change .before .before .before .before .before in
-    worked-served _ _ _ _ _ _ (start .pre .0 .room) (after-after .after .result) (after-change .change .ensures (plateOf (start .args .plate)) (now (start .args .memory)) refl) (after-after .after .ensures none) (after-send .send .ensures (after-after .after .result) (after-waits .waits .ensures))
+    let after-on-state = after-after .before .before .before in
+    let start = after-on-state .before .before .before .before .before in
+    worked-served _ _ _ _ _ _ (start .pre .0 .room) (after-after .after .result) (after-on-state .on-state .ensures (plateOf (start .args .plate)) (now (start .args .memory)) refl) (after-after .after .ensures none) (after-send .send .ensures (after-after .after .result) (after-waits .waits .ensures))
 
 pub order-spec : {M : Type 1} → statement M
 order-spec =
     tie.close
-    (tie.spec change-requires after-requires waits-requires send-requires same-length returns)
+    (tie.spec on-state-requires after-requires waits-requires send-requires same-length returns)

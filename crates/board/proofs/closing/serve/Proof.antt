@@ -7,17 +7,17 @@ use Rattle.board.proofs.closing.serve.Reads as reads
 use Rattle.board.proofs.closing.serve.Lts as lts
 use Rattle.board.proofs.closing.ask.Reads as ask-reads
 use Rattle.board.proofs.closing.order.Reads as order-reads
-use Rattle.board.proofs.rows.leaves_state.Reads as leaves-state-reads
+use Rattle.board.proofs.rows.needs_memory.Reads as needs-memory-reads
 
-leaves-state-requires : tie.Need-leaves-state-requires
-leaves-state-requires c κs = search needs
+needs-memory-requires : tie.Need-needs-memory-requires
+needs-memory-requires c κs = search needs
 
 ask-requires : tie.Need-ask-requires
 ask-requires c κs =
     let after-1 = c .before .before in
-    let after-leaves-state = after-1 .before in
-    let start = after-leaves-state .before .before .before .before in
-    (start .pre, sym (after-leaves-state .leaves-state .ensures) ∙ after-1 .if1 .taken)
+    let after-needs-memory = after-1 .before in
+    let start = after-needs-memory .before .before .before .before in
+    (start .pre, sym (after-needs-memory .needs-memory .ensures) ∙ after-1 .if1 .taken)
 
 same-length : tie.Need-same-length
 same-length c = search needs
@@ -31,9 +31,9 @@ returns c = search needs
 order-requires : tie.Need-order-requires
 order-requires c κs =
     let after-else1 = c .before .before in
-    let after-leaves-state = after-else1 .before in
-    let start = after-leaves-state .before .before .before .before in
-    (start .pre, sym (after-leaves-state .leaves-state .ensures) ∙ after-else1 .if1 .left)
+    let after-needs-memory = after-else1 .before in
+    let start = after-needs-memory .before .before .before .before in
+    (start .pre, sym (after-needs-memory .needs-memory .ensures) ∙ after-else1 .if1 .left)
 
 same-length-3 : tie.Need-same-length-3
 same-length-3 c = search needs
@@ -48,7 +48,7 @@ pub serve-spec : {M : Type 1} → statement M
 serve-spec =
     tie.close
     (tie.spec
-    leaves-state-requires
+    needs-memory-requires
     ask-requires
     same-length
     same-length-2

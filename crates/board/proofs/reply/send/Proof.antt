@@ -32,6 +32,9 @@ enum-known-answer-2 c = search needs
 marked-requires-2 : tie.Need-marked-requires-2
 marked-requires-2 c κs = search needs
 
+cast-seal : tie.Need-cast-seal
+cast-seal c = search needs
+
 seal-requires : tie.Need-seal-requires
 seal-requires c κs =
     let after-answer2 = c .before .before .before in
@@ -84,6 +87,7 @@ send-spec =
     write-requires
     enum-known-answer-2
     marked-requires-2
+    cast-seal
     seal-requires
     add-result
     enum-told

@@ -99,7 +99,7 @@ returns-8 c =
     let after-else1 = after-else2 .before in
     let start = after-else1 .before .before .before in
     let last = last-alone _ _ (start .pre .fits) (start .pre .alone) (ne-eqb _ _ (after-else1 .if1 .left)) (ne-eqb _ _ (after-else2 .if2 .left)) (ne-eqb _ _ (after-else3 .if3 .left))
-        (ne-eqb _ _ (after-else4 .if4 .left)) (ne-eqb _ _ (after-else5 .if5 .left)) (ne-eqb _ _ (after-else6 .if6 .left)) (ne-eqb _ _ (after-else7 .if7 .left)) in
+    (ne-eqb _ _ (after-else4 .if4 .left)) (ne-eqb _ _ (after-else5 .if5 .left)) (ne-eqb _ _ (after-else6 .if6 .left)) (ne-eqb _ _ (after-else7 .if7 .left)) in
     λ p m e. row-53 p _ _ m _ last (c .reset .ensures p _ m _ _)
 
 pub on-state-spec : {M : Type 1} → statement M
