@@ -3,11 +3,11 @@ use Prim.Native.Nat.{ℕ, _+_, _-_, _<_, _≤_, _^_}
 use native.Mathlib.Omega.{arith}
 use mathlib.Core.Path.{_≡_, refl, sym, ap, _∙_}
 use mathlib.Core.Bool.{Bool, true, false}
-use mathlib.Core.List.{List, [], _++_}
+use mathlib.Core.List.{List, [], _∷_, _++_}
 use borrow.Author.Tests.{eq-eqb, le-ltb, leb-true}
 use lib.Dec.{eqb, leb, ltb}
 use lib.ListN.{length, take, drop, length-take}
-use lib.Seq.{take-at, take-take}
+use lib.Seq.{take-at, take-take, length-take-le}
 use Rattle.meaning.specs.Bytes.{pick, both, longestRequest, longestReply, put, arg}
 use Rattle.meaning.specs.State.{Plate, Line, none, withLine, stateOk, ownByte}
 use Rattle.meaning.specs.Fields.{memoryLength}
@@ -157,6 +157,21 @@ state-said core e small = state-there core (record { all = (good core e) .all; l
 
 pub as-long : (core : List ℕ) {s : State} {core′ : List ℕ} → length core ≡ 165 → PutsState s core core′ → length core′ ≡ 165
 as-long core {s} all q = ap length (q .bytes none) ∙ length-put core 0 (stateBytes (stateWith s none)) (omega (arith, state-length s none)) ∙ all
+
+-- the four codes, lent out of the core
+four-first : (l : List ℕ) → 4 ≤ length l → arg l 0 ∷ arg l 1 ∷ arg l 2 ∷ arg l 3 ∷ [] ≡ take 4 l
+four-first [] h = absurd (omega arith)
+four-first (a ∷ []) h = absurd (omega arith)
+four-first (a ∷ b ∷ []) h = absurd (omega arith)
+four-first (a ∷ b ∷ c ∷ []) h = absurd (omega arith)
+four-first (a ∷ b ∷ c ∷ d ∷ r) h = refl
+
+pub codes-lent : (core : List ℕ) → isCore core ≡ true → stateIn core .codes ≡ take 4 core
+unfolding stateIn
+codes-lent core e = four-first core (omega (arith, good core e .all))
+
+pub four-lent : (core : List ℕ) → isCore core ≡ true → length (take 4 core) ≡ 4
+four-lent core e = length-take-le 4 core (omega (arith, good core e .all))
 
 -- a request that leaves the state, and one that changes it
 module _ (p : Plate) (c : ℕ) (d core m w : List ℕ) {r : ℕ} {w′ : List ℕ} where

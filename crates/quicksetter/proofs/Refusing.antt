@@ -17,7 +17,7 @@ use Rattle.meaning.proofs.Choices.{both-left, both-right, both-true}
 use Rattle.wire.proofs.Numbers.{low-first, little-at}
 use Rattle.line.specs.Line.{lineOf}
 use Rattle.state.specs.Queue.{waiting, queueOf}
-use Rattle.state.proofs.Places.{no-codes}
+use Rattle.state.proofs.Places.{no-codes, sound-some}
 use Rattle.state.proofs.States.{within}
 use Rattle.image.specs.Image.{numberAt, isCore, stateIn, frameIn, keptIn, heldIn}
 use Rattle.image.proofs.Standing.{places}
@@ -74,6 +74,10 @@ one-waits core n h e =
     let z : eqb (arg core 16) 0 ≡ false = ne-eqb (arg core 16) 0 (λ y. n (a ∙ y)) in
     let q : queueOf (stateIn core .faults) ≡ arg core 16 ∷ [] = one-code core (omega (arith, k)) (omega (arith, k)) (omega (arith, k)) z in
     ap not (e ∙ ap locks a) ∙ sym (one-apart (arg core 16) z) ∙ ap apart (sym q)
+
+-- where codes wait, by the test of those
+pub more-wait : (core : List ℕ) {t : Bool} → (numberAt core 16 ≡ 0 → ⊥) → t ≡ both (waits (queueOf (stateIn core .faults))) (apart (queueOf (stateIn core .faults))) → t ≡ apart (queueOf (stateIn core .faults))
+more-wait core n e = sym (sound-some (queueOf (stateIn core .faults)) (filled-queue core n) e)
 
 -- the four places as one word
 pub word-waits : (core : List ℕ) → not (eqb (numberAt core 16) 0) ≡ waits (queueOf (stateIn core .faults))

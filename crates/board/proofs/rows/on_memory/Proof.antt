@@ -86,7 +86,7 @@ returns-3 c =
     let after-byte-at = after-survey .before in
     let start = after-byte-at .before .before .before .before .before .before in
     λ p s e k. row-4C p s _ _ _ (after-3 .if3 .taken)
-        (after-field-status .field-status .ensures p s _ (seen-by _ _ _ _ (start .pre) _ (after-byte-at .byte-at .ensures) (after-survey .survey .ensures) p e))
+    (after-field-status .field-status .ensures p s _ (seen-by _ _ _ _ (start .pre) _ (after-byte-at .byte-at .ensures) (after-survey .survey .ensures) p e))
 
 shape-field-requires : tie.Need-shape-field-requires
 shape-field-requires c κs =
@@ -134,7 +134,7 @@ returns-5 c =
     let start = after-byte-at .before .before .before .before .before .before in
     let last = last-on-memory _ (start .pre .memory) (after-else1 .if1 .left) (after-else2 .if2 .left) (after-else3 .if3 .left) (after-else4 .if4 .left) in
     λ p s e k. row-4E p s _ _ _ last
-        (after-memory-status .memory-status .ensures p s _ _ _ (seen-by _ _ _ _ (start .pre) _ (after-byte-at .byte-at .ensures) (after-survey .survey .ensures) p e))
+    (after-memory-status .memory-status .ensures p s _ _ _ (seen-by _ _ _ _ (start .pre) _ (after-byte-at .byte-at .ensures) (after-survey .survey .ensures) p e))
 
 pub on-memory-spec : {M : Type 1} → statement M
 on-memory-spec =

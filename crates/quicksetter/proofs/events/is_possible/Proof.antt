@@ -4,6 +4,7 @@ use mathlib.Core.Bool.{true}
 use native.Mathlib.Omega.{arith}
 use denote.Ref.{now}
 use borrow.Author.Tests.{lt-leb, le-leb, not-true, not-false}
+use Rattle.meaning.proofs.Choices.{both-false}
 use Rattle.image.specs.Image.{isCore}
 use Rattle.image.proofs.Round.{good}
 use Rattle.quicksetter.specs.Cores.{possible}
@@ -17,40 +18,36 @@ use Rattle.line.proofs.plate.Plate.is_ok.Reads as is-ok-reads
 use Rattle.state.proofs.offset_fits.Reads as offset-fits-reads
 use Rattle.wire.proofs.number_at.Reads as number-at-reads
 
-fine : (c : tie.Else1) → isCore (now (c .before .before .before .args .core)) ≡ true
-fine c = sym (c .before .is-core .ensures) ∙ not-false _ (c .if1 .left)
-
-is-core-requires : tie.Need-is-core-requires
-is-core-requires c κs = search needs
-
-returns : tie.Need-returns
-unfolding possible
-returns c = simp (sym (c .before .is-core .ensures) ∙ not-true _ (c .if1 .taken))
-
-number-at-requires : tie.Need-number-at-requires
-number-at-requires c κs = omega (arith, good _ (fine c) .all)
-
-returns-2 : tie.Need-returns-2
-unfolding possible
-returns-2 c =
-    let after-else1 = c .before .before in
-    simp (fine after-else1, lt-leb _ _ (rw (c .before .number-at .ensures) at (c .if2 .taken)))
+fine : (c : tie.Else2) → isCore (now (c .before .before .before .before .before .args .core)) ≡ true
+fine c = sym (c .before .is-core .ensures) ∙ not-false _ (c .if2 .left)
 
 is-ok-requires : tie.Need-is-ok-requires
 is-ok-requires c κs = search needs
 
+returns : tie.Need-returns
+unfolding possible
+returns c = simp (sym (c .before .is-ok .ensures) ∙ not-true _ (c .if1 .taken), both-false)
+
+is-core-requires : tie.Need-is-core-requires
+is-core-requires c κs = search needs
+
+returns-2 : tie.Need-returns-2
+unfolding possible
+returns-2 c = simp (sym (c .before .is-core .ensures) ∙ not-true _ (c .if2 .taken))
+
+number-at-requires : tie.Need-number-at-requires
+number-at-requires c κs = omega (arith, good _ (fine c) .all)
+
 returns-3 : tie.Need-returns-3
 unfolding possible
 returns-3 c =
-    let after-if2 = c .before .before in
-    let after-number-at = after-if2 .before in
-    let after-if1 = after-number-at .before in
-    simp (fine (after-if1), le-leb _ _ (rw (after-number-at .number-at .ensures) at (after-if2 .if2 .left)), sym (c .before .is-ok .ensures) ∙ not-true _ (c .if3 .taken))
+    let after-else2 = c .before .before in
+    simp (fine after-else2, lt-leb _ _ (rw (c .before .number-at .ensures) at (c .if3 .taken)))
 
 number-at-requires-2 : tie.Need-number-at-requires-2
 number-at-requires-2 c κs =
-    let after-if1 = c .before .before .before .before in
-    omega (arith, good _ (fine (after-if1)) .all)
+    let after-else2 = c .before .before in
+    omega (arith, good _ (fine after-else2) .all)
 
 offset-fits-requires : tie.Need-offset-fits-requires
 offset-fits-requires c κs = search needs
@@ -58,15 +55,14 @@ offset-fits-requires c κs = search needs
 returns-4 : tie.Need-returns-4
 unfolding possible
 returns-4 c =
-    let after-if3 = c .before .before in
-    let after-is-ok = after-if3 .before in
-    let after-if2 = after-is-ok .before in
-    let after-number-at = after-if2 .before in
-    let after-if1 = after-number-at .before in
+    let after-else3 = c .before .before in
+    let after-number-at = after-else3 .before in
+    let after-else2 = after-number-at .before in
+    let after-else1 = after-else2 .before .before in
     simp (
-      fine (after-if1),
-      le-leb _ _ (rw (after-number-at .number-at .ensures) at (after-if2 .if2 .left)),
-      sym (after-is-ok .is-ok .ensures) ∙ not-false _ (after-if3 .if3 .left),
+      fine after-else2,
+      le-leb _ _ (rw (after-number-at .number-at .ensures) at (after-else3 .if3 .left)),
+      sym (after-else1 .before .is-ok .ensures) ∙ not-false _ (after-else1 .if1 .left),
       sym (rw (c .before .number-at2 .ensures) at (c .offset-fits .ensures)),
     )
 
@@ -74,11 +70,11 @@ pub is-possible-spec : {M : Type 1} → statement M
 is-possible-spec =
     tie.close
     (tie.spec
-    is-core-requires
-    returns
-    number-at-requires
-    returns-2
     is-ok-requires
+    returns
+    is-core-requires
+    returns-2
+    number-at-requires
     returns-3
     number-at-requires-2
     offset-fits-requires

@@ -1,13 +1,13 @@
 -- `quicksetter::events::is_sound` meets its contract. Assumes nothing.
 use mathlib.Core.Path.{sym, _∙_}
-use Rattle.quicksetter.proofs.Refusing.{none-wait, one-waits}
+use Rattle.quicksetter.proofs.Refusing.{none-wait, one-waits, more-wait}
 use borrow.Author.Needs.{needs}
 use Rattle.quicksetter.proofs.events.is_sound.Statement.{statement}
 use Rattle.quicksetter.proofs.events.is_sound.Tie as tie
 use Rattle.quicksetter.proofs.events.is_sound.Reads as reads
 use Rattle.quicksetter.proofs.events.is_sound.Lts as lts
 use Rattle.image.proofs.faults_in.Reads as faults-in-reads
-use Rattle.state.proofs.faults.Faults.is_sound.Reads as is-sound-reads
+use Rattle.state.proofs.faults.Faults.waits_apart.Reads as waits-apart-reads
 use Rattle.state.proofs.locks.Reads as locks-reads
 use Rattle.wire.proofs.number_at.Reads as number-at-reads
 
@@ -35,13 +35,16 @@ returns-2 c =
 faults-in-requires : tie.Need-faults-in-requires
 faults-in-requires c κs = search needs
 
-is-sound-requires : tie.Need-is-sound-requires
-is-sound-requires c κs = search needs
+waits-apart-requires : tie.Need-waits-apart-requires
+waits-apart-requires c κs = search needs
 
 returns-3 : tie.Need-returns-3
 returns-3 c =
     let after-faults-in = c .before in
-    rw (after-faults-in .faults-in .ensures) at (c .is-sound .ensures)
+    let after-if2 = after-faults-in .before in
+    let after-if1 = after-if2 .before in
+    let after-number-at = after-if1 .before in
+    more-wait _ (λ e. after-if1 .if1 .left (after-number-at .number-at .ensures ∙ e)) (rw (after-faults-in .faults-in .ensures) at (c .waits-apart .ensures))
 
 pub is-sound-spec : {M : Type 1} → statement M
 is-sound-spec =
@@ -53,5 +56,5 @@ is-sound-spec =
     locks-requires
     returns-2
     faults-in-requires
-    is-sound-requires
+    waits-apart-requires
     returns-3)

@@ -35,6 +35,9 @@ is-over-requires c κs = search needs
 shut-requires : tie.Need-shut-requires
 shut-requires c κs = search needs
 
+cast-result : tie.Need-cast-result
+cast-result c = search needs
+
 same-length : tie.Need-same-length
 same-length c = search needs
 
@@ -75,6 +78,7 @@ polled-spec =
     part-is-over-end
     is-over-requires
     shut-requires
+    cast-result
     same-length
     same-length-2
     same-length-3

@@ -185,6 +185,9 @@ shut-requires c κs =
     let after-if5 = c .before .before .before .before .before .before .before in
     fine (after-if5)
 
+cast-result : tie.Need-cast-result
+cast-result c = search needs
+
 same-length-6 : tie.Need-same-length-6
 same-length-6 c = search needs
 
@@ -254,6 +257,7 @@ qs-poll-spec =
     part-is-over-end
     is-over-requires
     shut-requires
+    cast-result
     same-length-6
     same-length-7
     same-length-8
