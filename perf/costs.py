@@ -8,18 +8,15 @@ from process import Failure, run
 
 ENTRIES = ("character", "poll", "measured", "fault", "power_on", "fresh")
 CLOSING = ("poll", "character")
-LIMIT = 1.1  # of the hand-written C's instructions
 
 CALLS_NOTE = """\
 Instructions from the entry's first to its return, with all that it calls. Each call is counted on its own, by callgrind; both boards start from the same
 bytes, and must return and leave the same. A row is every call of its kind in perf/calls.c, on two plates and with 0 to 4 fault codes waiting: the dearest call
-of each board with their ratio, the ratio of the two means, the ratio of the single call that stands worst for the library, and how many single calls cost more
-than 1.1 of the hand-written C's."""
+of each board with their ratio, the ratio of the two means, and how many calls there are, with the ratio of the one that stands worst for the library."""
 CLOSING_NOTE = """\
 Counted and compared in the same way. A row is every way of perf/ways.h with that command, whether it is done or answered with an error; below stand the frames
 that are no request. Tried are plates of 1 to 5, 8 and 112 blocks, few fields and many, sound tables and unsound ones, 0 to 4 fault codes waiting, a locked
-position, and the board's own address as well as the broadcast. Single calls of 4Ah to 4Eh stand worst on plates of few blocks, where the walk over the table
-costs next to nothing and what stands around it counts; the others where two or three codes wait."""
+position, and the board's own address as well as the broadcast."""
 
 
 class Call(NamedTuple):
@@ -32,13 +29,12 @@ class Call(NamedTuple):
 
 
 class Row(NamedTuple):
-    """The calls of one row: the dearest of each board, the ratio of the means, the call that stands worst for the library, and how many are over the limit."""
+    """The calls of one row: the dearest of each board, the ratio of the means, and the call that stands worst for the library."""
 
     library: int
     hand: int
     mean: float
     worst: Call
-    over: int
     calls: int
 
     @property
@@ -46,9 +42,8 @@ class Row(NamedTuple):
         return self.library / self.hand
 
     @property
-    def held(self) -> float:
-        """What the limits are set for: the dearest call and the mean."""
-        return max(self.ratio, self.mean)
+    def worst_ratio(self) -> float:
+        return ratio_of(self.worst)
 
 
 def ratio_of(call: Call) -> float:
@@ -73,8 +68,7 @@ def counted(program: str, entry: str, work: str) -> List[Call]:
 
 def row_of(calls: List[Call]) -> Row:
     library, hand = [call.library for call in calls], [call.hand for call in calls]
-    over = sum(ratio_of(call) > LIMIT for call in calls)
-    return Row(max(library), max(hand), sum(library) / sum(hand), max(calls, key=ratio_of), over, len(calls))
+    return Row(max(library), max(hand), sum(library) / sum(hand), max(calls, key=ratio_of), len(calls))
 
 
 def rows_of(calls: List[Call]) -> Dict[str, Row]:

@@ -36,12 +36,12 @@ PLATE = Plate(112, 24, 0, 4, 55)
 SHORT_TAPE, LONG_TAPE, TIMED_TAPE = 2000, 12000, 500000
 ROUNDS = 7
 
-# What `--check` allows, in instructions inside the C entry. Most calls of a host are kept characters: these must stay below the
-# hand-written C's. No other call may cost much more than there. Adding an entry can change the cost of another.
+# What `--check` allows, in instructions inside the C entry. No single call may cost much more than the hand-written C's, and most calls of a
+# host are kept characters: these must stay below. Adding an entry can change the cost of another.
 KEPT = "character that is kept"
 KEPT_LIMIT = 92
 KEPT_RATIO_LIMIT = 0.92
-OTHER_RATIO_LIMIT = costs.LIMIT
+CALL_RATIO_LIMIT = 1.1
 
 
 # --- tapes ----------------------------------------------------------------------------------
@@ -255,13 +255,13 @@ def table(head: List[str], rows: List[List[str]]) -> str:
 
 
 LIMIT_NOTE = f"""\
-The gate holds the ratios of the dearest calls and of the means: to {OTHER_RATIO_LIMIT} in every row of this table and the next, to {KEPT_RATIO_LIMIT} where a
-character is kept, and there to {KEPT_LIMIT} instructions while no code waits. It does not hold single calls: those are shown."""
-COLUMNS = ["Library", "Hand-written C", "Ratio", "Means", "Worst single call", "Single calls over 1.1"]
+The gate holds every single call of this table and the next to {CALL_RATIO_LIMIT} of the hand-written C's. Where a character is kept it also holds the dearest call and
+the mean to {KEPT_RATIO_LIMIT}, and while no code waits every call to {KEPT_RATIO_LIMIT} and to {KEPT_LIMIT} instructions."""
+COLUMNS = ["Library", "Hand-written C", "Ratio", "Means", "Calls", "Worst of them"]
 
 
 def cells(row: Row) -> List[str]:
-    return [str(row.library), str(row.hand), f"{row.ratio:.2f}", f"{row.mean:.2f}", f"{costs.ratio_of(row.worst):.2f}", f"{row.over} of {row.calls}"]
+    return [str(row.library), str(row.hand), f"{row.ratio:.2f}", f"{row.mean:.2f}", str(row.calls), f"{row.worst_ratio:.2f}"]
 
 
 def call_page(rows: Dict[str, Row]) -> str:
@@ -333,9 +333,12 @@ def measure(programs: Dict[str, str], library: str) -> str:
 
 
 def over_limit(name: str, row: Row) -> bool:
-    if name == KEPT and row.library > KEPT_LIMIT:
+    """KEPT is the row of the usual character, with no code waiting; the rows that begin so are its fellows."""
+    if row.worst_ratio > CALL_RATIO_LIMIT:
         return True
-    return row.held > (KEPT_RATIO_LIMIT if name.startswith(KEPT) else OTHER_RATIO_LIMIT)
+    if name == KEPT:
+        return row.library > KEPT_LIMIT or row.worst_ratio > KEPT_RATIO_LIMIT
+    return name.startswith(KEPT) and max(row.ratio, row.mean) > KEPT_RATIO_LIMIT
 
 
 def check_archive(library: str) -> int:
@@ -370,12 +373,10 @@ def check_limits(library: str) -> int:
         rows.update({f"{entry} that closes, {name}": row for name, row in closing.items()})
     over = [name for name, row in rows.items() if over_limit(name, row)]
     for name, row in rows.items():
-        found = f"at most {row.library} instructions, hand-written C {row.hand}, ratio {row.ratio:.3f}, of the means {row.mean:.3f}"
+        found = f"at most {row.library} instructions, hand-written C {row.hand}, ratio {row.ratio:.3f}, of the means {row.mean:.3f}, of the worst call {row.worst_ratio:.3f}"
         print(f"perf: {name}: {found}" + (f": over its limit (worst: {row.worst.way})" if name in over else ""))
-    single, calls = sum(row.over for row in rows.values()), sum(row.calls for row in rows.values())
-    kinds = sum(row.over > 0 for row in rows.values())
-    print(f"perf: not held: {single} of {calls} single calls, in {kinds} of {len(rows)} kinds, cost more than {costs.LIMIT} of the hand-written C's")
-    print(f"perf: {len(over)} of {len(rows)} kinds of calls are over their limit")
+    calls = sum(row.calls for row in rows.values())
+    print(f"perf: {calls} calls of {len(rows)} kinds, each held; {len(over)} kinds are over their limit")
     return int(bool(over))
 
 

@@ -45,7 +45,8 @@ returns c =
     let after-after = after-waits .before in
     let after-on-state = after-after .before .before .before in
     let start = after-on-state .before .before .before .before .before in
-    worked-served _ _ _ _ _ _ (start .pre .0 .room) (after-after .after .result) (after-on-state .on-state .ensures (plateOf (start .args .plate)) (now (start .args .memory)) refl) (after-after .after .ensures none) (after-send .send .ensures (after-after .after .result) (after-waits .waits .ensures))
+    let works = after-on-state .on-state .ensures (plateOf (start .args .plate)) (now (start .args .memory)) refl in
+    worked-served _ _ _ _ _ _ (start .pre .0 .room) (after-after .after .result) works (after-after .after .ensures none) (after-send .send .ensures (after-after .after .result) (after-waits .waits .ensures))
 
 pub order-spec : {M : Type 1} → statement M
 order-spec =

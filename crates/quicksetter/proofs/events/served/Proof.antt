@@ -131,7 +131,8 @@ put-effect-requires c κs =
     let after-data-part2 = after-on-state .before .before in
     let after-state-in = after-data-part2 .before .before .before in
     let start = after-state-in .before .before .before .before .before .before .before in
-    ((rw (after-state-in .state-in .ensures, after-data-part2 .data-part2 .ensures .0) at (after-on-state .on-state .ensures (plateOf (start .args .plate)) (now (start .args .memory)) refl)) .row .placed, record { all = (good _ (start .pre .bytes)) .all; lock = (good _ (start .pre .bytes)) .locked })
+    let worked = rw (after-state-in .state-in .ensures, after-data-part2 .data-part2 .ensures .0) at (after-on-state .on-state .ensures (plateOf (start .args .plate)) (now (start .args .memory)) refl) in
+    (worked .row .placed, record { all = (good _ (start .pre .bytes)) .all; lock = (good _ (start .pre .bytes)) .locked })
 
 waits-requires-2 : tie.Need-waits-requires-2
 waits-requires-2 c κs =
