@@ -44,9 +44,11 @@ abbrev pub SitsIn : ℕ → ℕ → Grant → Type 0
 SitsIn t f (Granted c) = Room t f c
 SitsIn t f (Refused e) = Unit
 
-pub record Settable (t : ℕ) (m : List ℕ) (f : ℕ) (c : Change) : Type 0 where
+-- .. for the field that a request's data d names
+pub record Settable (t : ℕ) (m d : List ℕ) (c : Change) : Type 0 where
   pub fit : Sized t m
-  pub room : Room t f c
+  pub room : Room t (arg d 0) c
+  pub long : length d ≡ 3
 
 -- one of create, modify, delete, judged
 pub record Judged (codes : List ℕ) (t f asked : ℕ) (row : State → List ℕ → Answer) (r : Grant) : Type 0 where

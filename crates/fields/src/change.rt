@@ -4,12 +4,13 @@ ghost use Prim.Native.Nat.{_+_, _-_, _≤_, min, max};
 ghost use lib.ListN.{length};
 ghost use lib.Dec.{ltb};
 ghost use lib.IntN.{pos, _-ℤ_};
-ghost use Rattle.meaning.specs.Bytes.{zeros};
+ghost use Rattle.meaning.specs.Bytes.{arg, zeros};
 ghost use Rattle.meaning.specs.Fields as meaning;
-ghost use Rattle.fields.specs.Shape.{Chargeable, Settable};
+ghost use Rattle.fields.specs.Shape.{Chargeable, Settable, storedAs};
 use crate::sizes::bytes_of;
 use crate::sizes::least;
 use crate::sizes::most;
+use crate::status::has_field;
 
 // The run of blocks to be cleared: the first of them, and the one past the last.
 pub struct Change {
@@ -50,16 +51,27 @@ fn clear(part: &mut [u8])
     }
 }
 
-// 01, "Blocks granted and blocks given back are set to 00h": that run of memory is lent on and cleared, then the status is stored.
-pub(crate) fn apply(memory: &mut [u8], total: usize, field: u8, change: Change, status: u8)
-    requires { ⌜ Settable total (now memory) field change ⌝ }
-    ensures { λ _. ⌜ now (memory .exit) ≡ meaning.putStatus total (meaning.clear (now (memory .entry)) (change .from) (change .to - change .from)) field status ⌝ }
+// The status that is stored: 00h where bit 7 is clear, for the bits below it are ignored then (01, "Bits 0 to 6 are ignored").
+fn stored_as(asked: u8) -> u8
+    ensures { λ r. ⌜ r ≡ storedAs asked ⌝ }
+{
+    if has_field(asked) {
+        return asked;
+    }
+    0
+}
+
+// 01, "Blocks granted and blocks given back are set to 00h": that run of memory is lent on and cleared, then the status is stored. Field and status
+// are read from the request when they are needed, so that nothing of it is held meanwhile.
+pub(crate) fn apply(memory: &mut [u8], total: usize, request: &[u8], change: Change)
+    requires { ⌜ Settable total (now memory) (now request) change ⌝ }
+    ensures { λ _. ⌜ now (memory .exit) ≡ meaning.putStatus total (meaning.clear (now (memory .entry)) (change .from) (change .to - change .from)) (arg (now (request .entry)) 0) (storedAs (arg (now (request .entry)) 1)) ⌝ }
 {
     let from = bytes_of(change.from);
     let to = bytes_of(change.to);
     clear(&mut memory[from..to]);
-    let at = bytes_of(total) + field as usize;
-    memory[at] = status;
+    let at = bytes_of(total) + request[0] as usize;
+    memory[at] = stored_as(request[1]);
 }
 
 // 01, "Blocks granted and blocks given back": of a field that starts at this block, those from the smaller size up to the larger.

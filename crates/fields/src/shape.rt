@@ -11,7 +11,7 @@ ghost use Rattle.meaning.specs.Commands.{c4D, create, modify, delete, shapeFiel
 ghost use Rattle.wire.specs.Answers.{Works};
 ghost use Rattle.fields.specs.Memory.{Sits, surveyOf};
 ghost use Rattle.fields.specs.Replies.{Looked};
-ghost use Rattle.fields.specs.Shape.{Blocks, Judged, Shapes, Surveyed, grantCode, storedAs};
+ghost use Rattle.fields.specs.Shape.{Blocks, Judged, Shapes, Surveyed, grantCode};
 use crate::change::Change;
 use crate::change::apply;
 use crate::change::change_at;
@@ -134,16 +134,6 @@ fn judge_shape(seen: Survey, codes: &[u8], request: &[u8]) -> Grant
     judge_delete(seen, codes, field, code)
 }
 
-// The status that is stored: 00h where bit 7 is clear, for the bits below it are ignored then (01, "Bits 0 to 6 are ignored").
-fn stored_as(asked: u8) -> u8
-    ensures { λ r. ⌜ r ≡ storedAs asked ⌝ }
-{
-    if has_field(asked) {
-        return asked;
-    }
-    0
-}
-
 // 4Dh: field, status, code. The reply repeats the status as received.
 pub fn shape_field(
     seen: Survey,
@@ -161,6 +151,6 @@ pub fn shape_field(
     let Grant::Granted(change) = grant else {
         return Answer::Refuse(grant.code());
     };
-    apply(memory, seen.total, field, change, stored_as(request[1]));
+    apply(memory, seen.total, request, change);
     reply_two(field, request[1], room)
 }

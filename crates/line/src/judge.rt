@@ -1,7 +1,7 @@
 // The judge of a closed frame, steps 1 to 6 (01, "A closed frame is then judged in this order").
 ghost use mathlib.Core.Path.{_≡_};
 ghost use Rattle.line.specs.Line.{frameOf};
-ghost use Rattle.line.specs.Judge.{judgementOf, codeToAnswer, addressed};
+ghost use Rattle.line.specs.Judge.{isFor, judgementOf, codeToAnswer, addressed};
 use crate::characters::OpenFrame;
 use wire::codes::BROADCAST;
 use wire::codes::CHECKSUM_ERROR;
@@ -41,6 +41,16 @@ fn is_addressed(to: u8, own: u8) -> bool
         return true;
     }
     false
+}
+
+// 01, "judged in this order", 1: three bytes or more, for this board or for all. Most frames on a bus are another board's.
+pub fn is_for(own: u8, bytes: &[u8]) -> bool
+    ensures { λ r. ⌜ r ≡ isFor own (now (bytes .entry)) ⌝ }
+{
+    if bytes.len() < 3 {
+        return false;
+    }
+    is_addressed(bytes[0], own)
 }
 
 impl OpenFrame {

@@ -108,7 +108,11 @@ fn answered(core: &mut [u8], plate: Plate, memory: &mut [u8], room: &mut [u8]) -
 {
     let frame = image::frame_in(core);
     let end = KEPT + frame.len as usize;
-    let judgement = frame.judged(line::own_byte(plate), &core[KEPT..end]);
+    let own = line::own_byte(plate);
+    if !line::is_for(own, &core[KEPT..end]) {
+        return 0;
+    }
+    let judgement = frame.judged(own, &core[KEPT..end]);
     let Judgement::Request(command) = judgement else {
         let state = image::state_in(core);
         return board::refuse(plate, state, judgement.code(), room);

@@ -1,6 +1,8 @@
 -- `fields::change::apply` meets its contract. Assumes nothing.
 use native.Mathlib.Omega.{arith}
 use borrow.Author.Needs.{needs}
+use Rattle.meaning.specs.Bytes.{arg}
+use Rattle.fields.specs.Shape.{storedAs}
 use Rattle.fields.proofs.Shapes.{applied}
 use Rattle.fields.proofs.change.apply.Statement.{statement}
 use Rattle.fields.proofs.change.apply.Tie as tie
@@ -26,8 +28,20 @@ clear-requires c κs = search needs
 bytes-of-requires-3 : tie.Need-bytes-of-requires-3
 bytes-of-requires-3 c κs = search needs
 
+shared-slice-read-at : tie.Need-shared-slice-read-at
+shared-slice-read-at c = search needs
+
+cast-at : tie.Need-cast-at
+cast-at c = search needs
+
 add-at : tie.Need-add-at
 add-at c = search needs
+
+shared-slice-read-stored-as : tie.Need-shared-slice-read-stored-as
+shared-slice-read-stored-as c = search needs
+
+stored-as-requires : tie.Need-stored-as-requires
+stored-as-requires c κs = search needs
 
 slice-write-memory : tie.Need-slice-write-memory
 slice-write-memory c = search needs
@@ -37,16 +51,17 @@ same-length c = search needs
 
 returns : tie.Need-returns
 returns c =
-    let after-clear = c .before .before .before in
-    let k = after-clear in
-    let t = k .before .before in
-    let b = t .before in
-    let s = b .before .before in
-    let a = s .args in
-    applied (a .total) (a .memory .now) (a .field) (a .status) (a .change) (b .bytes-of .result) (t .bytes-of2 .result) _ _
-    (b .bytes-of .ensures) (t .bytes-of2 .ensures) (s .pre .room .run)
-    (omega (arith, t .bytes-of2 .ensures, s .pre .room .within, s .pre .fit .long)) (k .clear .ensures)
-    (omega (arith, c .bytes-of3 .ensures)) (omega (arith, c .bytes-of3 .ensures, s .pre .room .below, s .pre .fit .long))
+    let after-bytes-of3 = c .before .before .before in
+    let after-clear = after-bytes-of3 .before .before .before in
+    let after-bytes-of2 = after-clear .before .before in
+    let after-bytes-of = after-bytes-of2 .before in
+    let start = after-bytes-of .before .before .before in
+    let a = start .args in
+    rw (c .stored-as .ensures)
+    (applied (a .total) (a .memory .now) (arg (a .request .now) 0) (storedAs (arg (a .request .now) 1)) (a .change) (after-bytes-of .bytes-of .result) (after-bytes-of2 .bytes-of2 .result) _ _
+    (after-bytes-of .bytes-of .ensures) (after-bytes-of2 .bytes-of2 .ensures) (start .pre .room .run)
+    (omega (arith, after-bytes-of2 .bytes-of2 .ensures, start .pre .room .within, start .pre .fit .long)) (after-clear .clear .ensures)
+    (omega (arith, after-bytes-of3 .bytes-of3 .ensures)) (omega (arith, after-bytes-of3 .bytes-of3 .ensures, start .pre .room .below, start .pre .fit .long)))
 
 pub apply-spec : {M : Type 1} → statement M
 apply-spec =
@@ -59,7 +74,11 @@ apply-spec =
     part-clear-end
     clear-requires
     bytes-of-requires-3
+    shared-slice-read-at
+    cast-at
     add-at
+    shared-slice-read-stored-as
+    stored-as-requires
     slice-write-memory
     same-length
     returns)

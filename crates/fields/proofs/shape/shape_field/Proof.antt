@@ -70,23 +70,15 @@ returns c =
     (works-refuse _ (a .memory .now) (a .room .now) _
     (k .judge-shape .ensures .answer p s (a .memory .now) e q (b .pre .seen) ∙ not-granted (k .judge-shape .result) (at-match-keys2 .match .keys2) (a .seen .total) s (a .memory .now) (arg d 0) (arg d 1)))
 
-shared-slice-read-stored-as : tie.Need-shared-slice-read-stored-as
-shared-slice-read-stored-as c =
-    let after-judge-shape = c .before .before .before .before .before in
-    let b = entry after-judge-shape in
-    omega (arith, asked-4D (b .args .request .now) (b .pre .asked .wanted))
-
-stored-as-requires : tie.Need-stored-as-requires
-stored-as-requires c κs = search needs
-
 apply-requires : tie.Need-apply-requires
 apply-requires c κs =
-    let g = c .before .before .before .before in
-    record { fit = entry (g .before .before) .pre .asked .lent .fit; room = said g .place }
+    let g = c .before .before in
+    let b = entry (g .before .before) in
+    record { fit = b .pre .asked .lent .fit; room = said g .place; long = asked-4D (b .args .request .now) (b .pre .asked .wanted) }
 
 shared-slice-read-reply-two : tie.Need-shared-slice-read-reply-two
 shared-slice-read-reply-two c =
-    let after-judge-shape = c .before .before .before .before .before .before .before .before .before .before in
+    let after-judge-shape = c .before .before .before .before .before .before .before .before in
     let b = entry after-judge-shape in
     omega (arith, asked-4D (b .args .request .now) (b .pre .asked .wanted))
 
@@ -105,11 +97,10 @@ returns-2 c =
     let after-apply = after-reply-two .before .before .before .before .before in
     λ p s e q.
     let y = after-apply in
-    let z = y .before in
-    let g = z .before .before .before .before in
+    let g = y .before .before .before in
     let b = entry (g .before .before) in
     let a = b .args in
-    rw (y .apply .ensures, z .stored-as .ensures)
+    rw (y .apply .ensures)
     (works-accept _ (a .memory .now) (a .room .now) _ s _ _ _ (said g .answer p s (a .memory .now) e q (b .pre .seen)) (after-reply-two .reply-two .ensures))
 
 pub shape-field-spec : {M : Type 1} → statement M
@@ -122,8 +113,6 @@ shape-field-spec =
     enum-told
     code-requires
     returns
-    shared-slice-read-stored-as
-    stored-as-requires
     apply-requires
     shared-slice-read-reply-two
     reply-two-requires

@@ -1,9 +1,9 @@
--- `fields::shape::stored_as` meets its contract. Assumes nothing.
+-- `fields::change::stored_as` meets its contract. Assumes nothing.
 use mathlib.Core.Path.{sym, _∙_}
 use borrow.Author.Needs.{needs}
 use Rattle.fields.proofs.Shapes.{stored-field, stored-none}
-use Rattle.fields.proofs.shape.stored_as.Statement.{statement}
-use Rattle.fields.proofs.shape.stored_as.Tie as tie
+use Rattle.fields.proofs.change.stored_as.Statement.{statement}
+use Rattle.fields.proofs.change.stored_as.Tie as tie
 
 has-field-requires : tie.Need-has-field-requires
 has-field-requires c κs = search needs
