@@ -92,7 +92,7 @@ class Instruction(NamedTuple):
 Function = Dict[int, Instruction]
 
 UNDERSTOOD = re.compile(r"(push|pop) +(?!%rsp)(?:%r\w+|\$0x[0-9a-f]+)|(add|sub) +\$(0x[0-9a-f]+),%rsp")
-TABLE_JUMP = re.compile(r"movslq \((%\w+),%\w+,4\),(%\w+)\n(?:.*\n)*?add +\1,\2\n(?:(?!.*,\2\n).*\n)*jmp +\*\2\Z")
+TABLE_JUMP = re.compile(r"movslq (?:0x0)?\((%\w+),%\w+,4\),(%\w+)\n(?:.*\n)*?add +\1,\2\n(?:(?!.*,\2\n).*\n)*jmp +\*\2\Z")
 NOT_UNDERSTOOD = re.compile(r"\b(?:push|pop|call|ret|jmp|loop|leave|enter|syscall|sysenter|int|iret)[a-z]?\b|%e?spl?\b|(?<!\()%rsp")
 
 

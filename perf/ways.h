@@ -259,7 +259,7 @@ static void small_tables(void) {
     address = OWN;
 }
 
-/* The tables make many ways: not all are tried with every number of waiting codes. */
+/* The long tables make many ways: they are not tried with every number of waiting codes. */
 static void each_way(void (*then)(const char *row)) {
     closed = then;
     for (codes_wait = 0; codes_wait <= 4; codes_wait++) {
@@ -269,12 +269,10 @@ static void each_way(void (*then)(const char *row)) {
         plain_ways();
         if (codes_wait % 4 == 0)
             long_tables();
-        if (codes_wait % 2 == 0) {
-            sound_tables(1);
-            sound_tables(TOTAL);
-            unsound_tables();
-            small_tables();
-        }
+        sound_tables(1);
+        sound_tables(TOTAL);
+        unsound_tables();
+        small_tables();
     }
 }
 

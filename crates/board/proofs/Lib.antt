@@ -1,7 +1,7 @@
 -- What the proofs of several functions use, and the laws that callers cite.
 pub mod Bounding
 pub mod Stepping
-mod Sending
+pub mod Sending
 pub mod Endings
 pub mod Dispatch
 pub mod Quickening

@@ -1,11 +1,16 @@
 -- `quicksetter::events::answered` meets its contract. Assumes nothing.
-use mathlib.Core.Path.{sym, _∙_}
+use Prim.Native.Nat.{_+_, _-_}
+use mathlib.Core.Path.{refl, sym, _∙_}
 use native.Mathlib.Omega.{arith}
 use denote.Ref.{now}
 use Rattle.meaning.specs.State.{none}
-use Rattle.line.proofs.Judging.{no-request}
+use borrow.Author.Tests.{eq-eqb, not-true}
+use lib.ListN.{take, drop}
+use Rattle.line.specs.Line.{frameOf}
+use Rattle.line.proofs.Judging.{no-request, passed-over}
+use Rattle.board.proofs.Sending.{fault-silent}
 use Rattle.state.specs.State.{stateWith}
-use Rattle.image.specs.Image.{stateIn}
+use Rattle.image.specs.Image.{keptAt, stateIn}
 use Rattle.image.proofs.Round.{good}
 use Rattle.quicksetter.proofs.Closing.{low-own, may-answer, at-most, refused-in, servable, request-in}
 use borrow.Author.Needs.{needs}
@@ -18,6 +23,7 @@ use Rattle.image.proofs.frame_in.Reads as frame-in-reads
 use Rattle.image.proofs.state_in.Reads as state-in-reads
 use Rattle.line.proofs.characters.OpenFrame.judged.Reads as judged-reads
 use Rattle.line.proofs.judge.Judgement.code.Reads as code-reads
+use Rattle.line.proofs.is_for.Reads as is-for-reads
 use Rattle.line.proofs.own_byte.Reads as own-byte-reads
 use Rattle.quicksetter.proofs.events.served.Reads as served-reads
 
@@ -37,6 +43,42 @@ own-byte-requires c κs =
     let start = c .before .before .before .before .before .before in
     low-own (start .args .plate) (now (start .args .core)) (now (start .args .memory)) (now (start .args .room)) (start .pre)
 
+sub-is-for : tie.Need-sub-is-for
+sub-is-for c = search needs
+
+part-is-for-start : tie.Need-part-is-for-start
+part-is-for-start c = search needs
+
+part-is-for-end : tie.Need-part-is-for-end
+part-is-for-end c =
+    let after-frame-in = c .before .before .before in
+    let start = after-frame-in .before .before .before .before .before in
+    omega (
+      arith,
+      at-most (start .args .plate) (now (start .args .core)) (now (start .args .memory)) (now (start .args .room)) (start .pre)
+          (after-frame-in .frame-in .ensures),
+      good _ (start .pre .bytes) .all,
+    )
+
+is-for-requires : tie.Need-is-for-requires
+is-for-requires c κs = search needs
+
+same-length : tie.Need-same-length
+same-length c = search needs
+
+returns : tie.Need-returns
+returns c =
+    let after-is-for = c .before in
+    let after-own-byte = after-is-for .before .before .before in
+    let after-frame-in = after-own-byte .before .before in
+    let after-slice-known = after-frame-in .before .before .before .before in
+    let start = after-slice-known .before in
+    let over = passed-over (after-own-byte .own-byte .result) (frameOf (after-frame-in .frame-in .result) (take (keptAt + after-frame-in .frame-in .result .len - keptAt) (drop keptAt (now (start .args .core)))))
+    (sym (after-is-for .is-for .ensures) ∙ not-true _ (c .if1 .taken)) in
+    refused-in (start .args .plate) (now (start .args .core)) (now (start .args .memory)) (now (start .args .room)) (start .pre)
+    (after-frame-in .frame-in .ensures) _ _ (λ i. (after-slice-known .slice-known .given i) .fits)
+    (after-own-byte .own-byte .ensures (stateWith (stateIn (now (start .args .core))) none)) refl (over .0) (fault-silent _ _ _ (eq-eqb _ _ (over .1)))
+
 sub-judged : tie.Need-sub-judged
 sub-judged c = search needs
 
@@ -45,7 +87,7 @@ part-judged-start c = search needs
 
 part-judged-end : tie.Need-part-judged-end
 part-judged-end c =
-    let after-frame-in = c .before .before .before in
+    let after-frame-in = c .before .before .before .before .before .before .before in
     let start = after-frame-in .before .before .before .before .before in
     omega (
       arith,
@@ -62,7 +104,7 @@ enum-known-judgement c = search needs
 
 state-in-requires : tie.Need-state-in-requires
 state-in-requires c κs =
-    let start = c .before .before .before .before .before .before .before .before .before .before .before .before in
+    let start = c .before .before .before .before .before .before .before .before .before .before .before .before .before .before .before .before in
     omega (arith, good _ (start .pre .bytes) .all)
 
 code-requires : tie.Need-code-requires
@@ -70,23 +112,23 @@ code-requires c κs = search needs
 
 refuse-requires : tie.Need-refuse-requires
 refuse-requires c κs =
-    let start = c .before .before .before .before .before .before .before .before .before .before .before .before .before .before .before in
+    let start = c .before .before .before .before .before .before .before .before .before .before .before .before .before .before .before .before .before .before .before in
     may-answer (start .args .plate) (now (start .args .core)) (now (start .args .memory)) (now (start .args .room)) (start .pre)
-
-same-length : tie.Need-same-length
-same-length c = search needs
 
 same-length-2 : tie.Need-same-length-2
 same-length-2 c = search needs
 
-returns : tie.Need-returns
-returns c =
+same-length-3 : tie.Need-same-length-3
+same-length-3 c = search needs
+
+returns-2 : tie.Need-returns-2
+returns-2 c =
     let after-refuse = c .before .before in
     let after-code = after-refuse .before .before in
     let after-state-in = after-code .before in
     let after-match = after-state-in .before .before in
     let after-judged = after-match .before in
-    let after-own-byte = after-judged .before .before .before in
+    let after-own-byte = after-judged .before .before .before .before .before .before .before in
     let after-frame-in = after-own-byte .before .before in
     let after-slice-known = after-frame-in .before .before .before .before in
     let start = after-slice-known .before in
@@ -99,13 +141,10 @@ served-requires : tie.Need-served-requires
 served-requires c κs =
     let after-judgement = c .before .before .before .before in
     let after-judged = after-judgement .before .before in
-    let after-frame-in = after-judged .before .before .before .before .before in
+    let after-frame-in = after-judged .before .before .before .before .before .before .before .before .before in
     let start = after-frame-in .before .before .before .before .before in
     servable (start .args .plate) (now (start .args .core)) (now (start .args .memory)) (now (start .args .room)) (start .pre)
     (after-frame-in .frame-in .ensures) _ (sym (after-judged .judged .ensures) ∙ after-judgement .judgement .given .1)
-
-same-length-3 : tie.Need-same-length-3
-same-length-3 c = search needs
 
 same-length-4 : tie.Need-same-length-4
 same-length-4 c = search needs
@@ -113,12 +152,15 @@ same-length-4 c = search needs
 same-length-5 : tie.Need-same-length-5
 same-length-5 c = search needs
 
-returns-2 : tie.Need-returns-2
-returns-2 c =
+same-length-6 : tie.Need-same-length-6
+same-length-6 c = search needs
+
+returns-3 : tie.Need-returns-3
+returns-3 c =
     let after-served = c .before .before .before .before .before .before in
     let after-judgement = after-served .before .before .before .before .before in
     let after-judged = after-judgement .before .before in
-    let after-own-byte = after-judged .before .before .before in
+    let after-own-byte = after-judged .before .before .before .before .before .before .before in
     let after-frame-in = after-own-byte .before .before in
     let start = after-frame-in .before .before .before .before .before in
     request-in (start .args .plate) (now (start .args .core)) (now (start .args .memory)) (now (start .args .room)) (start .pre)
@@ -133,6 +175,12 @@ answered-spec =
     cast-end
     add-end
     own-byte-requires
+    sub-is-for
+    part-is-for-start
+    part-is-for-end
+    is-for-requires
+    same-length
+    returns
     sub-judged
     part-judged-start
     part-judged-end
@@ -141,11 +189,11 @@ answered-spec =
     state-in-requires
     code-requires
     refuse-requires
-    same-length
     same-length-2
-    returns
-    served-requires
     same-length-3
+    returns-2
+    served-requires
     same-length-4
     same-length-5
-    returns-2)
+    same-length-6
+    returns-3)
