@@ -9,7 +9,7 @@ use denote.Enum.Declared.{tagOf}
 use borrow.Author.Tests.{lt-ltb, le-ltb, eqb-false}
 use lib.Dec.{eqb, ltb}
 use lib.ListN.{length}
-use Rattle.meaning.specs.Bytes.{pick, both, either, arg, differ}
+use Rattle.meaning.specs.Bytes.{pick, either, arg, differ}
 use Rattle.meaning.specs.State.{Plate, State, ownByte}
 use Rattle.meaning.specs.Commands as meaning
 use Rattle.meaning.specs.Commands.{commandOf, row, asked, lengthFits, error, worked}
@@ -21,7 +21,7 @@ use Rattle.wire.specs.Table.{lengthOf, rowOf}
 use Rattle.line.specs.declared.judge.Judgement.{Judgement}
 use Rattle.line.specs.declared.judge.Judgement.the-variants.{Short, Elsewhere, Fault, Request}
 use Rattle.line.proofs.judge.Judgement.{the-type}
-use Rattle.line.specs.Judge.{addressed, isFor, judgementOf, endingBy, codeToAnswer}
+use Rattle.line.specs.Judge.{addressed, isSilent, judgementOf, endingBy, codeToAnswer}
 
 abbrev pub asking : Judgement → Bool
 asking Short = false
@@ -83,15 +83,15 @@ module _ (own : ℕ) (b : characters.Frame) where
               unfolding judgementOf commandByte
               requested g = rw (long, a, p, c, d, known, e, right, g)
 
-  -- a frame that is not for this board is no request, and no code answers it
-  pub passed-over : isFor own (b .bytes) ≡ false → (asking (judgementOf own b) ≡ false) × (codeToAnswer (judgementOf own b) ≡ 0)
-  unfolding isFor judgementOf
+  -- a frame that is passed over is no request, and no code answers it
+  pub passed-over : isSilent own (b .bytes) ≡ true → (asking (judgementOf own b) ≡ false) × (codeToAnswer (judgementOf own b) ≡ 0)
+  unfolding isSilent judgementOf
   passed-over e = go (ltb (length (b .bytes)) 3) (addressed (arg (b .bytes) 0) own) e _
     where
-      go : (s a : Bool) → both (not s) a ≡ false → (j : Judgement) → (asking (pick s Short (pick (not a) Elsewhere j)) ≡ false) × (codeToAnswer (pick s Short (pick (not a) Elsewhere j)) ≡ 0)
+      go : (s a : Bool) → either s (not a) ≡ true → (j : Judgement) → (asking (pick s Short (pick (not a) Elsewhere j)) ≡ false) × (codeToAnswer (pick s Short (pick (not a) Elsewhere j)) ≡ 0)
       go true a e j = (refl, refl)
       go false false e j = (refl, refl)
-      go false true e j = absurd (false≢true (sym e))
+      go false true e j = absurd (false≢true e)
 
 -- 01, "judged in this order": the meaning's ending is the one that the judgement names
 pub ends-as-judged : (p : Plate) (s : State) (m : List ℕ) (b : characters.Frame) → ending p s m b ≡ endingBy p s m b (judgementOf (ownByte p s) b)

@@ -4,7 +4,7 @@ use mathlib.Core.Bool.{Bool, not}
 use mathlib.Core.List.{List}
 use lib.Dec.{eqb, ltb}
 use lib.ListN.{length}
-use Rattle.meaning.specs.Bytes.{pick, both, either, arg, differ}
+use Rattle.meaning.specs.Bytes.{pick, either, arg, differ}
 use Rattle.meaning.specs.State.{Plate, State}
 use Rattle.meaning.specs.Commands.{commandOf, row, asked, refuse, worked}
 use Rattle.meaning.specs.Characters.{Frame}
@@ -16,9 +16,9 @@ use Rattle.line.specs.declared.judge.Judgement.the-variants.{Short, Else
 unfoldable pub addressed : ℕ → ℕ → Bool
 addressed to own = either (eqb to own) (eqb to 0xFF)
 
--- 01, "judged in this order", 1: a frame that is not passed over in silence
-unfoldable pub isFor : ℕ → List ℕ → Bool
-isFor own bytes = both (not (ltb (length bytes) 3)) (addressed (arg bytes 0) own)
+-- 01, "judged in this order", 1: a frame that is passed over in silence
+unfoldable pub isSilent : ℕ → List ℕ → Bool
+isSilent own bytes = either (ltb (length bytes) 3) (not (addressed (arg bytes 0) own))
 
 -- 01, "judged in this order", 1 to 6: silence, silence, 09h, 0Ah, 0Ch, 0Bh, 0Ch; `own` is the board's own address byte
 unfoldable pub judgementOf : ℕ → Frame → Judgement

@@ -1,7 +1,7 @@
 // The judge of a closed frame, steps 1 to 6 (01, "A closed frame is then judged in this order").
 ghost use mathlib.Core.Path.{_≡_};
 ghost use Rattle.line.specs.Line.{frameOf};
-ghost use Rattle.line.specs.Judge.{isFor, judgementOf, codeToAnswer, addressed};
+ghost use Rattle.line.specs.Judge.{isSilent, judgementOf, codeToAnswer, addressed};
 use crate::characters::OpenFrame;
 use wire::codes::BROADCAST;
 use wire::codes::CHECKSUM_ERROR;
@@ -43,14 +43,14 @@ fn is_addressed(to: u8, own: u8) -> bool
     false
 }
 
-// 01, "judged in this order", 1: three bytes or more, for this board or for all. Most frames on a bus are another board's.
-pub fn is_for(own: u8, bytes: &[u8]) -> bool
-    ensures { λ r. ⌜ r ≡ isFor own (now (bytes .entry)) ⌝ }
+// 01, "judged in this order", 1: fewer than three bytes, or for another board, as most frames on a bus are.
+pub fn is_silent(own: u8, bytes: &[u8]) -> bool
+    ensures { λ r. ⌜ r ≡ isSilent own (now (bytes .entry)) ⌝ }
 {
     if bytes.len() < 3 {
-        return false;
+        return true;
     }
-    is_addressed(bytes[0], own)
+    !is_addressed(bytes[0], own)
 }
 
 impl OpenFrame {

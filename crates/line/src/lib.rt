@@ -6,7 +6,7 @@ mod stamps;
 
 pub use characters::OpenFrame;
 pub use judge::Judgement;
-pub use judge::is_for;
+pub use judge::is_silent;
 pub use plate::Plate;
 pub use plate::own_byte;
 pub use stamps::stamp_after;

@@ -109,7 +109,7 @@ fn answered(core: &mut [u8], plate: Plate, memory: &mut [u8], room: &mut [u8]) -
     let frame = image::frame_in(core);
     let end = KEPT + frame.len as usize;
     let own = line::own_byte(plate);
-    if !line::is_for(own, &core[KEPT..end]) {
+    if line::is_silent(own, &core[KEPT..end]) {
         return 0;
     }
     let judgement = frame.judged(own, &core[KEPT..end]);

@@ -4,7 +4,7 @@ use mathlib.Core.Path.{refl, sym, _∙_}
 use native.Mathlib.Omega.{arith}
 use denote.Ref.{now}
 use Rattle.meaning.specs.State.{none}
-use borrow.Author.Tests.{eq-eqb, not-true}
+use borrow.Author.Tests.{eq-eqb}
 use lib.ListN.{take, drop}
 use Rattle.line.specs.Line.{frameOf}
 use Rattle.line.proofs.Judging.{no-request, passed-over}
@@ -23,7 +23,7 @@ use Rattle.image.proofs.frame_in.Reads as frame-in-reads
 use Rattle.image.proofs.state_in.Reads as state-in-reads
 use Rattle.line.proofs.characters.OpenFrame.judged.Reads as judged-reads
 use Rattle.line.proofs.judge.Judgement.code.Reads as code-reads
-use Rattle.line.proofs.is_for.Reads as is-for-reads
+use Rattle.line.proofs.is_silent.Reads as is-silent-reads
 use Rattle.line.proofs.own_byte.Reads as own-byte-reads
 use Rattle.quicksetter.proofs.events.served.Reads as served-reads
 
@@ -43,14 +43,14 @@ own-byte-requires c κs =
     let start = c .before .before .before .before .before .before in
     low-own (start .args .plate) (now (start .args .core)) (now (start .args .memory)) (now (start .args .room)) (start .pre)
 
-sub-is-for : tie.Need-sub-is-for
-sub-is-for c = search needs
+sub-is-silent : tie.Need-sub-is-silent
+sub-is-silent c = search needs
 
-part-is-for-start : tie.Need-part-is-for-start
-part-is-for-start c = search needs
+part-is-silent-start : tie.Need-part-is-silent-start
+part-is-silent-start c = search needs
 
-part-is-for-end : tie.Need-part-is-for-end
-part-is-for-end c =
+part-is-silent-end : tie.Need-part-is-silent-end
+part-is-silent-end c =
     let after-frame-in = c .before .before .before in
     let start = after-frame-in .before .before .before .before .before in
     omega (
@@ -60,21 +60,21 @@ part-is-for-end c =
       good _ (start .pre .bytes) .all,
     )
 
-is-for-requires : tie.Need-is-for-requires
-is-for-requires c κs = search needs
+is-silent-requires : tie.Need-is-silent-requires
+is-silent-requires c κs = search needs
 
 same-length : tie.Need-same-length
 same-length c = search needs
 
 returns : tie.Need-returns
 returns c =
-    let after-is-for = c .before in
-    let after-own-byte = after-is-for .before .before .before in
+    let after-is-silent = c .before in
+    let after-own-byte = after-is-silent .before .before .before in
     let after-frame-in = after-own-byte .before .before in
     let after-slice-known = after-frame-in .before .before .before .before in
     let start = after-slice-known .before in
     let over = passed-over (after-own-byte .own-byte .result) (frameOf (after-frame-in .frame-in .result) (take (keptAt + after-frame-in .frame-in .result .len - keptAt) (drop keptAt (now (start .args .core)))))
-    (sym (after-is-for .is-for .ensures) ∙ not-true _ (c .if1 .taken)) in
+    (sym (after-is-silent .is-silent .ensures) ∙ c .if1 .taken) in
     refused-in (start .args .plate) (now (start .args .core)) (now (start .args .memory)) (now (start .args .room)) (start .pre)
     (after-frame-in .frame-in .ensures) _ _ (λ i. (after-slice-known .slice-known .given i) .fits)
     (after-own-byte .own-byte .ensures (stateWith (stateIn (now (start .args .core))) none)) refl (over .0) (fault-silent _ _ _ (eq-eqb _ _ (over .1)))
@@ -175,10 +175,10 @@ answered-spec =
     cast-end
     add-end
     own-byte-requires
-    sub-is-for
-    part-is-for-start
-    part-is-for-end
-    is-for-requires
+    sub-is-silent
+    part-is-silent-start
+    part-is-silent-end
+    is-silent-requires
     same-length
     returns
     sub-judged
