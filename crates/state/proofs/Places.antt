@@ -16,7 +16,7 @@ use Rattle.state.specs.declared.faults.Faults.{Faults}
 use Rattle.state.specs.declared.faults.Oldest.{Oldest}
 use Rattle.state.specs.declared.faults.Noting.{Noting}
 use Rattle.state.specs.declared.faults.Noting.the-variants.{Ignored, Locks, First, Second, Third, Fourth}
-use Rattle.state.specs.Queue.{waiting, queueOf, mayPrecede, noFaults, holding, Queues, Reads}
+use Rattle.state.specs.Queue.{waiting, queueOf, noFaults, holding, Queues, Reads}
 use Rattle.state.specs.Effects.{placeAt, placeFor, notingOf, notedAs}
 use Rattle.meaning.proofs.Choices.{both-true, both-false, either-false}
 use Rattle.meaning.proofs.Every.{alike, as-told, every, at}
@@ -128,8 +128,12 @@ pub lock-fills : (c : ℕ) → locks c ≡ true → eqb c 0 ≡ false
 unfolding locks
 lock-fills c h = ne-eqb c 0 (λ e. false≢true (rw e at h))
 
--- 01, "State limits", one place more in front
-pub apart-more : (c : ℕ) (q : List ℕ) → apart (waiting c q) ≡ both (mayPrecede c q) (apart q)
+-- 01, "State limits": a place may hold c before those of q
+unfoldable mayPrecede : ℕ → List ℕ → Bool
+mayPrecede c q = pick (eqb c 0) (not (waits q)) (both (queueable c) (not (among c q)))
+
+-- .. one place more in front
+apart-more : (c : ℕ) (q : List ℕ) → apart (waiting c q) ≡ both (mayPrecede c q) (apart q)
 unfolding apart waiting mayPrecede among waits queueable
 apart-more c [] = go (eqb c 0)
   where

@@ -1,13 +1,12 @@
 -- The code's fault queue as that of the meaning (01, "Faults"). Assumes nothing.
 use Prim.Native.Nat.{ℕ}
 use mathlib.Core.Path.{_≡_}
-use mathlib.Core.Bool.{Bool, false, not}
+use mathlib.Core.Bool.{false}
 use mathlib.Core.List.{List, [], _∷_}
 use lib.Dec.{eqb}
 use lib.ListN.{drop}
-use Rattle.meaning.specs.Bytes.{pick, both, among, arg}
-use Rattle.meaning.specs.State.{State, withQueue, withLock, queueable}
-use Rattle.meaning.specs.Demands.{waits}
+use Rattle.meaning.specs.Bytes.{pick, arg}
+use Rattle.meaning.specs.State.{State, withQueue, withLock}
 use Rattle.state.specs.declared.faults.Faults.{Faults}
 use Rattle.state.specs.declared.faults.Oldest.{Oldest}
 
@@ -35,7 +34,3 @@ pub record Queues (f : Faults) (q : List ℕ) (r : Faults) : Type 0 where
 pub record Reads (f : Faults) (r : Oldest) : Type 0 where
   pub oldest : r .code ≡ arg (queueOf f) 0
   pub rest : Queues f (drop 1 (queueOf f)) (r .faults)
-
--- 01, "State limits": a place may hold c before those of q
-unfoldable pub mayPrecede : ℕ → List ℕ → Bool
-mayPrecede c q = pick (eqb c 0) (not (waits q)) (both (queueable c) (not (among c q)))
