@@ -15,8 +15,8 @@ bytes, and must return and leave the same. A row is every call of its kind in pe
 of each board with their ratio, the ratio of the two means, and how many calls there are, with the ratio of the one that stands worst for the library."""
 CLOSING_NOTE = """\
 Counted and compared in the same way. A row is every way of perf/ways.h with that command, whether it is done or answered with an error; below stand the frames
-that are no request. Tried are plates of 1 to 5, 8 and 112 blocks, few fields and many, sound tables and unsound ones, 0 to 4 fault codes waiting, a locked
-position, and the board's own address as well as the broadcast."""
+that are no request. Tried are plates of 1 to 5, 8 and 112 blocks, few fields and many, sound tables and unsound ones, 0 to 4 fault codes waiting (with 97 to
+111 fields none and four), a locked position, and the board's own address as well as the broadcast."""
 
 
 class Call(NamedTuple):

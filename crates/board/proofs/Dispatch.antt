@@ -26,7 +26,6 @@ use Rattle.line.specs.Line.{plateOf}
 use Rattle.line.proofs.Limits.{total-fits, few-bits}
 use Rattle.state.specs.declared.state.State.{State}
 use Rattle.state.specs.declared.rows.Worked.{Worked}
-use Rattle.state.specs.State.{stateWith}
 use Rattle.state.specs.Rows.{Answers}
 use Rattle.board.specs.Work.{Workable, MemoryLent, Changeable, WorksOn, onMemory, Tells}
 use Rattle.board.proofs.Endings.{unknown-never}

@@ -239,7 +239,7 @@ pub fn marked(command: u8, waiting: bool) -> u8
     low
 }
 
-// 01, "22h and 24h lock the position". One test for both: to either 0xDE is what is missing to 100h, or to 102h.
+// 01, "22h and 24h lock the position". One test for both: with 0xDE added they are 100h and 102h, and no other code is; 0xFD leaves nothing of either.
 pub fn locks(code: u8) -> bool
     ensures { λ r. ⌜ r ≡ locks code ⌝ }
 {
