@@ -45,10 +45,10 @@ unknown-never d = refl
 
 -- what an answer leaves, in a room where its data stands already
 record Left (p : meaning.Plate) (s : meaning.State) (c : ℕ) (m w : List ℕ) (a : commands.Answer) (t : State) (n : ℕ) (m′ w′ : List ℕ) : Type 0 where
-  state : stateWith t none ≡ (outcome p s m c a) .state
-  sent : n ≡ length ((outcome p s m c a) .reply)
-  memory : m′ ≡ (outcome p s m c a) .memory
-  room : w′ ≡ put w 0 ((outcome p s m c a) .reply)
+  state : stateWith t none ≡ (outcome s m c a) .state
+  sent : n ≡ length ((outcome s m c a) .reply)
+  memory : m′ ≡ (outcome s m c a) .memory
+  room : w′ ≡ put w 0 ((outcome s m c a) .reply)
 
 abbrev Few : commands.Answer → Type 0
 Few (commands.refuse e) = Unit
@@ -57,16 +57,16 @@ Few (commands.quiet s m) = Unit
 
 -- a message whose data stands in the room already
 module _ (p : meaning.Plate) (s : meaning.State) (c : ℕ) (d w : List ℕ) (few : length d ≤ 131) (wide : longestReply ≤ length w) where
-  as-long : length (message p s c (part (put w 2 d) 2 (length d))) ≡ length (message p s c d)
+  as-long : length (message s c (part (put w 2 d) 2 (length d))) ≡ length (message s c d)
   unfolding message
   as-long =
       let same : length (part (put w 2 d) 2 (length d)) ≡ length d = part-length (put w 2 d) (length d) few (rw (length-put w 2 d (omega arith)) wide) in
-      sealed-length (ownByte p s) (warned c (s .queue)) (part (put w 2 d) 2 (length d)) ∙ ap (λ (z : ℕ). z + 3) same
-      ∙ sym (sealed-length (ownByte p s) (warned c (s .queue)) d)
+      sealed-length (ownByte s) (warned c (s .queue)) (part (put w 2 d) 2 (length d)) ∙ ap (λ (z : ℕ). z + 3) same
+      ∙ sym (sealed-length (ownByte s) (warned c (s .queue)) d)
 
-  as-put : put (put w 2 d) 0 (message p s c (part (put w 2 d) 2 (length d))) ≡ put w 0 (message p s c d)
+  as-put : put (put w 2 d) 0 (message s c (part (put w 2 d) 2 (length d))) ≡ put w 0 (message s c d)
   unfolding message
-  as-put = seal-data (ownByte p s) (warned c (s .queue)) (length d) d w refl (omega arith)
+  as-put = seal-data (ownByte s) (warned c (s .queue)) (length d) d w refl (omega arith)
 
 few-told : (a : commands.Answer) → Few a → Brief (told a)
 few-told (commands.refuse e) h = tt
@@ -80,26 +80,26 @@ left p s c m w (commands.refuse e) t x {n} {m′} {v} {w′} few wide i j k l h 
     let y : Sends p t c (Refuse e) w n w′ = rw (i, l) at h in
     record {
       state = j;
-      sent = y .count ∙ ap (λ (z : meaning.State). length (message p z 0x50 (e ∷ []))) j;
+      sent = y .count ∙ ap (λ (z : meaning.State). length (message z 0x50 (e ∷ []))) j;
       memory = k;
-      room = y .bytes ∙ ap (λ (z : meaning.State). put w 0 (message p z 0x50 (e ∷ []))) j;
+      room = y .bytes ∙ ap (λ (z : meaning.State). put w 0 (message z 0x50 (e ∷ []))) j;
     }
 left p s c m w (commands.accept d s′ m″) t x {n} {m′} {v} {w′} few wide i j k l h =
     let y : Sends p t c (Accept (length d)) (put w 2 d) n w′ = rw (i, l) at h in
     record {
       state = j;
-      sent = y .count ∙ ap (λ (z : meaning.State). length (message p z c (part (put w 2 d) 2 (length d)))) j ∙ as-long p s′ c d w few wide;
+      sent = y .count ∙ ap (λ (z : meaning.State). length (message z c (part (put w 2 d) 2 (length d)))) j ∙ as-long p s′ c d w few wide;
       memory = k;
-      room = y .bytes ∙ ap (λ (z : meaning.State). put (put w 2 d) 0 (message p z c (part (put w 2 d) 2 (length d)))) j ∙ as-put p s′ c d w few wide;
+      room = y .bytes ∙ ap (λ (z : meaning.State). put (put w 2 d) 0 (message z c (part (put w 2 d) 2 (length d)))) j ∙ as-put p s′ c d w few wide;
     }
 left p s c m w (commands.quiet s′ m″) t x {n} {m′} {v} {w′} few wide i j k l h =
     let y : Sends p t c Quiet w n w′ = rw (i, l) at h in
     record { state = j; sent = y .count; memory = k; room = y .bytes }
 
-module _ (p : meaning.Plate) (s : State) (f : OpenFrame) (k m w : List ℕ) {own : ℕ} (o : own ≡ ownByte p (stateWith s none)) where
+module _ (p : meaning.Plate) (s : State) (f : OpenFrame) (k m w : List ℕ) {own : ℕ} (o : own ≡ ownByte (stateWith s none)) where
   worked-as : {j : Judgement} → judgementOf own (frameOf f (take (f .len) k)) ≡ j
       → work p (stateWith s none) m (closed (lineOf f k))
-      ≡ leaves p (stateWith s none) m (commandByte (take (f .len) k)) (endingBy p (stateWith s none) m (closed (lineOf f k)) j)
+      ≡ leaves (stateWith s none) m (commandByte (take (f .len) k)) (endingBy p (stateWith s none) m (closed (lineOf f k)) j)
   unfolding work closed
   worked-as e = rw (ends-as-judged p (stateWith s none) m (closed (lineOf f k)), ← o, e)
 

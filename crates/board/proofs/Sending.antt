@@ -33,22 +33,22 @@ pub enough-room : {n l : ℕ} → n ≤ 131 → longestReply ≤ l → n + 3 ≤
 enough-room h k = omega arith
 
 module _ (p : meaning.Plate) (s : State) (c : ℕ) (w : List ℕ) {x : Answer} where
-  pub error-sent : {own mark e : ℕ} {w′ : List ℕ} → x ≡ Refuse e → own ≡ ownByte p (stateWith s none) → mark ≡ warned 0x50 (queueOf (s .faults))
+  pub error-sent : {own mark e : ℕ} {w′ : List ℕ} → x ≡ Refuse e → own ≡ ownByte (stateWith s none) → mark ≡ warned 0x50 (queueOf (s .faults))
       → w′ ≡ put w 0 (sealed (own ∷ mark ∷ e ∷ [])) → Sends p s c x w 4 w′
   unfolding replyOf message
   error-sent {e = e} q o k h =
       record {
-        count = rw q (sym (sealed-length (ownByte p (stateWith s none)) (warned 0x50 (queueOf (s .faults))) (e ∷ [])));
+        count = rw q (sym (sealed-length (ownByte (stateWith s none)) (warned 0x50 (queueOf (s .faults))) (e ∷ [])));
         bytes = rw (q, ← o, ← k) h;
       }
 
-  pub data-sent : {own mark n : ℕ} {w′ : List ℕ} → x ≡ Accept n → n ≤ 131 → longestReply ≤ length w → own ≡ ownByte p (stateWith s none)
+  pub data-sent : {own mark n : ℕ} {w′ : List ℕ} → x ≡ Accept n → n ≤ 131 → longestReply ≤ length w → own ≡ ownByte (stateWith s none)
       → mark ≡ warned c (queueOf (s .faults)) → w′ ≡ put w 0 (sealed (own ∷ mark ∷ part w 2 n)) → Sends p s c x w (n + 3) w′
   unfolding replyOf message
   data-sent {n = n} q few wide o k h =
       let l : length (part w 2 n) ≡ n = part-length w n few wide in
       record {
-        count = rw q (sym (sealed-length (ownByte p (stateWith s none)) (warned c (queueOf (s .faults))) (part w 2 n) ∙ rw l));
+        count = rw q (sym (sealed-length (ownByte (stateWith s none)) (warned c (queueOf (s .faults))) (part w 2 n) ∙ rw l));
         bytes = rw (q, ← o, ← k) h;
       }
 

@@ -74,8 +74,8 @@ pub record Changeable (n : ℕ) (s : State) (c : ℕ) (d w : List ℕ) : Type 0 
 
 -- 01, "An error reply is address, 50h, code, checksum"; other data stands from place 2 of the room on; the state is the one after the work
 unfoldable pub replyOf : meaning.Plate → meaning.State → ℕ → Answer → List ℕ → List ℕ
-replyOf p s c (Refuse e) w = message p s 0x50 (e ∷ [])
-replyOf p s c (Accept n) w = message p s c (part w 2 n)
+replyOf p s c (Refuse e) w = message s 0x50 (e ∷ [])
+replyOf p s c (Accept n) w = message s c (part w 2 n)
 replyOf p s c Quiet w = []
 
 -- a reply may be written
@@ -85,7 +85,7 @@ pub record Answerable (p : Plate) (w : List ℕ) : Type 0 where
 
 -- 01, "judged in this order", 1 to 6: a frame that is no request, by its error code; 00h is silence
 unfoldable pub faultReply : meaning.Plate → meaning.State → ℕ → List ℕ
-faultReply p s e = pick (eqb e 0) [] (message p s 0x50 (e ∷ []))
+faultReply p s e = pick (eqb e 0) [] (message s 0x50 (e ∷ []))
 
 pub record Refused (p : meaning.Plate) (s : State) (e : ℕ) (w : List ℕ) (r : ℕ) (w′ : List ℕ) : Type 0 where
   pub count : r ≡ length (faultReply p (stateWith s none) e)
@@ -107,10 +107,10 @@ pub record Sends (p : meaning.Plate) (s : State) (c : ℕ) (x : Answer) (w : Lis
 
 -- what a request c with the data d leaves, once it is worked and answered: the state t, and n reply bytes at the room's front
 pub record Serves (p : meaning.Plate) (s : State) (c : ℕ) (d m w : List ℕ) (t : State) (n : ℕ) (m′ w′ : List ℕ) : Type 0 where
-  pub state : stateWith t none ≡ (outcome p (stateWith s none) m c (worked (commandOf c) p (stateWith s none) m d)) .state
-  pub sent : n ≡ length ((outcome p (stateWith s none) m c (worked (commandOf c) p (stateWith s none) m d)) .reply)
-  pub memory : m′ ≡ (outcome p (stateWith s none) m c (worked (commandOf c) p (stateWith s none) m d)) .memory
-  pub room : w′ ≡ put w 0 ((outcome p (stateWith s none) m c (worked (commandOf c) p (stateWith s none) m d)) .reply)
+  pub state : stateWith t none ≡ (outcome (stateWith s none) m c (worked (commandOf c) p (stateWith s none) m d)) .state
+  pub sent : n ≡ length ((outcome (stateWith s none) m c (worked (commandOf c) p (stateWith s none) m d)) .reply)
+  pub memory : m′ ≡ (outcome (stateWith s none) m c (worked (commandOf c) p (stateWith s none) m d)) .memory
+  pub room : w′ ≡ put w 0 ((outcome (stateWith s none) m c (worked (commandOf c) p (stateWith s none) m d)) .reply)
 
 -- what a closed frame leaves: the meaning's work on a board with no frame open
 pub record Closes (p : meaning.Plate) (s : State) (f : OpenFrame) (kept m w : List ℕ) (r : Closed) (m′ w′ : List ℕ) : Type 0 where

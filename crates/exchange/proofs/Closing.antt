@@ -27,7 +27,7 @@ use Rattle.exchange.proofs.Running.{kept-begun, Runs, runs, pause-close
 
 -- 01, "judged in this order", 1: a frame of three bytes or more for another address
 elsewhere : (p : Plate) (s : State) (m : List ℕ) (now : ℕ) (q : List ℕ) → characters.over p s now ≡ true → s .line .kept ≡ q → 3 ≤ length q
-    → ours p (resting s) q ≡ false → step p s m (poll now) ≡ still (resting s) m
+    → ours (resting s) q ≡ false → step p s m (poll now) ≡ still (resting s) m
 unfolding step upTo frames.close work ending closed leaves ours still ownByte resting
 elsewhere p s m now q o e long away = rw (o, e, le-ltb (length q) 3 long, away)
 
@@ -71,7 +71,7 @@ module _ (p : Plate) (s : State) (m : List ℕ) (tick spacing : ℕ) (a c : ℕ)
   all = runs p s m tick spacing q idle low close short (length q) (omega arith)
 
   -- Demand 2, for this board
-  answered-here : T (either (eqb a (ownByte p s)) (eqb a 0xFF)) → step p ((runFrom p s m gs) .state) m (poll now) ≡ meant p (resting s) m c d
+  answered-here : T (either (eqb a (ownByte s)) (eqb a 0xFF)) → step p ((runFrom p s m gs) .state) m (poll now) ≡ meant p (resting s) m c d
   unfolding runFrom closes
   answered-here h =
       let w : Sent p s m a c d = record { address = home; size = size; ours = h; may = may } in
@@ -81,19 +81,19 @@ module _ (p : Plate) (s : State) (m : List ℕ) (tick spacing : ℕ) (a c : ℕ)
       ∙ poll-works p s m gs a c d t now o
       ∙ ap (λ (x : State). meant p x m c d) (all .rests)
 
-  answered-elsewhere : either (eqb a (ownByte p s)) (eqb a 0xFF) ≡ false → step p ((runFrom p s m gs) .state) m (poll now) ≡ still (resting s) m
+  answered-elsewhere : either (eqb a (ownByte s)) (eqb a 0xFF) ≡ false → step p ((runFrom p s m gs) .state) m (poll now) ≡ still (resting s) m
   unfolding ours ownByte
   answered-elsewhere h =
       let r : State = (runFrom p s m gs) .state in
       let k : r .line .kept ≡ q = kept-begun r q begun-now (all .kept ∙ take-length q) in
-      let away : ours p (resting r) q ≡ false = rw (first-byte a c d) h in
+      let away : ours (resting r) q ≡ false = rw (first-byte a c d) h in
       elsewhere p r m now q over-now k (request-long a c d) away ∙ ap (λ (x : State). still x m) (all .rests)
 
   pub poll-answers : step p ((runFrom p s m gs) .state) m (poll now) ≡ answerTo p (resting s) m a c d
   unfolding answerTo reached ownByte
-  poll-answers = go (either (eqb a (ownByte p s)) (eqb a 0xFF)) refl
+  poll-answers = go (either (eqb a (ownByte s)) (eqb a 0xFF)) refl
     where
-      go : (t : Bool) → either (eqb a (ownByte p s)) (eqb a 0xFF) ≡ t → step p ((runFrom p s m gs) .state) m (poll now) ≡ pick t (meant p (resting s) m c d) (still (resting s) m)
+      go : (t : Bool) → either (eqb a (ownByte s)) (eqb a 0xFF) ≡ t → step p ((runFrom p s m gs) .state) m (poll now) ≡ pick t (meant p (resting s) m c d) (still (resting s) m)
       go true e = answered-here (rw e tt)
       go false e = answered-elsewhere e
 
@@ -113,9 +113,9 @@ module _ (p : Plate) (s : State) (m : List ℕ) (n c : ℕ) (d : List ℕ) (home
 
   pub verdict-answers : judge (request to c d) ((answerTo p s m to c d) .reply) ≡ verdictOn p s m to c d
   unfolding answerTo verdictOn reached still
-  verdict-answers = go (either (eqb to (ownByte p s)) (eqb to 0xFF)) refl
+  verdict-answers = go (either (eqb to (ownByte s)) (eqb to 0xFF)) refl
     where
-      go : (t : Bool) → either (eqb to (ownByte p s)) (eqb to 0xFF) ≡ t
+      go : (t : Bool) → either (eqb to (ownByte s)) (eqb to 0xFF) ≡ t
           → judge (request to c d) ((pick t (meant p s m c d) (still s m)) .reply)
           ≡ pick t (concluded s (worked (commandOf c) p s m d)) (refusal 1)
       go true e = verdict-follows p s m to c d (record { address = home; size = size; ours = rw e tt; may = may })

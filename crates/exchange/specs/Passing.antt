@@ -60,7 +60,7 @@ refusalFor p b n c d spacing q kept m w =
 
 -- 01, "Broadcast FFh is taken too": the address byte is this board's or broadcast
 unfoldable pub reached : Plate → State → ℕ → Bool
-reached p s a = either (eqb a (ownByte p s)) (eqb a 0xFF)
+reached p s a = either (eqb a (ownByte s)) (eqb a 0xFF)
 
 -- what a board with no frame open makes of a request: what its row means; of one for another address, silence
 unfoldable pub answerTo : Plate → State → List ℕ → ℕ → ℕ → List ℕ → Outcome

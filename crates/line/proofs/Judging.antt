@@ -94,11 +94,11 @@ module _ (own : ℕ) (b : characters.Frame) where
       go false true e j = absurd (false≢true e)
 
 -- 01, "judged in this order": the meaning's ending is the one that the judgement names
-pub ends-as-judged : (p : Plate) (s : State) (m : List ℕ) (b : characters.Frame) → ending p s m b ≡ endingBy p s m b (judgementOf (ownByte p s) b)
+pub ends-as-judged : (p : Plate) (s : State) (m : List ℕ) (b : characters.Frame) → ending p s m b ≡ endingBy p s m b (judgementOf (ownByte s) b)
 unfolding ending judgementOf ours addressed frames.judged error
 ends-as-judged p s m b =
     go (worked (commandOf (commandByte (b .bytes))) p s m (dataOf (b .bytes))) refl (ltb (length (b .bytes)) 3)
-    (not (either (eqb (arg (b .bytes) 0) (ownByte p s)) (eqb (arg (b .bytes) 0) 0xFF))) (b .parity) (differ (b .sum) 0) (b .longer)
+    (not (either (eqb (arg (b .bytes) 0) (ownByte s)) (eqb (arg (b .bytes) 0) 0xFF))) (b .parity) (differ (b .sum) 0) (b .longer)
     (not ((row (commandOf (commandByte (b .bytes)))) .known)) (not (asked (commandOf (commandByte (b .bytes))) (dataOf (b .bytes))))
   where
     go : (a : meaning.Answer) → a ≡ worked (commandOf (commandByte (b .bytes))) p s m (dataOf (b .bytes)) → (t u v w x y z : Bool)

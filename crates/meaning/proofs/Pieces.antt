@@ -10,7 +10,8 @@ use lib.Seq.{getD-drop}
 use Rattle.meaning.specs.Bytes.{pick, both, either, arg, part, xorAll}
 use Rattle.meaning.specs.Commands.{commandOf}
 use Rattle.meaning.specs.Frames.{commandByte, dataOf}
-use Rattle.meaning.specs.Bench.{allowed, addressOk, addressFor, boardByte, addressByte, request, written, Verdict, refusal, done, failed, judge, pieceOf, handed}
+use Rattle.meaning.specs.State.{boardByte}
+use Rattle.meaning.specs.Bench.{allowed, addressOk, addressFor, addressByte, request, written, Verdict, refusal, done, failed, judge, pieceOf, handed}
 use Rattle.meaning.specs.Demands.{Grounds, contents, PieceIsData, OnlyRequestsPass}
 use Rattle.meaning.proofs.Steps.{both-0, both-1}
 use Rattle.meaning.proofs.Fitting.{only-if-fits}

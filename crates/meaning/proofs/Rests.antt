@@ -6,9 +6,9 @@ use mathlib.Core.List.{List}
 use lib.Dec.{T, ltb}
 use lib.ListN.{length}
 use Rattle.meaning.specs.Bytes.{pick}
-use Rattle.meaning.specs.State.{Plate, State, withCodes, withCounter, withOffset, withQueue}
-use Rattle.meaning.specs.Commands.{Command, c42, c43, c46, c47, c49, c4A, c4B, c4C, c4D, c4E, c4F, c50, c53, unknown, commandOf, Answer, refuse, accept}
-use Rattle.meaning.specs.Commands.{quiet, error, onField, readPosition, setPosition, readCounter, stepCounter, clearCounter, readField, storeField, fieldStatus, create, modify, delete, shapeField, memoryStatus, setCode, readFault, reset, worked}
+use Rattle.meaning.specs.State.{Plate, State, withCodes, withCounter, withAddress, withOffset, withQueue}
+use Rattle.meaning.specs.Commands.{Command, c42, c43, c46, c47, c49, c4A, c4B, c4C, c4D, c4E, c4F, c50, c52, c53, c55, c56, unknown, commandOf, Answer, refuse, accept}
+use Rattle.meaning.specs.Commands.{quiet, error, onField, readPosition, setPosition, readCounter, stepCounter, clearCounter, readField, storeField, fieldStatus, create, modify, delete, shapeField, memoryStatus, setCode, readFault, readLabel, reset, setAddress, readVersion, worked}
 use Rattle.meaning.specs.Characters.{Frame}
 use Rattle.meaning.specs.Frames.{commandByte, dataOf, ours, judged, short, elsewhere, answered, ending, still, outcome, leaves, work}
 use Rattle.meaning.specs.Demands.{meant}
@@ -26,7 +26,7 @@ module _ (p : Plate) (s : State) (m : List ℕ) (d : List ℕ) where
   go = through Rested (λ e. tt)
 
   rested : (k : Command) → Rested (worked k p s m d)
-  unfolding worked readPosition setPosition readCounter stepCounter clearCounter onField readField storeField fieldStatus create modify delete shapeField memoryStatus setCode readFault reset withCodes withCounter withOffset withQueue
+  unfolding worked readPosition setPosition readCounter stepCounter clearCounter onField readField storeField fieldStatus create modify delete shapeField memoryStatus setCode readFault readLabel reset setAddress readVersion withCodes withCounter withAddress withOffset withQueue
   rested c42 = go _ _ _ (λ _. refl)
   rested c43 = go _ _ _ (λ _. go _ _ _ (λ _. go _ _ _ (λ _. refl)))
   rested c46 = refl
@@ -42,10 +42,13 @@ module _ (p : Plate) (s : State) (m : List ℕ) (d : List ℕ) where
   rested c4E = go _ _ _ (λ _. refl)
   rested c4F = go _ _ _ (λ _. go _ _ _ (λ _. refl))
   rested c50 = refl
+  rested c52 = refl
   rested c53 = refl
+  rested c55 = go _ _ _ (λ _. go _ _ _ (λ _. refl))
+  rested c56 = refl
   rested unknown = tt
 
-  answer-rests : (c : ℕ) (a : Answer) → Rested a → (outcome p s m c a) .state .line ≡ s .line
+  answer-rests : (c : ℕ) (a : Answer) → Rested a → (outcome s m c a) .state .line ≡ s .line
   unfolding outcome
   answer-rests c (refuse e) h = refl
   answer-rests c (accept r s′ m′) h = h
@@ -65,9 +68,9 @@ module _ (p : Plate) (s : State) (m : List ℕ) (b : Frame) where
 
   pub work-rests : (work p s m b) .state .line ≡ s .line
   unfolding work ending leaves still
-  work-rests = by (ltb (length (b .bytes)) 3) (not (ours p s (b .bytes)))
+  work-rests = by (ltb (length (b .bytes)) 3) (not (ours s (b .bytes)))
     where
-      by : (x y : Bool) → (leaves p s m (commandByte (b .bytes)) (pick x short (pick y elsewhere (answered (judged p s m b))))) .state .line ≡ s .line
+      by : (x y : Bool) → (leaves s m (commandByte (b .bytes)) (pick x short (pick y elsewhere (answered (judged p s m b))))) .state .line ≡ s .line
       by true y = refl
       by false true = refl
       by false false = answer-rests p s m (dataOf (b .bytes)) (commandByte (b .bytes)) (judged p s m b) judged-rests

@@ -27,7 +27,7 @@ same-eq (a ∷ x) (b ∷ y) h = ap₂ (λ (c : ℕ) (z : List ℕ). c ∷ z) (eq
 -- a board with no frame open whose frame is put away
 put-away : (s : State) → s .line ≡ none → resting s ≡ s
 unfolding resting withLine
-put-away s e = λ i. record { codes = s .codes; counter = s .counter; offset = s .offset; measured = s .measured; queue = s .queue; locked = s .locked; line = sym e i }
+put-away s e = λ i. record { codes = s .codes; counter = s .counter; address = s .address; offset = s .offset; measured = s .measured; queue = s .queue; locked = s .locked; line = sym e i }
 
 plays : (p : Plate) (s : State) (m : List ℕ) (ls : List Heard) → s .line ≡ none → T (fits p s m ls) → PlayedInTurn p s m ls
 unfolding none

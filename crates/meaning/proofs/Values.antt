@@ -1,40 +1,48 @@
 -- Values of the definitions, computed: for each the two that tell it from a wrong one (docs/CONTRACTS.md, "Rules out"). Assumes nothing.
-use Prim.Native.Nat.{ℕ, _+_, _*_, _^_, _-_}
+use Prim.Native.Nat.{ℕ, zero, suc, _+_, _*_, _^_, _-_}
 use mathlib.Core.Path.{_≡_, refl}
 use mathlib.Core.Bool.{true, false}
 use mathlib.Core.List.{List, [], _∷_, _++_}
 use lib.ListN.{replicate}
-use Rattle.meaning.specs.Bytes.{zeros, put, blank, among, number, bytes3, bytes4, xorAll, xorFrom, same}
-use Rattle.meaning.specs.State.{Plate, State, none, plateOk, fresh, withCodes, withCounter, withOffset, withMeasured, withQueue, withLock, withLine, locks, queueable, apart, stateOk, code, queued, noted, poweredOn, position, offsetFor, ownByte}
+use Rattle.meaning.specs.Bytes.{zeros, part, put, blank, among, number, bytes3, bytes4, xorAll, xorFrom, same}
+use Rattle.meaning.specs.State.{Plate, State, none, plateOk, fresh, withCodes, withCounter, withAddress, withOffset, withMeasured, withQueue, withLock, withLine, locks, queueable, apart, stateOk, code, queued, noted, poweredOn, position, offsetFor, ownByte, boardByte}
 use Rattle.meaning.specs.Fields.{blocks, coded, codeNo, writable, exists, table, fieldCount, used, sound, freeBlocks, statusAt, survey, clear, putStatus}
 use Rattle.meaning.specs.Commands.{commandOf, lengthFits, counted, row, asked, Answer, refuse, accept, error, choose, wrongCode, readPosition, setPosition, readCounter, stepCounter}
-use Rattle.meaning.specs.Commands.{clearCounter, onField, readField, storeField, fieldStatus, create, resize, modify, delete, shapeField, freeByte, memoryStatus, setCode, readFault, reset}
+use Rattle.meaning.specs.Commands.{clearCounter, onField, readField, storeField, fieldStatus, create, resize, modify, delete, shapeField, freeByte, memoryStatus, setCode, readFault, readLabel, reset, setAddress, readVersion}
 use Rattle.meaning.specs.Characters.{gap, over, more}
-use Rattle.meaning.specs.Frames.{commandByte, dataOf, ours, judged, elsewhere, answered, ending, still, warned}
+use Rattle.meaning.specs.Frames.{commandByte, dataOf, ours, judged, elsewhere, answered, ending, still, warned, sealed, message, outcome}
 use Rattle.meaning.specs.Run.{poll, measured, power-on, step, lends, refusedBy}
-use Rattle.meaning.specs.Bench.{writes, written, addressOk, addressByte, boardByte, allowed, inRange, bad, branch, warning, bare, fromAsked, errorReply, rightLength, repeated, content, judge, pieceOf, handed}
+use Rattle.meaning.specs.Bench.{writes, written, addressOk, addressByte, allowed, inRange, bad, branch, warning, bare, fromAsked, rightAddress, errorReply, rightLength, repeated, content, judge, pieceOf, handed}
 
--- the plate of the sheet with eight blocks, its fresh state and blank memory
+-- so many numbers from one on
+abbrev upFrom : ℕ → ℕ → List ℕ
+upFrom n zero = []
+upFrom n (suc k) = n ∷ upFrom (suc n) k
+
+-- the plate of the sheet with eight blocks and label bytes that tell their place, its fresh state and blank memory
 abbrev eight : Plate
-eight = record { total = 8; bits = 24; address = 0; ticks = 4; pause = 55 }
+eight = record { total = 8; bits = 24; address = 0; ticks = 4; pause = 55; label = upFrom 1 41 }
 
 abbrev new : State
 new = fresh eight
 
 -- a state whose parts all differ
 abbrev full : State
-full = record { codes = 1 ∷ 2 ∷ 3 ∷ 4 ∷ []; counter = 5; offset = 6; measured = 7; queue = 8 ∷ []; locked = true; line = none }
+full = record { codes = 1 ∷ 2 ∷ 3 ∷ 4 ∷ []; counter = 5; address = 7; offset = 6; measured = 7; queue = 8 ∷ []; locked = true; line = none }
 
 -- three status bytes behind the data of eight blocks, the rest 00h
 abbrev tabled : ℕ → ℕ → ℕ → List ℕ
 tabled a b c = zeros 128 ++ (a ∷ b ∷ c ∷ zeros 5)
 
-pub plate-values : (plateOk (record { total = 113; bits = 24; address = 0; ticks = 4; pause = 55 }) ≡ false) × (plateOk (record { total = 8; bits = 24; address = 0; ticks = 3; pause = 55 }) ≡ false)
+pub plate-values : (plateOk (record { total = 113; bits = 24; address = 0; ticks = 4; pause = 55; label = zeros 41 }) ≡ false)
+    × (plateOk (record { total = 8; bits = 24; address = 0; ticks = 3; pause = 55; label = zeros 41 }) ≡ false)
+    × (plateOk (record { total = 8; bits = 24; address = 0; ticks = 4; pause = 55; label = zeros 40 }) ≡ false)
 unfolding plateOk among
-plate-values = (refl, refl)
+plate-values = (refl, refl, refl)
 
-pub own-byte-values : (ownByte (record { total = 8; bits = 24; address = 31; ticks = 4; pause = 55 }) new ≡ 0x5F) × (ownByte eight new ≡ 0x40)
-unfolding ownByte
+-- by the state's address, whatever the plate's
+pub own-byte-values : (ownByte (withAddress new 31) ≡ 0x5F) × (ownByte new ≡ 0x40)
+unfolding ownByte fresh withAddress
 own-byte-values = (refl, refl)
 
 -- a clock stepped back by one tick, and one that wrapped
@@ -58,7 +66,7 @@ more-values = (refl, refl, refl)
 pub ending-values : (ending eight new [] (record { bytes = 0x40 ∷ 0x4E ∷ 0x0F ∷ []; sum = 1; longer = false; parity = true }) ≡ answered (refuse 0x09))
     × (ending eight new [] (record { bytes = 0x40 ∷ 0x44 ∷ 0x00 ∷ 0x04 ∷ []; sum = 0; longer = false; parity = false }) ≡ answered (refuse 0x0B))
     × (ending eight new [] (record { bytes = 0x60 ∷ 0x4E ∷ 0x2E ∷ []; sum = 0; longer = false; parity = false }) ≡ elsewhere)
-unfolding ending ours ownByte judged error commandByte commandOf row
+unfolding ending ours ownByte judged error commandByte commandOf row fresh
 ending-values = (refl, refl, refl)
 
 -- a fifth code and one that waits already are dropped
@@ -81,9 +89,9 @@ pub reset-values : (reset eight (withLock (withQueue new (0x1E ∷ [])) true) []
 unfolding reset poweredOn fresh withQueue withLock withLine
 reset-values = (refl, refl)
 
--- power-on empties the queue, unlocks and drops the frame unjudged; codes, counter, offset and measured position stay
+-- power-on empties the queue, unlocks and drops the frame unjudged; codes, counter, address, offset and measured position stay
 pub power-on-values : step eight (withLine full (record { begun = true; kept = 9 ∷ []; sum = 9; longer = true; parity = true; last = 9 })) [] power-on
-    ≡ still (record { codes = 1 ∷ 2 ∷ 3 ∷ 4 ∷ []; counter = 5; offset = 6; measured = 7; queue = []; locked = false; line = none }) []
+    ≡ still (record { codes = 1 ∷ 2 ∷ 3 ∷ 4 ∷ []; counter = 5; address = 7; offset = 6; measured = 7; queue = []; locked = false; line = none }) []
 unfolding step still poweredOn withQueue withLock withLine
 power-on-values = refl
 
@@ -107,22 +115,23 @@ pub fresh-values : (code new 3 ≡ 0x55) × ((fresh eight) .line .begun ≡ fals
 unfolding code fresh none
 fresh-values = (refl, refl)
 
-pub state-values : (stateOk eight (withCounter new 0x1000000) ≡ false) × (stateOk eight (withOffset new (2 ^ 24)) ≡ false)
-unfolding stateOk fresh withCounter withOffset
-state-values = (refl, refl)
+pub state-values : (stateOk eight (withCounter new 0x1000000) ≡ false) × (stateOk eight (withOffset new (2 ^ 24)) ≡ false) × (stateOk eight (withAddress new 32) ≡ false)
+unfolding stateOk fresh none apart withCounter withAddress withOffset
+state-values = (refl, refl, refl)
 
 -- the size of P = 32 and of P = 1
 pub size-values : (2 ^ 32 ≡ 4294967296) × (2 ^ 1 ≡ 2)
 size-values = (refl, refl)
 
 -- each sets its own part, and all else stays
-pub with-values : (withCodes full (1 ∷ 9 ∷ 3 ∷ 4 ∷ []) ≡ record { codes = 1 ∷ 9 ∷ 3 ∷ 4 ∷ []; counter = 5; offset = 6; measured = 7; queue = 8 ∷ []; locked = true; line = none })
-    × (withCounter full 9 ≡ record { codes = 1 ∷ 2 ∷ 3 ∷ 4 ∷ []; counter = 9; offset = 6; measured = 7; queue = 8 ∷ []; locked = true; line = none })
-    × (withOffset full 9 ≡ record { codes = 1 ∷ 2 ∷ 3 ∷ 4 ∷ []; counter = 5; offset = 9; measured = 7; queue = 8 ∷ []; locked = true; line = none })
-    × (withMeasured full 9 ≡ record { codes = 1 ∷ 2 ∷ 3 ∷ 4 ∷ []; counter = 5; offset = 6; measured = 9; queue = 8 ∷ []; locked = true; line = none })
-    × (withLock (withQueue full (9 ∷ [])) false ≡ record { codes = 1 ∷ 2 ∷ 3 ∷ 4 ∷ []; counter = 5; offset = 6; measured = 7; queue = 9 ∷ []; locked = false; line = none })
-unfolding withCodes withCounter withOffset withMeasured withQueue withLock
-with-values = (refl, refl, refl, refl, refl)
+pub with-values : (withCodes full (1 ∷ 9 ∷ 3 ∷ 4 ∷ []) ≡ record { codes = 1 ∷ 9 ∷ 3 ∷ 4 ∷ []; counter = 5; address = 7; offset = 6; measured = 7; queue = 8 ∷ []; locked = true; line = none })
+    × (withCounter full 9 ≡ record { codes = 1 ∷ 2 ∷ 3 ∷ 4 ∷ []; counter = 9; address = 7; offset = 6; measured = 7; queue = 8 ∷ []; locked = true; line = none })
+    × (withAddress full 9 ≡ record { codes = 1 ∷ 2 ∷ 3 ∷ 4 ∷ []; counter = 5; address = 9; offset = 6; measured = 7; queue = 8 ∷ []; locked = true; line = none })
+    × (withOffset full 9 ≡ record { codes = 1 ∷ 2 ∷ 3 ∷ 4 ∷ []; counter = 5; address = 7; offset = 9; measured = 7; queue = 8 ∷ []; locked = true; line = none })
+    × (withMeasured full 9 ≡ record { codes = 1 ∷ 2 ∷ 3 ∷ 4 ∷ []; counter = 5; address = 7; offset = 6; measured = 9; queue = 8 ∷ []; locked = true; line = none })
+    × (withLock (withQueue full (9 ∷ [])) false ≡ record { codes = 1 ∷ 2 ∷ 3 ∷ 4 ∷ []; counter = 5; address = 7; offset = 6; measured = 7; queue = 9 ∷ []; locked = false; line = none })
+unfolding withCodes withCounter withAddress withOffset withMeasured withQueue withLock
+with-values = (refl, refl, refl, refl, refl, refl)
 
 -- high byte first; a locked position is not told
 pub position-values : (readPosition eight (withMeasured new 0x010203) [] [] ≡ accept (0 ∷ 1 ∷ 2 ∷ 3 ∷ []) (withMeasured new 0x010203) []) × (readPosition eight (withLock new true) [] [] ≡ refuse 0x02)
@@ -148,6 +157,33 @@ counter-values = (refl, refl, refl)
 pub set-code-values : (setCode eight new [] (4 ∷ 0 ∷ 0 ∷ []) ≡ refuse 0x0D) × (setCode eight new [] (2 ∷ 0x55 ∷ 0x66 ∷ []) ≡ accept (2 ∷ []) (withCodes new (0x55 ∷ 0x55 ∷ 0x66 ∷ 0x55 ∷ [])) [])
 unfolding setCode error code fresh withCodes
 set-code-values = (refl, refl)
+
+-- the code before the address; 3Fh and 60h are none, 40h and 5Fh are; the reply carries the new address, an error reply the old
+pub set-address-values : (setAddress eight new [] (0x60 ∷ 0x54 ∷ []) ≡ refuse 0x0F)
+    × (setAddress eight new [] (0x60 ∷ 0x55 ∷ []) ≡ refuse 0x0D)
+    × (setAddress eight new [] (0x3F ∷ 0x55 ∷ []) ≡ refuse 0x0D)
+    × (setAddress eight new [] (0x40 ∷ 0x55 ∷ []) ≡ accept [] (withAddress new 0) [])
+    × (setAddress eight new [] (0x5F ∷ 0x55 ∷ []) ≡ accept [] (withAddress new 31) [])
+    × ((outcome new [] 0x55 (accept [] (withAddress new 5) [])) .reply ≡ 0x45 ∷ 0x55 ∷ 0x10 ∷ [])
+    × ((outcome new [] 0x55 (refuse 0x0D)) .reply ≡ 0x40 ∷ 0x50 ∷ 0x0D ∷ 0x1D ∷ [])
+unfolding setAddress boardByte error code fresh withAddress outcome message sealed xorAll xorFrom warned ownByte
+set-address-values = (refl, refl, refl, refl, refl, refl, refl)
+
+-- the type label is the plate's first four label bytes, whatever is locked; serial number, version and date are the other 37
+pub label-values : (readLabel eight (withLock new true) [] [] ≡ accept (1 ∷ 2 ∷ 3 ∷ 4 ∷ []) (withLock new true) []) × (readVersion eight new [] [] ≡ accept (upFrom 5 37) new [])
+unfolding readLabel readVersion part
+label-values = (refl, refl)
+
+-- B3: the good reply to 55h carries the new address and not the old, an error reply the old; a byte that is no address fits none; to broadcast the new one alone
+pub right-address-values : (rightAddress (0x40 ∷ 0x55 ∷ 0x45 ∷ 0x55 ∷ 0x05 ∷ []) (0x45 ∷ 0xD5 ∷ 0x90 ∷ []) ≡ true)
+    × (rightAddress (0x40 ∷ 0x55 ∷ 0x45 ∷ 0x55 ∷ 0x05 ∷ []) (0x40 ∷ 0x55 ∷ 0x15 ∷ []) ≡ false)
+    × (rightAddress (0x40 ∷ 0x55 ∷ 0x45 ∷ 0x55 ∷ 0x05 ∷ []) (0x40 ∷ 0x50 ∷ 0x0F ∷ 0x1F ∷ []) ≡ true)
+    × (rightAddress (0x40 ∷ 0x55 ∷ 0x45 ∷ 0x55 ∷ 0x05 ∷ []) (0x45 ∷ 0x50 ∷ 0x0F ∷ 0x1A ∷ []) ≡ false)
+    × (rightAddress (0x40 ∷ 0x55 ∷ 0xFF ∷ 0x55 ∷ 0xBF ∷ []) (0xFF ∷ 0x55 ∷ 0xAA ∷ []) ≡ false)
+    × (rightAddress (0xFF ∷ 0x55 ∷ 0x45 ∷ 0x55 ∷ 0xBA ∷ []) (0x46 ∷ 0x55 ∷ 0x13 ∷ []) ≡ false)
+    × (rightAddress (0xFF ∷ 0x55 ∷ 0x45 ∷ 0x55 ∷ 0xBA ∷ []) (0x46 ∷ 0x50 ∷ 0x0F ∷ 0x19 ∷ []) ≡ true)
+unfolding rightAddress fromAsked boardByte bare commandByte
+right-address-values = (refl, refl, refl, refl, refl, refl, refl)
 
 -- a field behind 00h makes the table unsound and is not counted; the free blocks are what the fields leave
 pub survey-values : ((survey 8 (tabled 0xC0 0 0xC0) 0) .trusted ≡ false) × ((survey 8 (tabled 0xC0 0 0xC0) 0) .fields ≡ 1) × ((survey 8 (tabled 0xC1 0xC2 0) 0) .free ≡ 3)
@@ -207,7 +243,7 @@ unfolding shapeField choose error create modify delete clear putStatus put surve
 delete-values = (refl, refl, refl, refl)
 
 -- R1 before R2; a room of 133 bytes is R3
-pub refused-values : (refusedBy (record { total = 0; bits = 24; address = 0; ticks = 4; pause = 55 }) new [] 134 (poll 0) ≡ 1) × (refusedBy eight new (zeros 136) 133 (poll 0) ≡ 3) × (refusedBy eight new [] 0 (measured 7) ≡ 0)
+pub refused-values : (refusedBy (record { total = 0; bits = 24; address = 0; ticks = 4; pause = 55; label = zeros 41 }) new [] 134 (poll 0) ≡ 1) × (refusedBy eight new (zeros 136) 133 (poll 0) ≡ 3) × (refusedBy eight new [] 0 (measured 7) ≡ 0)
 unfolding refusedBy plateOk stateOk lends among apart fresh none
 refused-values = (refl, refl, refl)
 
@@ -225,5 +261,5 @@ writes-values = (refl, refl)
 -- the four position bytes from place 2 on; the empty piece at the front where the checksum is wrong
 pub handed-values : (handed (0x40 ∷ 0x42 ∷ 0x02 ∷ []) (0x40 ∷ 0x42 ∷ 0 ∷ 1 ∷ 2 ∷ 3 ∷ 0x02 ∷ []) ≡ record { from = 2; count = 4 })
     × (handed (0x40 ∷ 0x42 ∷ 0x02 ∷ []) (0x40 ∷ 0x42 ∷ 0 ∷ 1 ∷ 2 ∷ 3 ∷ 0x03 ∷ []) ≡ record { from = 0; count = 0 })
-unfolding handed pieceOf judge bad branch written addressByte boardByte allowed asked inRange row commandOf commandByte lengthFits dataOf fromAsked bare content errorReply rightLength repeated warning xorAll xorFrom same
+unfolding handed pieceOf judge bad branch written addressByte boardByte allowed asked inRange row commandOf commandByte lengthFits dataOf rightAddress fromAsked bare content errorReply rightLength repeated warning xorAll xorFrom same
 handed-values = (refl, refl)

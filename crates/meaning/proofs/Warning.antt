@@ -20,7 +20,7 @@ abbrev Warns : Outcome → Type 0
 Warns o = 0 < length (o .reply) → warning (o .reply) ≡ waits (o .state .queue)
 
 module _ (p : Plate) (s : State) (m : List ℕ) where
-  message-warns : (c : ℕ) (d : List ℕ) → warning (message p s c d) ≡ waits (s .queue)
+  message-warns : (c : ℕ) (d : List ℕ) → warning (message s c d) ≡ waits (s .queue)
   unfolding warning message sealed
   message-warns c d = warning-is c (s .queue)
 
@@ -28,7 +28,7 @@ module _ (p : Plate) (s : State) (m : List ℕ) (b : Frame) where
   abbrev c : ℕ
   c = commandByte (b .bytes)
 
-  by-answer : (a : Answer) → Warns (outcome p s m c a)
+  by-answer : (a : Answer) → Warns (outcome s m c a)
   unfolding outcome
   by-answer (refuse e) h = message-warns p s m 0x50 _
   by-answer (accept d s′ m′) h = message-warns p s′ m c d
@@ -36,9 +36,9 @@ module _ (p : Plate) (s : State) (m : List ℕ) (b : Frame) where
 
   work-warns : Warns (work p s m b)
   unfolding work ending leaves still
-  work-warns = by (ltb (length (b .bytes)) 3) (not (ours p s (b .bytes)))
+  work-warns = by (ltb (length (b .bytes)) 3) (not (ours s (b .bytes)))
     where
-      by : (x y : Bool) → Warns (leaves p s m c (pick x short (pick y elsewhere (answered (judged p s m b)))))
+      by : (x y : Bool) → Warns (leaves s m c (pick x short (pick y elsewhere (answered (judged p s m b)))))
       by true y h = absurd (omega arith)
       by false true h = absurd (omega arith)
       by false false h = by-answer (judged p s m b) h

@@ -80,7 +80,7 @@ unfolding mayChange
 by-command c n e low h = ap (λ (x : ℕ). among x (0x43 ∷ 0x47 ∷ 0x49 ∷ 0x4B ∷ 0x4D ∷ 0x4F ∷ [])) (mod-eq-of-lt low ∙ sym e) ∙ h
 
 module _ (p : Plate) (s : State) (m : List ℕ) where
-  keeps-outcome : (c : ℕ) (a : Answer) → KeepsBy s m c a → Tells ((outcome p s m c a) .reply) → Keeps s m ((outcome p s m c a) .state) ((outcome p s m c a) .memory)
+  keeps-outcome : (c : ℕ) (a : Answer) → KeepsBy s m c a → Tells ((outcome s m c a) .reply) → Keeps s m ((outcome s m c a) .state) ((outcome s m c a) .memory)
   unfolding outcome message sealed
   keeps-outcome c (refuse e) k h = record { codes = refl; counter = refl; offset = refl; memory = refl }
   keeps-outcome c (accept d s′ m′) k h = k .1 (by-command c _ (reply-command p s′ c d (k .0)) (k .0) (h (omega arith)))
@@ -95,9 +95,9 @@ module _ (p : Plate) (s : State) (m : List ℕ) where
 
   keeps-work : (b : Frame) → Tells ((work p s m b) .reply) → Keeps s m ((work p s m b) .state) ((work p s m b) .memory)
   unfolding work ending leaves still
-  keeps-work b = by (ltb (length (b .bytes)) 3) (not (ours p s (b .bytes)))
+  keeps-work b = by (ltb (length (b .bytes)) 3) (not (ours s (b .bytes)))
     where
-      by : (q u : Bool) → let o = leaves p s m (commandByte (b .bytes)) (pick q short (pick u elsewhere (answered (judged p s m b)))) in Tells (o .reply) → Keeps s m (o .state) (o .memory)
+      by : (q u : Bool) → let o = leaves s m (commandByte (b .bytes)) (pick q short (pick u elsewhere (answered (judged p s m b)))) in Tells (o .reply) → Keeps s m (o .state) (o .memory)
       by true u h = record { codes = refl; counter = refl; offset = refl; memory = refl }
       by false true h = record { codes = refl; counter = refl; offset = refl; memory = refl }
       by false false h = keeps-outcome (commandByte (b .bytes)) (judged p s m b) (keeps-judged b) h

@@ -143,20 +143,20 @@ pub qs-free-by-traffic : QsFreeByTraffic
 unfolding meant commandOf worked outcome
 qs-free-by-traffic p t img m y a z A =
     qs-replies-as-meant p t img m y a 0x4E [] z A
-    ∙ ap (λ (b : Answer). (outcome p (resting (stateHeld img)) m 0x4E b) .reply)
+    ∙ ap (λ (b : Answer). (outcome (resting (stateHeld img)) m 0x4E b) .reply)
     (where-closes-next p t img m y
     (λ (s : meaning.State) (m : List ℕ) (t : List Heard). memoryStatus p (resting s) m [] ≡ accept (freeByte (p .total + back t - granted t) ∷ fieldsOf t ∷ []) (resting s) m)
     (λ gs. free-by-traffic p gs (resting ((run p gs) .state))) z)
 
 -- the bytes in the reply of an answer to 4Ah
 module _ (p : Plate) (s : meaning.State) (m : List ℕ) (t : List Heard) (d : List ℕ) where
-  brought : (b : Answer) → BringsTold t d b → bare ((outcome p s m 0x4A b) .reply) ≡ 0x4A
-      → (i : ℕ) → i < arg d 2 → getD (drop 3 (dataOf ((outcome p s m 0x4A b) .reply))) i 0 ≡ byteOf t (arg d 0) (arg d 1 + i)
+  brought : (b : Answer) → BringsTold t d b → bare ((outcome s m 0x4A b) .reply) ≡ 0x4A
+      → (i : ℕ) → i < arg d 2 → getD (drop 3 (dataOf ((outcome s m 0x4A b) .reply))) i 0 ≡ byteOf t (arg d 0) (arg d 1 + i)
   unfolding outcome bare message
   brought (refuse e) h k i l =
-      let c : getD (message p s 0x50 (e ∷ [])) 1 0 % 128 ≡ 0x50 = reply-command p s 0x50 (e ∷ []) (lit< tt) in
+      let c : getD (message s 0x50 (e ∷ [])) 1 0 % 128 ≡ 0x50 = reply-command p s 0x50 (e ∷ []) (lit< tt) in
       absurd (omega (arith, c))
-  brought (accept r s′ m′) h k i l = rw (data-sealed (ownByte p s′) (warned 0x4A (s′ .queue)) r) (h i l)
+  brought (accept r s′ m′) h k i l = rw (data-sealed (ownByte s′) (warned 0x4A (s′ .queue)) r) (h i l)
   brought (quiet s′ m′) h k i l = absurd (omega arith)
 
 pub qs-reads-by-traffic : QsReadsByTraffic

@@ -96,7 +96,7 @@ QsRefusedForRoom = (p : Plate) (t : List Heard) (img m y : List ℕ) → ClosesN
 -- the open frame is the request with address a, command c and data d, one that the bench writes, and for this board
 pub record HoldsRequest (p : Plate) (img : List ℕ) (a c : ℕ) (d : List ℕ) : Type 0 where
   pub frame : closed ((stateHeld img) .line) ≡ whole (request a c d)
-  pub ours : T (either (eqb a (ownByte p (stateHeld img))) (eqb a 0xFF))
+  pub ours : T (either (eqb a (ownByte (stateHeld img))) (eqb a 0xFF))
   pub may : T (allowed (commandOf c) d)
 
 -- Demand 2: the reply to it is the one that its row means
@@ -106,7 +106,7 @@ QsRepliesAsMeant = (p : Plate) (t : List Heard) (img m y : List ℕ) (a c : ℕ)
 -- Demand 3: 4Eh tells the traffic's free blocks, total less granted plus given back, and its number of fields
 abbrev pub QsFreeByTraffic : Type 0
 QsFreeByTraffic = (p : Plate) (t : List Heard) (img m y : List ℕ) (a : ℕ) → ClosesNext p t img m y → HoldsRequest p img a 0x4E []
-    → y ≡ message p (resting (stateHeld img)) 0x4E (freeByte (p .total + back t - granted t) ∷ fieldsOf t ∷ [])
+    → y ≡ message (resting (stateHeld img)) 0x4E (freeByte (p .total + back t - granted t) ∷ fieldsOf t ∷ [])
 
 -- Demand 3, "each byte": an accepted 4Ah brings, behind field, offset and count, the bytes that the traffic tells
 abbrev pub QsReadsByTraffic : Type 0
