@@ -7,7 +7,8 @@ ghost use lib.Dec.{eqb};
 ghost use lib.ListN.{length};
 ghost use denote.Ref.{ptr};
 ghost use Rattle.meaning.specs.Bytes.{both, either, part};
-ghost use Rattle.meaning.specs.Bench.{boardByte, addressByte, written, fromAsked, errorReply, content, handed};
+ghost use Rattle.meaning.specs.State.{boardByte};
+ghost use Rattle.meaning.specs.Bench.{addressByte, written, fromAsked, rightAddress, errorReply, content, handed};
 ghost use Rattle.meaning.specs.Bench as meaning;
 ghost use Rattle.bench.specs.Outcomes.{verdictOf, withoutData, pieceFrom, pieceBy, Ordinary};
 use crate::bytes::same;
@@ -61,19 +62,10 @@ impl Verdict {
     }
 }
 
-fn is_board(address: u8) -> bool
-    ensures { λ r. ⌜ r ≡ boardByte address ⌝ }
-{
-    if address < 0x40 {
-        return false;
-    }
-    address <= 0x5F
-}
-
 fn is_address(address: u8) -> bool
     ensures { λ r. ⌜ r ≡ addressByte address ⌝ }
 {
-    if is_board(address) {
+    if wire::is_board(address) {
         return true;
     }
     address == BROADCAST
@@ -100,9 +92,33 @@ fn from_asked(asked: u8, answering: u8) -> bool
     ensures { λ r. ⌜ r ≡ fromAsked asked answering ⌝ }
 {
     if asked == BROADCAST {
-        return is_board(answering);
+        return wire::is_board(answering);
     }
     answering == asked
+}
+
+// 02, Req 01: a reply to 55h carries the address that was given, where it is one.
+fn from_new(given: u8, answering: u8) -> bool
+    ensures { λ r. ⌜ r ≡ both (boardByte given) (eqb answering given) ⌝ }
+{
+    if wire::is_board(given) {
+        return answering == given;
+    }
+    false
+}
+
+// B3, by the reply's command: of 55h to a request 55h the new address, else the asked one.
+fn address_fits(request: &[u8], reply: &[u8]) -> bool
+    requires { ⌜ (3 ≤ length (now request)) × (3 ≤ length (now reply)) ⌝ }
+    ensures { λ r. ⌜ r ≡ rightAddress (now (request .entry)) (now (reply .entry)) ⌝ }
+{
+    if request[1] != 0x55 {
+        return from_asked(request[0], reply[0]);
+    }
+    if reply[1] % 128 != 0x55 {
+        return from_asked(request[0], reply[0]);
+    }
+    from_new(request[2], reply[0])
 }
 
 // B4: the command without bit 7 is the request's or 50h.
@@ -174,7 +190,7 @@ pub fn judge(request: &[u8], reply: &[u8]) -> Verdict
     if wire::xor_of(reply) != 0 {
         return Verdict::Refused(Refusal::B2);
     }
-    if !from_asked(request[0], reply[0]) {
+    if !address_fits(request, reply) {
         return Verdict::Refused(Refusal::B3);
     }
     if !command_fits(request[1], reply[1]) {

@@ -5,6 +5,7 @@ ghost use Rattle.meaning.specs.Commands.{commandOf};
 ghost use Rattle.meaning.specs.Bench.{addressOk, addressFor, allowed, writes};
 ghost use Rattle.bench.specs.Outcomes.{writtenOf};
 use wire::codes::BROADCAST;
+use wire::codes::LAST_ADDRESS;
 use wire::codes::LONGEST_REQUEST;
 use wire::codes::MOST_COUNT;
 
@@ -19,7 +20,7 @@ pub enum Written {
 fn address_ok(address: u32) -> bool
     ensures { λ r. ⌜ r ≡ addressOk address ⌝ }
 {
-    if address <= 31 {
+    if address <= LAST_ADDRESS as u32 {
         return true;
     }
     address == 255

@@ -7,7 +7,7 @@ use lib.Dec.{eqb, leb}
 use lib.ListN.{length}
 use Rattle.meaning.specs.Bytes.{pick, both, longestReply, part, put}
 use Rattle.meaning.specs.State as meaning
-use Rattle.meaning.specs.State.{none, lastCount, plateOk}
+use Rattle.meaning.specs.State.{labelLength, lastAddress, none, lastCount, plateOk}
 use Rattle.meaning.specs.Fields.{memoryLength}
 use Rattle.meaning.specs.Commands.{Command, commandOf, asked, worked}
 use Rattle.meaning.specs.Commands as commands
@@ -26,17 +26,19 @@ use Rattle.state.specs.Rows.{Answers}
 use Rattle.board.specs.declared.closing.Closed.{Closed}
 
 -- within the limits, R1 to R3
-pub record Ready (p : Plate) (s : State) (f : OpenFrame) (kept m w : List ℕ) : Type 0 where
-  pub plate : plateOk (plateOf p) ≡ true
+pub record Ready (p : Plate) (label : List ℕ) (s : State) (f : OpenFrame) (kept m w : List ℕ) : Type 0 where
+  pub plate : plateOk (plateOf p label) ≡ true
   pub counter : s .counter ≤ lastCount
+  pub address : s .address ≤ lastAddress
   pub fits : Fits f kept
   pub size : length m ≡ memoryLength (p .total)
   pub room : longestReply ≤ length w
 
 -- .. and a request whose data d has its row's length
-pub record Workable (p : Plate) (s : State) (c : ℕ) (d m w : List ℕ) : Type 0 where
-  pub plate : plateOk (plateOf p) ≡ true
+pub record Workable (p : Plate) (label : List ℕ) (s : State) (c : ℕ) (d m w : List ℕ) : Type 0 where
+  pub plate : plateOk (plateOf p label) ≡ true
   pub counter : s .counter ≤ lastCount
+  pub address : s .address ≤ lastAddress
   pub size : length m ≡ memoryLength (p .total)
   pub room : longestReply ≤ length w
   pub fits : asked (commandOf c) d ≡ true
@@ -65,31 +67,32 @@ pub record Tells (a : commands.Answer) (s : meaning.State) (m w : List ℕ) (r :
   pub state : stateAfter a s ≡ s
 
 -- what the other rows ask
-pub record Changeable (n : ℕ) (s : State) (c : ℕ) (d w : List ℕ) : Type 0 where
+pub record Changeable (n : ℕ) (label : List ℕ) (s : State) (c : ℕ) (d w : List ℕ) : Type 0 where
   pub bits : n ≤ 32
+  pub label-bytes : length label ≡ labelLength
   pub counter : s .counter ≤ lastCount
   pub room : longestReply ≤ length w
   pub fits : asked (commandOf c) d ≡ true
   pub alone : onMemory c ≡ false
 
 -- 01, "An error reply is address, 50h, code, checksum"; other data stands from place 2 of the room on; the state is the one after the work
-unfoldable pub replyOf : meaning.Plate → meaning.State → ℕ → Answer → List ℕ → List ℕ
-replyOf p s c (Refuse e) w = message s 0x50 (e ∷ [])
-replyOf p s c (Accept n) w = message s c (part w 2 n)
-replyOf p s c Quiet w = []
+unfoldable pub replyOf : meaning.State → ℕ → Answer → List ℕ → List ℕ
+replyOf s c (Refuse e) w = message s 0x50 (e ∷ [])
+replyOf s c (Accept n) w = message s c (part w 2 n)
+replyOf s c Quiet w = []
 
 -- a reply may be written
-pub record Answerable (p : Plate) (w : List ℕ) : Type 0 where
-  pub address : p .address ≤ 31
+pub record Answerable (s : State) (w : List ℕ) : Type 0 where
+  pub address : s .address ≤ lastAddress
   pub room : longestReply ≤ length w
 
 -- 01, "judged in this order", 1 to 6: a frame that is no request, by its error code; 00h is silence
-unfoldable pub faultReply : meaning.Plate → meaning.State → ℕ → List ℕ
-faultReply p s e = pick (eqb e 0) [] (message s 0x50 (e ∷ []))
+unfoldable pub faultReply : meaning.State → ℕ → List ℕ
+faultReply s e = pick (eqb e 0) [] (message s 0x50 (e ∷ []))
 
-pub record Refused (p : meaning.Plate) (s : State) (e : ℕ) (w : List ℕ) (r : ℕ) (w′ : List ℕ) : Type 0 where
-  pub count : r ≡ length (faultReply p (stateWith s none) e)
-  pub bytes : w′ ≡ put w 0 (faultReply p (stateWith s none) e)
+pub record Refused (s : State) (e : ℕ) (w : List ℕ) (r : ℕ) (w′ : List ℕ) : Type 0 where
+  pub count : r ≡ length (faultReply (stateWith s none) e)
+  pub bytes : w′ ≡ put w 0 (faultReply (stateWith s none) e)
 
 -- data that a reply has room for
 abbrev pub Brief : Answer → Type 0
@@ -97,13 +100,13 @@ Brief (Refuse e) = Unit
 Brief (Accept n) = n ≤ 131
 Brief Quiet = Unit
 
-pub record Sendable (p : Plate) (x : Answer) (w : List ℕ) : Type 0 where
-  pub ready : Answerable p w
+pub record Sendable (x : Answer) (w : List ℕ) : Type 0 where
+  pub room : longestReply ≤ length w
   pub brief : Brief x
 
-pub record Sends (p : meaning.Plate) (s : State) (c : ℕ) (x : Answer) (w : List ℕ) (r : ℕ) (w′ : List ℕ) : Type 0 where
-  pub count : r ≡ length (replyOf p (stateWith s none) c x w)
-  pub bytes : w′ ≡ put w 0 (replyOf p (stateWith s none) c x w)
+pub record Sends (s : State) (c : ℕ) (x : Answer) (w : List ℕ) (r : ℕ) (w′ : List ℕ) : Type 0 where
+  pub count : r ≡ length (replyOf (stateWith s none) c x w)
+  pub bytes : w′ ≡ put w 0 (replyOf (stateWith s none) c x w)
 
 -- what a request c with the data d leaves, once it is worked and answered: the state t, and n reply bytes at the room's front
 pub record Serves (p : meaning.Plate) (s : State) (c : ℕ) (d m w : List ℕ) (t : State) (n : ℕ) (m′ w′ : List ℕ) : Type 0 where

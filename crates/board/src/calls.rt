@@ -1,10 +1,11 @@
 // What the host calls: a character, a poll, a measured position, a fault, power-on (01, "characters and times in").
 ghost use mathlib.Core.Path.{_≡_};
 ghost use mathlib.Core.List.{List};
-ghost use Prim.Native.Nat.{ℕ};
+ghost use Prim.Native.Nat.{ℕ, _≤_};
 ghost use lib.ListN.{length};
 ghost use Rattle.meaning.specs.Bytes.{longestRequest};
 ghost use Rattle.meaning.specs.State as meaning;
+ghost use Rattle.meaning.specs.State.{lastAddress};
 ghost use Rattle.meaning.specs.Run as run;
 ghost use Rattle.line.specs.Line.{plateOf};
 ghost use Rattle.board.specs.Board.{stateOf, within, takenIf, Steps};
@@ -18,12 +19,14 @@ use line::OpenFrame;
 use line::Plate;
 use state::State;
 
-// 01, "Fresh state". Its limits are the plate's, so a plate beyond its limits is told by the first call.
+// 01, "Fresh state", with the plate's address, whatever the label bytes are. Any other number of the plate that is beyond its limits is told by the
+// first call.
 pub fn fresh(plate: Plate) -> Board
-    ensures { λ r. ⌜ ((kept : List ℕ) → stateOf r kept ≡ meaning.fresh (plateOf plate)) ⌝ }
+    requires { ⌜ plate .address ≤ lastAddress ⌝ }
+    ensures { λ r. ⌜ ((kept l : List ℕ) → stateOf r kept ≡ meaning.fresh (plateOf plate l)) ⌝ }
 {
     Board {
-        state: State::fresh(),
+        state: State::fresh(plate.address as u8),
         frame: OpenFrame::none(),
     }
 }
@@ -38,22 +41,23 @@ fn stepped(state: State, frame: OpenFrame, outcome: Outcome) -> Stepped
 // A poll: an open frame that is over is closed, and nothing else changes.
 pub fn poll(
     plate: Plate,
+    label: &[u8],
     board: Board,
     tick: u32,
     kept: &mut [u8],
     memory: &mut [u8],
     room: &mut [u8],
 ) -> Stepped
-    ensures { λ r. ⌜ Steps (plateOf plate) board (now (kept .entry)) (now (memory .entry)) (now (room .entry)) (run.poll tick) r (now (kept .exit)) (now (memory .exit)) (now (room .exit)) ⌝ }
+    ensures { λ r. ⌜ Steps (plateOf plate (now (label .entry))) board (now (kept .entry)) (now (memory .entry)) (now (room .entry)) (run.poll tick) r (now (kept .exit)) (now (memory .exit)) (now (room .exit)) ⌝ }
 {
-    let refused = refusal(plate, board, kept.len(), memory.len(), room.len());
+    let refused = refusal(plate, label.len(), board, kept.len(), memory.len(), room.len());
     let state = board.state;
     let frame = board.frame;
     if refused.is_refusal() {
         return stepped(state, frame, refused);
     }
     if frame.is_over(plate, tick) {
-        let closed = close(plate, state, frame, kept, memory, room);
+        let closed = close(plate, label, state, frame, kept, memory, room);
         let next = closed.state;
         let sent = closed.sent as usize;
         return stepped(next, OpenFrame::none(), Outcome::Over(sent));
@@ -64,6 +68,7 @@ pub fn poll(
 // A character at its end: first what a poll does by then, so that where the open frame is over the character opens the next.
 pub fn character(
     plate: Plate,
+    label: &[u8],
     board: Board,
     tick: u32,
     value: u8,
@@ -72,9 +77,9 @@ pub fn character(
     memory: &mut [u8],
     room: &mut [u8],
 ) -> Stepped
-    ensures { λ r. ⌜ Steps (plateOf plate) board (now (kept .entry)) (now (memory .entry)) (now (room .entry)) (run.character tick value parity) r (now (kept .exit)) (now (memory .exit)) (now (room .exit)) ⌝ }
+    ensures { λ r. ⌜ Steps (plateOf plate (now (label .entry))) board (now (kept .entry)) (now (memory .entry)) (now (room .entry)) (run.character tick value parity) r (now (kept .exit)) (now (memory .exit)) (now (room .exit)) ⌝ }
 {
-    let polled = poll(plate, board, tick, kept, memory, room);
+    let polled = poll(plate, label, board, tick, kept, memory, room);
     let outcome = polled.outcome;
     let after = polled.board;
     if outcome.is_refusal() {
@@ -86,10 +91,10 @@ pub fn character(
 }
 
 // What lends nothing meets R1 alone; else the board is then as told.
-fn told(plate: Plate, board: Board, next: Board) -> Stepped
-    ensures { λ r. ⌜ ((kept : List ℕ) → length kept ≡ longestRequest → r ≡ takenIf (within (plateOf plate) board kept) board next) ⌝ }
+fn told(plate: Plate, label: &[u8], board: Board, next: Board) -> Stepped
+    ensures { λ r. ⌜ ((kept : List ℕ) → length kept ≡ longestRequest → r ≡ takenIf (within (plateOf plate (now (label .entry))) board kept) board next) ⌝ }
 {
-    if !within_limits(plate, board) {
+    if !within_limits(plate, label.len(), board) {
         let outcome = Outcome::R1;
         return Stepped { board, outcome };
     }
@@ -101,24 +106,24 @@ fn told(plate: Plate, board: Board, next: Board) -> Stepped
 }
 
 // 01, "measured, any 32-bit number": kept as given.
-pub fn measured(plate: Plate, board: Board, position: u32) -> Stepped
-    ensures { λ r. ⌜ ((kept m w : List ℕ) → length kept ≡ longestRequest → Steps (plateOf plate) board kept m w (run.measured position) r kept m w) ⌝ }
+pub fn measured(plate: Plate, label: &[u8], board: Board, position: u32) -> Stepped
+    ensures { λ r. ⌜ ((kept m w : List ℕ) → length kept ≡ longestRequest → Steps (plateOf plate (now (label .entry))) board kept m w (run.measured position) r kept m w) ⌝ }
 {
     let frame = board.frame;
     let state = board.state.with_measured(position);
-    told(plate, board, Board { state, frame })
+    told(plate, label, board, Board { state, frame })
 }
 
 // 01, "The host notes codes".
-pub fn fault(plate: Plate, board: Board, code: u8) -> Stepped
-    ensures { λ r. ⌜ ((kept m w : List ℕ) → length kept ≡ longestRequest → Steps (plateOf plate) board kept m w (run.fault code) r kept m w) ⌝ }
+pub fn fault(plate: Plate, label: &[u8], board: Board, code: u8) -> Stepped
+    ensures { λ r. ⌜ ((kept m w : List ℕ) → length kept ≡ longestRequest → Steps (plateOf plate (now (label .entry))) board kept m w (run.fault code) r kept m w) ⌝ }
 {
-    told(plate, board, board.note(code))
+    told(plate, label, board, board.note(code))
 }
 
 // 01, "Power-on empties the queue, drops an open frame and unlocks; all else stays".
-pub fn power_on(plate: Plate, board: Board) -> Stepped
-    ensures { λ r. ⌜ ((kept m w : List ℕ) → length kept ≡ longestRequest → Steps (plateOf plate) board kept m w run.power-on r kept m w) ⌝ }
+pub fn power_on(plate: Plate, label: &[u8], board: Board) -> Stepped
+    ensures { λ r. ⌜ ((kept m w : List ℕ) → length kept ≡ longestRequest → Steps (plateOf plate (now (label .entry))) board kept m w run.power-on r kept m w) ⌝ }
 {
-    told(plate, board, board.power_on())
+    told(plate, label, board, board.power_on())
 }

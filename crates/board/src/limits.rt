@@ -11,6 +11,7 @@ ghost use Rattle.board.specs.Board.{within, isRefusal, replyLength, refu
 use line::OpenFrame;
 use line::Plate;
 use state::State;
+use wire::codes::LABEL_LENGTH;
 use wire::codes::LONGEST_REPLY;
 use wire::codes::LONGEST_REQUEST;
 
@@ -63,12 +64,15 @@ pub struct Stepped {
 }
 
 // R1 for the calls that lend nothing, and the first of the three for the others.
-pub(crate) fn within_limits(plate: Plate, board: Board) -> bool
-    ensures { λ r. ⌜ ((kept : List ℕ) → length kept ≡ longestRequest → r ≡ within (plateOf plate) board kept) ⌝ }
+pub(crate) fn within_limits(plate: Plate, label: usize, board: Board) -> bool
+    ensures { λ r. ⌜ ((l kept : List ℕ) → length l ≡ label → length kept ≡ longestRequest → r ≡ within (plateOf plate l) board kept) ⌝ }
 {
     let state = board.state;
     let frame = board.frame;
     if !plate.is_ok() {
+        return false;
+    }
+    if label != LABEL_LENGTH {
         return false;
     }
     if (LONGEST_REQUEST as u8) < frame.len {
@@ -77,11 +81,18 @@ pub(crate) fn within_limits(plate: Plate, board: Board) -> bool
     state.is_ok(plate.bits)
 }
 
-// The first refusal that applies, or Still; the sizes are those of the lent places, of memory and of the reply room.
-pub fn refusal(plate: Plate, board: Board, kept: usize, memory: usize, room: usize) -> Outcome
-    ensures { λ r. ⌜ ((k m : List ℕ) (g : Call) → length k ≡ kept → length m ≡ memory → lends g ≡ true → r ≡ refusedAs (refusalOn (plateOf plate) board k m room g) Outcome.Still) ⌝ }
+// The first refusal that applies, or Still; the sizes are those of the label bytes, of the lent places, of memory and of the reply room.
+pub fn refusal(
+    plate: Plate,
+    label: usize,
+    board: Board,
+    kept: usize,
+    memory: usize,
+    room: usize,
+) -> Outcome
+    ensures { λ r. ⌜ ((l k m : List ℕ) (g : Call) → length l ≡ label → length k ≡ kept → length m ≡ memory → lends g ≡ true → r ≡ refusedAs (refusalOn (plateOf plate l) board k m room g) Outcome.Still) ⌝ }
 {
-    let possible = within_limits(plate, board) & (kept == LONGEST_REQUEST);
+    let possible = within_limits(plate, label, board) & (kept == LONGEST_REQUEST);
     let sized = memory as u64 == plate.memory_length();
     if !possible {
         return Outcome::R1;

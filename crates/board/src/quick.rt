@@ -21,7 +21,7 @@ impl Board {
 
     // Whether a character or a poll at that tick closes a frame; one that does is left to `character` or `poll`.
     pub fn is_over(self, plate: Plate, tick: u32) -> bool
-        ensures { λ r. ⌜ ((kept : List ℕ) → r ≡ over (plateOf plate) (stateOf self kept) tick) ⌝ }
+        ensures { λ r. ⌜ ((kept l : List ℕ) → r ≡ over (plateOf plate l) (stateOf self kept) tick) ⌝ }
     {
         let frame = self.frame;
         frame.is_over(plate, tick)

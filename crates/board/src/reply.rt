@@ -1,20 +1,19 @@
 // The reply to a request, from the state after the work (01, "the reply always carries the board's own address").
 ghost use mathlib.Core.Path.{_≡_};
 ghost use Rattle.meaning.specs.Demands.{waits};
-ghost use Rattle.line.specs.Line.{plateOf};
+ghost use Rattle.meaning.specs.State.{none, ownByte};
 ghost use Rattle.state.specs.declared.state.State.{State};
 ghost use Rattle.state.specs.Queue.{queueOf};
+ghost use Rattle.state.specs.State.{stateWith};
 ghost use Rattle.board.specs.Work.{Sendable, Sends};
-use line::Plate;
 use wire::Answer;
 use wire::codes::ERROR_REPLY;
 
-// `waiting` is whether a code waits after the work. The reply's data stands at place 2 of the room on; its length comes back, 0 being silence.
-pub fn send(plate: Plate, waiting: bool, command: u8, answer: Answer, room: &mut [u8]) -> u8
-    requires { ⌜ Sendable plate answer (now room) ⌝ }
-    ensures { λ r. ⌜ ((s : State) → waiting ≡ waits (queueOf (s .faults)) → Sends (plateOf plate) s command answer (now (room .entry)) r (now (room .exit))) ⌝ }
+// `own` is the board's address byte after the work, `waiting` whether a code waits then. The reply's data stands at place 2 of the room on; its length comes back, 0 being silence.
+pub fn send(own: u8, waiting: bool, command: u8, answer: Answer, room: &mut [u8]) -> u8
+    requires { ⌜ Sendable answer (now room) ⌝ }
+    ensures { λ r. ⌜ ((s : State) → own ≡ ownByte (stateWith s none) → waiting ≡ waits (queueOf (s .faults)) → Sends s command answer (now (room .entry)) r (now (room .exit))) ⌝ }
 {
-    let own = line::own_byte(plate);
     match answer {
         Answer::Refuse(code) => {
             let body = [code];

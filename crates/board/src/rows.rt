@@ -1,4 +1,4 @@
-// The thirteen commands (01, "judged in this order", 7): those on the lent memory, and those on the state alone.
+// The commands (01, "judged in this order", 7): those on the lent memory, and those on the state alone, among them the two that tell the label bytes (02, Req 01).
 ghost use mathlib.Core.Path.{_≡_};
 ghost use mathlib.Core.List.{List};
 ghost use Prim.Native.Nat.{ℕ};
@@ -50,9 +50,16 @@ pub fn on_memory(
 }
 
 // The rows on the state, whose changes are left to who holds it; the memory stays as it is.
-pub fn on_state(bits: u32, state: State, command: u8, request: &[u8], room: &mut [u8]) -> Worked
-    requires { ⌜ Changeable bits state command (now request) (now room) ⌝ }
-    ensures { λ r. ⌜ ((p : meaning.Plate) (m : List ℕ) → p .bits ≡ bits → WorksOn (commandOf command) p state (now (request .entry)) m (now (room .entry)) r m (now (room .exit))) ⌝ }
+pub fn on_state(
+    bits: u32,
+    label: &[u8],
+    state: State,
+    command: u8,
+    request: &[u8],
+    room: &mut [u8],
+) -> Worked
+    requires { ⌜ Changeable bits (now label) state command (now request) (now room) ⌝ }
+    ensures { λ r. ⌜ ((p : meaning.Plate) (m : List ℕ) → p .bits ≡ bits → p .label ≡ now (label .entry) → WorksOn (commandOf command) p state (now (request .entry)) m (now (room .entry)) r m (now (room .exit))) ⌝ }
 {
     if command == 0x42 {
         return state::read_position(bits, state, room);
@@ -74,6 +81,15 @@ pub fn on_state(bits: u32, state: State, command: u8, request: &[u8], room: &mut
     }
     if command == 0x50 {
         return state::read_fault(state, room);
+    }
+    if command == 0x52 {
+        return state::read_label(label, room);
+    }
+    if command == 0x55 {
+        return state::set_address(state, request);
+    }
+    if command == 0x56 {
+        return state::read_version(label, room);
     }
     state::reset(state)
 }

@@ -3,6 +3,7 @@ mod words;
 
 use board::Board;
 use line::Plate;
+use wire::codes::LABEL_LENGTH;
 use wire::codes::LONGEST_REPLY;
 use wire::codes::LONGEST_REQUEST;
 use words::say;
@@ -21,11 +22,13 @@ fn plate() -> Plate {
 // One request and what came of it. The tick count wraps around within it; a character has 11 bits, 44 ticks. Between requests no frame is
 // open, so that the kept bytes need not last.
 fn ask(board: Board, address: u32, command: u8, body: &[u8], memory: &mut [u8; 136]) -> Board {
+    let label = [0u8; LABEL_LENGTH];
     let mut request = [0u8; LONGEST_REQUEST];
     let mut kept = [0u8; LONGEST_REQUEST];
     let mut room = [0u8; LONGEST_REPLY];
     let passed = exchange::exchange(
         plate(),
+        &label,
         board,
         address,
         command,
@@ -93,7 +96,7 @@ fn others() {
     board = ask(board, 255, 0x4E, b"", &mut memory);
     board = ask(board, 1, 0x4E, b"", &mut memory);
     board = ask(board, 32, 0x4E, b"", &mut memory);
-    let noted = board::fault(plate(), board, 0x1E);
+    let noted = board::fault(plate(), &blank, board, 0x1E);
     board = noted.board;
     board = ask(board, 0, 0x46, b"", &mut memory);
     board = ask(board, 0, 0x4C, b"\x05", &mut memory);

@@ -52,6 +52,7 @@ fn unsent(board: Board, why: Refusal) -> Exchanged
 // On a clear line: the characters, a poll one pause after the last, and the bench's verdict on what came back.
 fn converse(
     plate: Plate,
+    label: &[u8],
     board: Board,
     tick: u32,
     spacing: u32,
@@ -60,13 +61,13 @@ fn converse(
     memory: &mut [u8],
     room: &mut [u8],
 ) -> Exchanged
-    requires { ⌜ Clear (plateOf plate) board spacing (now request) (now kept) (now memory) (now room) ⌝ }
-    ensures { λ r. ⌜ ((n c : ℕ) (d : List ℕ) → Asks n c d (now (request .entry)) → Converses (plateOf plate) board n c d (now (kept .entry)) (now (memory .entry)) (now (room .entry)) r (now (kept .exit)) (now (memory .exit)) (now (room .exit))) ⌝ }
+    requires { ⌜ Clear (plateOf plate (now label)) board spacing (now request) (now kept) (now memory) (now room) ⌝ }
+    ensures { λ r. ⌜ ((n c : ℕ) (d : List ℕ) → Asks n c d (now (request .entry)) → Converses (plateOf plate (now (label .entry))) board n c d (now (kept .entry)) (now (memory .entry)) (now (room .entry)) r (now (kept .exit)) (now (memory .exit)) (now (room .exit))) ⌝ }
 {
-    let sent = send(plate, board, tick, spacing, request, kept, memory, room);
+    let sent = send(plate, label, board, tick, spacing, request, kept, memory, room);
     let over = line::stamp_after(sent.last, pause_of(plate));
     let waiting = sent.board;
-    let closed = board::poll(plate, waiting, over, kept, memory, room);
+    let closed = board::poll(plate, label, waiting, over, kept, memory, room);
     let next = closed.board;
     let outcome = closed.outcome;
     let reply = outcome.reply_length();
@@ -85,6 +86,7 @@ fn converse(
 // apart, and closed by a poll after the pause. `kept`, `memory` and `room` are the board's. For another board's address silence follows, B1.
 pub fn exchange(
     plate: Plate,
+    label: &[u8],
     board: Board,
     address: u32,
     command: u8,
@@ -96,9 +98,9 @@ pub fn exchange(
     memory: &mut [u8],
     room: &mut [u8],
 ) -> Exchanged
-    ensures { λ r. ⌜ Passes (plateOf plate) board address command (now (body .entry)) spacing (now (request .entry)) (now (kept .entry)) (now (memory .entry)) (now (room .entry)) r (now (request .exit)) (now (kept .exit)) (now (memory .exit)) (now (room .exit)) ⌝ }
+    ensures { λ r. ⌜ Passes (plateOf plate (now (label .entry))) board address command (now (body .entry)) spacing (now (request .entry)) (now (kept .entry)) (now (memory .entry)) (now (room .entry)) r (now (request .exit)) (now (kept .exit)) (now (memory .exit)) (now (room .exit)) ⌝ }
 {
-    match board::refusal(plate, board, kept.len(), memory.len(), room.len()) {
+    match board::refusal(plate, label.len(), board, kept.len(), memory.len(), room.len()) {
         Outcome::R1 => return unsent(board, Refusal::R1),
         Outcome::R2 => return unsent(board, Refusal::R2),
         Outcome::R3 => return unsent(board, Refusal::R3),
@@ -115,7 +117,7 @@ pub fn exchange(
         Written::R5 => unsent(board, Refusal::R5),
         Written::Request { len } => {
             let asked = &request[..len];
-            converse(plate, board, tick, spacing, asked, kept, memory, room)
+            converse(plate, label, board, tick, spacing, asked, kept, memory, room)
         }
     }
 }

@@ -1,8 +1,6 @@
 // A request on the line, character by character (01, "Characters become frames").
 ghost use mathlib.Core.Path.{_≡_};
-ghost use Prim.Native.Nat.{_+_, _-_, _*_};
-ghost use mathlib.Core.Bool.{true};
-ghost use Rattle.meaning.specs.State.{plateOk};
+ghost use Prim.Native.Nat.{_*_, _≤_};
 ghost use Rattle.line.specs.Line.{plateOf};
 ghost use Rattle.exchange.specs.Calls.{Clear, SendsRequest};
 use board::Board;
@@ -16,7 +14,7 @@ pub(crate) struct Sent {
 
 // 01, "pause × ticks-per-bit": the gap that closes a frame, in ticks.
 pub(crate) fn pause_of(plate: Plate) -> u32
-    requires { ⌜ plateOk (plateOf plate) ≡ true ⌝ }
+    requires { ⌜ (plate .pause ≤ 55) × (plate .ticks ≤ 64) ⌝ }
     ensures { λ r. ⌜ r ≡ plate .pause * plate .ticks ⌝ }
 {
     plate.pause * plate.ticks
@@ -25,6 +23,7 @@ pub(crate) fn pause_of(plate: Plate) -> u32
 // The first character ends at `tick`, each further one a spacing after the last.
 pub(crate) fn send(
     plate: Plate,
+    label: &[u8],
     board: Board,
     tick: u32,
     spacing: u32,
@@ -33,8 +32,8 @@ pub(crate) fn send(
     memory: &mut [u8],
     room: &mut [u8],
 ) -> Sent
-    requires { ⌜ Clear (plateOf plate) board spacing (now request) (now kept) (now memory) (now room) ⌝ }
-    ensures { λ r. ⌜ SendsRequest (plateOf plate) board tick spacing (now (request .entry)) (now (kept .entry)) (now (memory .entry)) (now (room .entry)) r (now (kept .exit)) (now (memory .exit)) (now (room .exit)) ⌝ }
+    requires { ⌜ Clear (plateOf plate (now label)) board spacing (now request) (now kept) (now memory) (now room) ⌝ }
+    ensures { λ r. ⌜ SendsRequest (plateOf plate (now (label .entry))) board tick spacing (now (request .entry)) (now (kept .entry)) (now (memory .entry)) (now (room .entry)) r (now (kept .exit)) (now (memory .exit)) (now (room .exit)) ⌝ }
 {
     let mut taken = board;
     let mut last = tick;
@@ -42,7 +41,7 @@ pub(crate) fn send(
     let mut i = 0;
     while i < request.len() {
         last = stamp;
-        let stepped = board::character(plate, taken, stamp, request[i], false, kept, memory, room);
+        let stepped = board::character(plate, label, taken, stamp, request[i], false, kept, memory, room);
         taken = stepped.board;
         stamp = line::stamp_after(stamp, spacing);
         i += 1;

@@ -1,4 +1,4 @@
--- The image: where its 171 bytes stand, the plate and the state that they hold, and the bytes of both (01, "calls on numbers and byte slices"). Assumes nothing.
+-- The image: where its 212 bytes stand, the plate and the state that they hold, and the bytes of both (01, "calls on numbers and byte slices"). Assumes nothing.
 use Prim.Native.Nat.{ℕ, _+_}
 use mathlib.Core.Bool.{Bool, true, false}
 use mathlib.Core.List.{List, [], _∷_, _++_}
@@ -6,7 +6,7 @@ use lib.Dec.{eqb, leb}
 use lib.ListN.{length, take, drop}
 use Rattle.meaning.specs.Bytes.{both, longestRequest, arg, part, put, little}
 use Rattle.meaning.specs.State as meaning
-use Rattle.wire.specs.Numbers.{low4}
+use Rattle.wire.specs.Numbers.{low3, low4}
 use Rattle.state.specs.declared.state.State.{State}
 use Rattle.state.specs.State.{stateWith}
 use Rattle.line.specs.declared.plate.Plate.{Plate}
@@ -14,9 +14,12 @@ use Rattle.line.specs.declared.characters.OpenFrame.{OpenFrame}
 use Rattle.line.specs.Line.{lineOf}
 use Rattle.state.specs.Queue.{noFaults}
 
--- the head: a layout number and the plate's five numbers
+-- the head: a layout number, the plate's five numbers and its label bytes
+abbrev pub labelAt : ℕ
+labelAt = 6
+
 abbrev pub headLength : ℕ
-headLength = 6
+headLength = labelAt + meaning.labelLength
 
 -- the core: 21 bytes of state, nine of the open frame's numbers, and the places of its kept bytes
 abbrev pub frameAt : ℕ
@@ -42,14 +45,17 @@ coreIn img = drop headLength img
 
 -- the number of this layout; another one has other places
 abbrev pub layoutNumber : ℕ
-layoutNumber = 1
+layoutNumber = 2
 
--- 0 the layout number; 1 total blocks; 2 position bits; 3 address; 4 ticks per bit; 5 pause
+-- 0 the layout number; 1 total blocks; 2 position bits; 3 the plate's address; 4 ticks per bit; 5 pause; 6 to 46 the label bytes
 unfoldable pub plateOfHead : List ℕ → Plate
 plateOfHead img = record { total = arg img 1; bits = arg img 2; address = arg img 3; ticks = arg img 4; pause = arg img 5 }
 
+abbrev pub labelIn : List ℕ → List ℕ
+labelIn img = part img labelAt meaning.labelLength
+
 unfoldable pub headOf : meaning.Plate → List ℕ
-headOf p = layoutNumber ∷ p .total ∷ p .bits ∷ p .address ∷ p .ticks ∷ p .pause ∷ []
+headOf p = layoutNumber ∷ p .total ∷ p .bits ∷ p .address ∷ p .ticks ∷ p .pause ∷ p .label
 
 -- R1: another length, another layout
 unfoldable pub isOurs : List ℕ → Bool
@@ -69,18 +75,23 @@ unfoldable pub flagByte : Bool → ℕ
 flagByte true = 1
 flagByte false = 0
 
--- 0 to 3 the codes; 4 counter; 8 offset; 12 measured; 16 to 19 the waiting codes, oldest first, 00h for an empty place; 20 locked
+-- the counter has three bytes
+abbrev pub countAt : List ℕ → ℕ
+countAt core = little (part core 4 3)
+
+-- 0 to 3 the codes; 4 to 6 counter; 7 address; 8 offset; 12 measured; 16 to 19 the waiting codes, oldest first, 00h for an empty place; 20 locked
 unfoldable pub stateIn : List ℕ → State
 stateIn core =
     record {
       codes = arg core 0 ∷ arg core 1 ∷ arg core 2 ∷ arg core 3 ∷ [];
-      counter = numberAt core 4;
+      counter = countAt core;
+      address = arg core 7;
       offset = numberAt core 8;
       measured = numberAt core 12;
       faults = record { first = arg core 16; second = arg core 17; third = arg core 18; fourth = arg core 19; locked = flagAt core 20 };
     }
 
--- 0 to 11 must last when the supply is off: codes, counter, offset. The state of a board that was off, but for its measured position, which the host gives anew
+-- 0 to 11 must last when the supply is off: codes, counter, address, offset. The state of a board that was off, but for its measured position, which the host gives anew
 abbrev pub lastingLength : ℕ
 lastingLength = 12
 
@@ -88,7 +99,7 @@ abbrev pub lastingIn : List ℕ → List ℕ
 lastingIn core = take lastingLength core
 
 unfoldable pub restedIn : List ℕ → State
-restedIn l = record { codes = arg l 0 ∷ arg l 1 ∷ arg l 2 ∷ arg l 3 ∷ []; counter = numberAt l 4; offset = numberAt l 8; measured = 0; faults = noFaults }
+restedIn l = record { codes = arg l 0 ∷ arg l 1 ∷ arg l 2 ∷ arg l 3 ∷ []; counter = countAt l; address = arg l 7; offset = numberAt l 8; measured = 0; faults = noFaults }
 
 -- 21 whether a frame is open; 22 longer than 135; 23 a parity fault; 24 the last stamp; 28 the XOR of all its bytes; 29 how many are kept
 unfoldable pub frameIn : List ℕ → OpenFrame
@@ -121,7 +132,7 @@ isCore core = both (eqb (length core) coreLength) (both (flagsOk core) (leb (arg
 unfoldable pub stateBytes : meaning.State → List ℕ
 stateBytes s =
     arg (s .codes) 0 ∷ arg (s .codes) 1 ∷ arg (s .codes) 2 ∷ arg (s .codes) 3
-    ∷ low4 (s .counter) (low4 (s .offset) (low4 (s .measured)
+    ∷ low3 (s .counter) (s .address ∷ low4 (s .offset) (low4 (s .measured)
     (arg (s .queue) 0 ∷ arg (s .queue) 1 ∷ arg (s .queue) 2 ∷ arg (s .queue) 3 ∷ flagByte (s .locked) ∷ [])))
 
 -- the nine bytes of its frame's numbers

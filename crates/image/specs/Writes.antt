@@ -35,19 +35,22 @@ pub record HoldsState (core : List ℕ) : Type 0 where
 
 -- a state of which one part is set
 abbrev pub measuredSet : State → ℕ → State
-measuredSet s n = record { codes = s .codes; counter = s .counter; offset = s .offset; measured = n; faults = s .faults }
+measuredSet s n = record { codes = s .codes; counter = s .counter; address = s .address; offset = s .offset; measured = n; faults = s .faults }
 
 abbrev pub faultsSet : State → Faults → State
-faultsSet s f = record { codes = s .codes; counter = s .counter; offset = s .offset; measured = s .measured; faults = f }
+faultsSet s f = record { codes = s .codes; counter = s .counter; address = s .address; offset = s .offset; measured = s .measured; faults = f }
 
 abbrev pub codeSet : State → ℕ → ℕ → State
-codeSet s n c = record { codes = set (s .codes) n c; counter = s .counter; offset = s .offset; measured = s .measured; faults = s .faults }
+codeSet s n c = record { codes = set (s .codes) n c; counter = s .counter; address = s .address; offset = s .offset; measured = s .measured; faults = s .faults }
 
 abbrev pub counterSet : State → ℕ → State
-counterSet s n = record { codes = s .codes; counter = n; offset = s .offset; measured = s .measured; faults = s .faults }
+counterSet s n = record { codes = s .codes; counter = n; address = s .address; offset = s .offset; measured = s .measured; faults = s .faults }
+
+abbrev pub addressSet : State → ℕ → State
+addressSet s n = record { codes = s .codes; counter = s .counter; address = n; offset = s .offset; measured = s .measured; faults = s .faults }
 
 abbrev pub offsetSet : State → ℕ → State
-offsetSet s n = record { codes = s .codes; counter = s .counter; offset = n; measured = s .measured; faults = s .faults }
+offsetSet s n = record { codes = s .codes; counter = s .counter; address = s .address; offset = n; measured = s .measured; faults = s .faults }
 
 -- 01, "The host notes codes": a code is noted in a core, and nothing else is written
 pub record NotesIn (c : ℕ) (core core′ : List ℕ) : Type 0 where

@@ -5,23 +5,29 @@ pub const TOTAL: usize = 1;
 
 pub const BITS: usize = 2;
 
-pub const ADDRESS: usize = 3;
+pub const PLATE_ADDRESS: usize = 3;
 
 pub const TICKS: usize = 4;
 
 pub const PAUSE: usize = 5;
 
-pub const CORE: usize = 6;
+// The 41 label bytes.
+pub const LABEL: usize = 6;
 
-pub const LENGTH: usize = 171;
+pub const CORE: usize = 47;
+
+pub const LENGTH: usize = 212;
 
 // The number of this layout: the first byte of every image.
-pub const LAYOUT_NUMBER: u8 = 1;
+pub const LAYOUT_NUMBER: u8 = 2;
 
 // The places of the core: 21 bytes of state, of which the first twelve must last, nine of the open frame's numbers, then its kept bytes.
 pub const CODES: usize = 0;
 
+// Three bytes, as the counter is at most FFFFFFh.
 pub const COUNTER: usize = 4;
+
+pub const ADDRESS: usize = 7;
 
 pub const OFFSET: usize = 8;
 

@@ -1,4 +1,4 @@
-// The board as the 171 bytes that a host lends: a head, which tells the plate, and a core, which holds the state (01, "written in C and calls on numbers and byte slices").
+// The board as the 212 bytes that a host lends: a head, which tells the plate, and a core, which holds the state (01, "written in C and calls on numbers and byte slices").
 mod head;
 mod layout;
 mod read;
@@ -7,15 +7,18 @@ mod write;
 pub use head::is_ours;
 pub use head::plate_in;
 pub use head::put_head;
+pub use layout::ADDRESS;
 pub use layout::CODES;
 pub use layout::CORE;
 pub use layout::CORE_LENGTH;
 pub use layout::COUNTER;
 pub use layout::KEPT;
+pub use layout::LABEL;
 pub use layout::LASTING_LENGTH;
 pub use layout::LENGTH;
 pub use layout::OFFSET;
 pub use layout::WAITING;
+pub use read::address_ok;
 pub use read::faults_in;
 pub use read::frame_in;
 pub use read::is_core;

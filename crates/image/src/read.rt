@@ -1,9 +1,12 @@
 // What a core holds: its state and its open frame's numbers. The kept bytes stay where they are and are lent on.
 ghost use mathlib.Core.Path.{_≡_};
 ghost use Prim.Native.Nat.{_≤_};
-ghost use lib.Dec.{eqb};
+ghost use lib.Dec.{eqb, leb};
 ghost use lib.ListN.{length};
-ghost use Rattle.image.specs.Image.{coreLength, lastingLength, stateIn, restedIn, frameIn, isCore, flagsOk};
+ghost use Rattle.meaning.specs.Bytes.{arg};
+ghost use Rattle.meaning.specs.State.{lastAddress};
+ghost use Rattle.image.specs.Image.{coreLength, lastingLength, countAt, stateIn, restedIn, frameIn, isCore, flagsOk};
+use crate::layout::ADDRESS;
 use crate::layout::CODES;
 use crate::layout::CORE_LENGTH;
 use crate::layout::COUNT;
@@ -55,6 +58,21 @@ pub fn is_core(core: &[u8]) -> bool
     true
 }
 
+// 02, Req 01, the address "limits 0 to 31". It is the high byte of one word with the counter.
+pub fn address_ok(core: &[u8]) -> bool
+    requires { ⌜ coreLength ≤ length (now core) ⌝ }
+    ensures { λ r. ⌜ r ≡ leb (arg (now (core .entry)) 7) lastAddress ⌝ }
+{
+    wire::number_at(core, COUNTER) <= 0x1FFFFFFF
+}
+
+fn counter_in(core: &[u8]) -> u32
+    requires { ⌜ 8 ≤ length (now core) ⌝ }
+    ensures { λ r. ⌜ r ≡ countAt (now (core .entry)) ⌝ }
+{
+    wire::number_at(core, COUNTER) % 0x1000000
+}
+
 // The waiting codes and the lock.
 pub fn faults_in(core: &[u8]) -> Faults
     requires { ⌜ coreLength ≤ length (now core) ⌝ }
@@ -82,7 +100,8 @@ pub fn state_in(core: &[u8]) -> State
     let faults = faults_in(core);
     State {
         codes: codes,
-        counter: wire::number_at(core, COUNTER),
+        counter: counter_in(core),
+        address: core[ADDRESS],
         offset: wire::number_at(core, OFFSET),
         measured: wire::number_at(core, MEASURED),
         faults: faults,
@@ -116,7 +135,8 @@ pub fn lasting_in(lasting: &[u8]) -> State
     ];
     State {
         codes: codes,
-        counter: wire::number_at(lasting, COUNTER),
+        counter: counter_in(lasting),
+        address: lasting[ADDRESS],
         offset: wire::number_at(lasting, OFFSET),
         measured: 0,
         faults: Faults::none(),

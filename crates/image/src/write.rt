@@ -5,14 +5,15 @@ ghost use lib.ListN.{length};
 ghost use mathlib.Core.Bool.{true};
 ghost use mathlib.Core.List.{_∷_, []};
 ghost use Rattle.meaning.specs.Bytes.{pick, put};
-ghost use Rattle.meaning.specs.State.{Line, none};
+ghost use Rattle.meaning.specs.State.{Line, lastCount, none};
 ghost use Rattle.meaning.specs.Characters.{more};
 ghost use Rattle.line.specs.Line.{lineOf};
 ghost use Rattle.state.specs.State.{stateWith};
-ghost use Rattle.state.specs.Effects.{WithinFour};
+ghost use Rattle.state.specs.Effects.{Settable};
 ghost use Rattle.wire.specs.Numbers.{low4};
 ghost use Rattle.image.specs.Image.{frameAt, parityAt, keptAt, coreLength, flagByte, isCore, stateIn, frameIn, keptIn, stateBytes};
 ghost use Rattle.image.specs.Writes.{frameRow, measuredSet, faultsSet, counterSet, offsetSet, HoldsState, Open, PutsState, NotesIn, PutsEffect, PutsFrame, PutsBoard, Takes};
+use crate::layout::ADDRESS;
 use crate::layout::CORE_LENGTH;
 use crate::layout::COUNT;
 use crate::layout::COUNTER;
@@ -60,7 +61,7 @@ fn state_row(state: State, locked: u8) -> [u8; 21]
         counter[0],
         counter[1],
         counter[2],
-        counter[3],
+        state.address,
         offset[0],
         offset[1],
         offset[2],
@@ -96,6 +97,7 @@ fn frame_row(frame: OpenFrame, begun: u8, longer: u8, parity: u8) -> [u8; 9]
 }
 
 fn put_state(state: State, core: &mut [u8])
+    requires { ⌜ state .counter ≤ lastCount ⌝ }
     requires { ⌜ frameAt ≤ length (now core) ⌝ }
     ensures { λ _. ⌜ PutsState state (now (core .entry)) (now (core .exit)) ⌝ }
 {
@@ -162,10 +164,13 @@ pub fn note(code: u8, core: &mut [u8])
 }
 
 fn put_counter(counter: u32, core: &mut [u8])
+    requires { ⌜ counter ≤ lastCount ⌝ }
     requires { ⌜ HoldsState (now core) ⌝ }
     ensures { λ _. ⌜ PutsState (counterSet (stateIn (now (core .entry))) counter) (now (core .entry)) (now (core .exit)) ⌝ }
 {
-    put_number(counter, &mut core[COUNTER..OFFSET]);
+    let bytes = wire::bytes_of(counter);
+    let row = [bytes[0], bytes[1], bytes[2]];
+    wire::fill(&row, &mut core[COUNTER..ADDRESS]);
 }
 
 fn put_offset(offset: u32, core: &mut [u8])
@@ -177,7 +182,7 @@ fn put_offset(offset: u32, core: &mut [u8])
 
 // What a command changes, in place: nothing is written that does not change. The codes are the core's first bytes.
 pub fn put_effect(effect: Effect, core: &mut [u8])
-    requires { ⌜ WithinFour effect ⌝ }
+    requires { ⌜ Settable effect ⌝ }
     requires { ⌜ HoldsState (now core) ⌝ }
     ensures { λ _. ⌜ PutsEffect effect (now (core .entry)) (now (core .exit)) ⌝ }
 {
@@ -187,6 +192,9 @@ pub fn put_effect(effect: Effect, core: &mut [u8])
             core[number] = code;
         }
         Effect::Counter(counter) => put_counter(counter, core),
+        Effect::Address(address) => {
+            core[ADDRESS] = address;
+        }
         Effect::Offset(offset) => put_offset(offset, core),
         Effect::Overflow => {
             let faults = faults_in(core).queued(COUNTER_OVERFLOW);
@@ -213,6 +221,7 @@ pub fn put_frame(frame: OpenFrame, core: &mut [u8])
 }
 
 pub fn put_board(state: State, frame: OpenFrame, core: &mut [u8])
+    requires { ⌜ state .counter ≤ lastCount ⌝ }
     requires { ⌜ length (now core) ≡ coreLength ⌝ }
     ensures { λ _. ⌜ PutsBoard state frame (now (core .entry)) (now (core .exit)) ⌝ }
 {

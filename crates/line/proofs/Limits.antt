@@ -5,9 +5,10 @@ use mathlib.Core.Path.{_≡_, refl}
 use mathlib.Core.Bool.{Bool, true, false, false≢true}
 use mathlib.Core.List.{List, [], _∷_}
 use lib.Dec.{eqb, leb}
+use lib.ListN.{length}
 use borrow.Author.Tests.{eqb-true, leb-true}
 use Rattle.meaning.specs.Bytes.{both, either, among}
-use Rattle.meaning.specs.State.{Plate, plateOk, between}
+use Rattle.meaning.specs.State.{Plate, labelLength, plateOk, between}
 use Rattle.meaning.proofs.Choices.{both-left, both-right}
 
 -- every number of a list is at most b
@@ -26,7 +27,7 @@ among-low b x (y ∷ l) h e = go (eqb x y) refl e (among-low b x l (both-right (
 
 module _ (p : Plate) (ok : plateOk p ≡ true) where
   abbrev rest₂ : Bool
-  rest₂ = both (leb (p .address) 31) (both (among (p .ticks) (1 ∷ 2 ∷ 4 ∷ 8 ∷ 16 ∷ 32 ∷ 64 ∷ [])) (among (p .pause) (22 ∷ 55 ∷ [])))
+  rest₂ = both (leb (p .address) 31) (both (among (p .ticks) (1 ∷ 2 ∷ 4 ∷ 8 ∷ 16 ∷ 32 ∷ 64 ∷ [])) (both (among (p .pause) (22 ∷ 55 ∷ [])) (eqb (length (p .label)) labelLength)))
 
   pub total-fits : p .total ≤ 112
   unfolding plateOk
@@ -50,14 +51,20 @@ module _ (p : Plate) (ok : plateOk p ≡ true) where
   abbrev pause-known : Bool
   pause-known = among (p .pause) (22 ∷ 55 ∷ [])
 
-  known : both ticks-known pause-known ≡ true
+  abbrev labelled : Bool
+  labelled = eqb (length (p .label)) labelLength
+
+  known : both ticks-known (both pause-known labelled) ≡ true
   unfolding plateOk
   known =
-      both-right (leb (p .address) 31) (both ticks-known pause-known)
+      both-right (leb (p .address) 31) (both ticks-known (both pause-known labelled))
       (both-right (between 1 32 (p .bits)) rest₂ (both-right (between 1 112 (p .total)) (both (between 1 32 (p .bits)) rest₂) ok))
 
   pub few-ticks : p .ticks ≤ 64
-  few-ticks = among-low 64 (p .ticks) (1 ∷ 2 ∷ 4 ∷ 8 ∷ 16 ∷ 32 ∷ 64 ∷ []) refl (both-left ticks-known pause-known known)
+  few-ticks = among-low 64 (p .ticks) (1 ∷ 2 ∷ 4 ∷ 8 ∷ 16 ∷ 32 ∷ 64 ∷ []) refl (both-left ticks-known (both pause-known labelled) known)
 
   pub short-pause : p .pause ≤ 55
-  short-pause = among-low 55 (p .pause) (22 ∷ 55 ∷ []) refl (both-right ticks-known pause-known known)
+  short-pause = among-low 55 (p .pause) (22 ∷ 55 ∷ []) refl (both-left pause-known labelled (both-right ticks-known (both pause-known labelled) known))
+
+  pub whole-label : length (p .label) ≡ labelLength
+  whole-label = eqb-true (length (p .label)) labelLength (both-right pause-known labelled (both-right ticks-known (both pause-known labelled) known))

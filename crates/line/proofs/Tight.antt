@@ -4,11 +4,11 @@ use native.Mathlib.Omega.{arith}
 use mathlib.Core.Path.{_≡_, refl, sym, ap, _∙_}
 use mathlib.Core.Bool.{Bool}
 use mathlib.Core.List.{List, []}
-use lib.ListN.{length, take, length-append, length-drop}
+use lib.ListN.{length, take, length-append, length-drop, length-replicate}
 use lib.Seq.{length-take-le}
-use Rattle.meaning.specs.Bytes.{put}
+use Rattle.meaning.specs.Bytes.{put, zeros}
 use Rattle.meaning.specs.State as meaning
-use Rattle.meaning.specs.State.{Line, fresh, ownByte, withLine}
+use Rattle.meaning.specs.State.{Line, labelLength, fresh, plateOk, withLine}
 use Rattle.meaning.specs.Characters.{over}
 use Rattle.line.specs.declared.plate.Plate.{Plate}
 use Rattle.line.specs.declared.characters.OpenFrame.{OpenFrame}
@@ -37,10 +37,10 @@ with-character-tight l k f g a b all p q =
     let long : 135 ≤ length a = rw (p .bytes) (omega (arith, put-long k (l .kept))) in
     (same-line-same-frame f g a (p .few) (q .few) long (p .line ∙ sym (ap (lineOf g) same ∙ q .line)), same)
 
-pub is-over-tight : (p : Plate) (f : OpenFrame) (t : ℕ) (a b : Bool) → ((s : meaning.State) (k : List ℕ) → s .line ≡ lineOf f k → a ≡ over (plateOf p) s t)
-    → ((s : meaning.State) (k : List ℕ) → s .line ≡ lineOf f k → b ≡ over (plateOf p) s t) → a ≡ b
+pub is-over-tight : (p : Plate) (f : OpenFrame) (t : ℕ) (a b : Bool) → ((s : meaning.State) (k l : List ℕ) → s .line ≡ lineOf f k → a ≡ over (plateOf p l) s t)
+    → ((s : meaning.State) (k l : List ℕ) → s .line ≡ lineOf f k → b ≡ over (plateOf p l) s t) → a ≡ b
 unfolding withLine
-is-over-tight p f t a b h i = let s : meaning.State = withLine (fresh (plateOf p)) (lineOf f []) in h s [] refl ∙ sym (i s [] refl)
+is-over-tight p f t a b h i = let s : meaning.State = withLine (fresh (plateOf p [])) (lineOf f []) in h s [] [] refl ∙ sym (i s [] [] refl)
 
-pub own-byte-tight : (p : Plate) (a b : ℕ) → ((s : meaning.State) → a ≡ ownByte (plateOf p) s) → ((s : meaning.State) → b ≡ ownByte (plateOf p) s) → a ≡ b
-own-byte-tight p a b h i = h (fresh (plateOf p)) ∙ sym (i (fresh (plateOf p)))
+pub is-ok-tight : (p : Plate) (a b : Bool) → ((l : List ℕ) → length l ≡ labelLength → a ≡ plateOk (plateOf p l)) → ((l : List ℕ) → length l ≡ labelLength → b ≡ plateOk (plateOf p l)) → a ≡ b
+is-ok-tight p a b h i = h (zeros labelLength) (length-replicate {A = ℕ} labelLength 0) ∙ sym (i (zeros labelLength) (length-replicate {A = ℕ} labelLength 0))

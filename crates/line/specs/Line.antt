@@ -10,8 +10,9 @@ use Rattle.meaning.specs.Characters.{Frame}
 use Rattle.line.specs.declared.plate.Plate.{Plate}
 use Rattle.line.specs.declared.characters.OpenFrame.{OpenFrame}
 
-abbrev pub plateOf : Plate → meaning.Plate
-plateOf p = record { total = p .total; bits = p .bits; address = p .address; ticks = p .ticks; pause = p .pause }
+-- the label bytes are lent beside the plate's numbers
+abbrev pub plateOf : Plate → List ℕ → meaning.Plate
+plateOf p label = record { total = p .total; bits = p .bits; address = p .address; ticks = p .ticks; pause = p .pause; label = label }
 
 -- the first `len` of the lent places hold the kept bytes; the others carry no meaning
 abbrev pub lineOf : OpenFrame → List ℕ → meaning.Line

@@ -37,7 +37,7 @@ impl OpenFrame {
 
     // Ruling of 01: equality closes. The one test that character and poll share.
     pub fn is_over(self, plate: Plate, tick: u32) -> bool
-        ensures { λ r. ⌜ ((s : State) (kept : List ℕ) → s .line ≡ lineOf self kept → r ≡ over (plateOf plate) s tick) ⌝ }
+        ensures { λ r. ⌜ ((s : State) (kept l : List ℕ) → s .line ≡ lineOf self kept → r ≡ over (plateOf plate l) s tick) ⌝ }
     {
         if self.begun {
             let pause = (plate.pause as u64) * (plate.ticks as u64);

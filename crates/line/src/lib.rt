@@ -8,5 +8,4 @@ pub use characters::OpenFrame;
 pub use judge::Judgement;
 pub use judge::is_silent;
 pub use plate::Plate;
-pub use plate::own_byte;
 pub use stamps::stamp_after;

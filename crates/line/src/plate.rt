@@ -1,11 +1,13 @@
-// The plate and its limits, and the board's own address byte (01, "Plate").
+// The plate's numbers and their limits (01, "Plate"); its label bytes are lent (02, Req 01).
 ghost use mathlib.Core.Path.{_≡_};
-ghost use mathlib.Core.List.{_∷_, []};
-ghost use Prim.Native.Nat.{_≤_};
+ghost use mathlib.Core.List.{List, _∷_, []};
+ghost use Prim.Native.Nat.{ℕ};
+ghost use lib.ListN.{length};
 ghost use Rattle.meaning.specs.Bytes.{among};
-ghost use Rattle.meaning.specs.State.{State, plateOk, ownByte};
+ghost use Rattle.meaning.specs.State.{labelLength, plateOk};
 ghost use Rattle.meaning.specs.Fields.{memoryLength};
 ghost use Rattle.line.specs.Line.{plateOf};
+use wire::codes::LAST_ADDRESS;
 
 // Total blocks, position bits, address, ticks per bit, pause in bit times: wide enough that a host loses no bits on the way.
 pub struct Plate {
@@ -17,9 +19,9 @@ pub struct Plate {
 }
 
 impl Plate {
-    // R1 where it does not hold.
+    // R1 where it does not hold, whatever the 41 label bytes are.
     pub fn is_ok(self) -> bool
-        ensures { λ r. ⌜ r ≡ plateOk (plateOf self) ⌝ }
+        ensures { λ r. ⌜ ((l : List ℕ) → length l ≡ labelLength → r ≡ plateOk (plateOf self l)) ⌝ }
     {
         if self.total < 1 {
             return false;
@@ -33,7 +35,7 @@ impl Plate {
         if 32 < self.bits {
             return false;
         }
-        if 31 < self.address {
+        if (LAST_ADDRESS as u32) < self.address {
             return false;
         }
         if !ticks_ok(self.ticks) {
@@ -74,12 +76,4 @@ fn pause_ok(pause: u32) -> bool
         return true;
     }
     false
-}
-
-// 01, "Board address byte: 40h + a": for the frame judge and for the reply.
-pub fn own_byte(plate: Plate) -> u8
-    requires { ⌜ plate .address ≤ 31 ⌝ }
-    ensures { λ r. ⌜ ((s : State) → r ≡ ownByte (plateOf plate) s) ⌝ }
-{
-    (0x40 + plate.address) as u8
 }

@@ -13,17 +13,18 @@ ghost use Rattle.image.specs.Image.{coreLength, stateIn, heldIn};
 ghost use Rattle.quicksetter.specs.Calls.{Called};
 ghost use Rattle.quicksetter.specs.Cores.{possible, dataTo, Unrefused, Servable, ServedIn, ClosedIn, ShutIn, ImageUnrefused, ImageShuts, ImagePolls};
 use crate::given::REFUSED;
+use image::ADDRESS;
 use image::CODES;
 use image::CORE;
 use image::COUNTER;
 use image::KEPT;
+use image::LABEL;
 use image::LENGTH;
 use image::OFFSET;
 use image::WAITING;
 use line::Judgement;
 use line::OpenFrame;
 use line::Plate;
-use state::LAST_COUNT;
 use wire::codes::LONGEST_REPLY;
 
 // R1 of the plate and of the core, but for the waiting codes. What a host may get wrong comes first.
@@ -36,7 +37,7 @@ pub(crate) fn is_possible(core: &[u8], plate: Plate) -> bool
     if !image::is_core(core) {
         return false;
     }
-    if LAST_COUNT < wire::number_at(core, COUNTER) {
+    if !image::address_ok(core) {
         return false;
     }
     state::offset_fits(wire::number_at(core, OFFSET), plate.bits)
@@ -74,69 +75,74 @@ fn is_over(core: &[u8], tick: u32, plate: Plate) -> bool
     frame.is_over(plate, tick)
 }
 
-// A request, worked on the state that the core holds; its bytes end before that place. Only what changes of the state is written.
+// The board's address byte.
+fn own(core: &[u8]) -> u8
+    requires { ⌜ (coreLength ≤ length (now core)) × (stateIn (now core) .address ≤ lastAddress) ⌝ }
+    ensures { λ r. ⌜ r ≡ ownByte (stateWith (stateIn (now (core .entry))) none) ⌝ }
+{
+    wire::own_byte(core[ADDRESS])
+}
+
+// A request, worked on the state that the image's core holds; its bytes end before that place of the core. Only what changes of the state is written.
 fn served(
-    core: &mut [u8],
+    image: &mut [u8],
     plate: Plate,
     command: u8,
     end: usize,
     memory: &mut [u8],
     room: &mut [u8],
 ) -> u8
-    requires { ⌜ Servable plate command end (now core) (now memory) (now room) ⌝ }
-    ensures { λ r. ⌜ ServedIn (plateOf plate) command (dataTo end (now (core .entry))) (now (core .entry)) (now (memory .entry)) (now (room .entry)) r (now (core .exit)) (now (memory .exit)) (now (room .exit)) ⌝ }
+    requires { ⌜ ImageServable plate command end (now image) (now memory) (now room) ⌝ }
+    ensures { λ r. ⌜ ImageServed command end (now (image .entry)) (now (memory .entry)) (now (room .entry)) r (now (image .exit)) (now (memory .exit)) (now (room .exit)) ⌝ }
 {
     if board::needs_memory(command) {
+        let core = &image[CORE..LENGTH];
         let codes = &core[CODES..COUNTER];
         let request = wire::data_part(&core[KEPT..end]);
         let answer = board::on_memory(plate.total as usize, codes, command, request, memory, room);
-        return board::send(plate, waits(core), command, answer, room);
+        return board::send(own(core), waits(core), command, answer, room);
     }
+    let core = &image[CORE..LENGTH];
+    let label = &image[LABEL..CORE];
     let state = image::state_in(core);
     let request = wire::data_part(&core[KEPT..end]);
-    let worked = board::on_state(plate.bits, state, command, request, room);
+    let worked = board::on_state(plate.bits, label, state, command, request, room);
     let effect = worked.effect;
     let answer = worked.answer;
-    image::put_effect(effect, core);
-    board::send(plate, waits(core), command, answer, room)
+    image::put_effect(effect, &mut image[CORE..LENGTH]);
+    let after = &image[CORE..LENGTH];
+    board::send(own(after), waits(after), command, answer, room)
 }
 
 // The open frame, judged, worked and answered. The number is the reply's length.
-fn answered(core: &mut [u8], plate: Plate, memory: &mut [u8], room: &mut [u8]) -> u8
-    requires { ⌜ Unrefused (plateOf plate) (now core) (length (now memory)) (length (now room)) ⌝ }
-    ensures { λ r. ⌜ ClosedIn (plateOf plate) (now (core .entry)) (now (memory .entry)) (now (room .entry)) r (now (core .exit)) (now (memory .exit)) (now (room .exit)) ⌝ }
+fn answered(image: &mut [u8], plate: Plate, memory: &mut [u8], room: &mut [u8]) -> u8
+    requires { ⌜ ImageAnswerable plate (now image) (length (now memory)) (length (now room)) ⌝ }
+    ensures { λ r. ⌜ ImageAnswered (now (image .entry)) (now (memory .entry)) (now (room .entry)) r (now (image .exit)) (now (memory .exit)) (now (room .exit)) ⌝ }
 {
+    let core = &image[CORE..LENGTH];
     let frame = image::frame_in(core);
     let end = KEPT + frame.len as usize;
-    let own = line::own_byte(plate);
+    let own = own(core);
     if line::is_silent(own, &core[KEPT..end]) {
         return 0;
     }
     let judgement = frame.judged(own, &core[KEPT..end]);
     let Judgement::Request(command) = judgement else {
         let state = image::state_in(core);
-        return board::refuse(plate, state, judgement.code(), room);
+        return board::refuse(state, judgement.code(), room);
     };
-    served(core, plate, command, end, memory, room)
+    served(image, plate, command, end, memory, room)
 }
 
-// The open frame is over: it is answered and put away.
-fn shut_core(core: &mut [u8], plate: Plate, memory: &mut [u8], room: &mut [u8]) -> u8
-    requires { ⌜ Unrefused (plateOf plate) (now core) (length (now memory)) (length (now room)) ⌝ }
-    ensures { λ r. ⌜ ShutIn (plateOf plate) (now (core .entry)) (now (memory .entry)) (now (room .entry)) r (now (core .exit)) (now (memory .exit)) (now (room .exit)) ⌝ }
-{
-    let sent = answered(core, plate, memory, room);
-    image::put_frame(OpenFrame::none(), core);
-    sent
-}
-
-// .. of an image: the plate is read where it is needed, so that no call hands it on.
+// The open frame is over: it is answered and put away. The plate is read where it is needed, so that no call hands it on.
 fn shut(image: &mut [u8], memory: &mut [u8], room: &mut [u8]) -> u8
     requires { ⌜ ImageUnrefused (now image) (length (now memory)) (length (now room)) ⌝ }
     ensures { λ r. ⌜ ImageShuts (now (image .entry)) (now (memory .entry)) (now (room .entry)) r (now (image .exit)) (now (memory .exit)) (now (room .exit)) ⌝ }
 {
     let plate = image::plate_in(image);
-    shut_core(&mut image[CORE..LENGTH], plate, memory, room)
+    let sent = answered(image, plate, memory, room);
+    image::put_frame(OpenFrame::none(), &mut image[CORE..LENGTH]);
+    sent
 }
 
 // What a character finds done by its tick, as a poll would do it.

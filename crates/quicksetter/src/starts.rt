@@ -18,6 +18,7 @@ use image::LENGTH;
 use line::OpenFrame;
 use line::Plate;
 use state::State;
+use wire::codes::LABEL_LENGTH;
 use wire::codes::LONGEST_REQUEST;
 
 // Every byte of the core is written, so what stood there before does not matter.
@@ -31,12 +32,12 @@ fn put_core(state: State, core: &mut [u8])
 }
 
 // A possible plate and state are written as an image.
-fn make(plate: Plate, state: State, image: &mut [u8])
-    requires { ⌜ plateOk (plateOf plate) ≡ true ⌝ }
+fn make(plate: Plate, label: &[u8], state: State, image: &mut [u8])
+    requires { ⌜ plateOk (plateOf plate (now label)) ≡ true ⌝ }
     requires { ⌜ length (now image) ≡ imageLength ⌝ }
-    ensures { λ _. ⌜ now (image .exit) ≡ imageOf (plateOf plate) (stateWith state none) (zeros longestRequest) ⌝ }
+    ensures { λ _. ⌜ now (image .exit) ≡ imageOf (plateOf plate (now (label .entry))) (stateWith state none) (zeros longestRequest) ⌝ }
 {
-    image::put_head(plate, image);
+    image::put_head(plate, label, image);
     put_core(state, &mut image[CORE..LENGTH]);
 }
 
@@ -47,22 +48,26 @@ pub extern "C" fn qs_fresh(
     address: u32,
     ticks: u32,
     pause: u32,
+    label: &[u8],
     image: &mut [u8],
 ) -> usize
-    ensures { λ r. ⌜ Freshens (plateOf (plateFrom total bits address ticks pause)) (now (image .entry)) r (now (image .exit)) ⌝ }
+    ensures { λ r. ⌜ Freshens (plateOf (plateFrom total bits address ticks pause) (now (label .entry))) (now (image .entry)) r (now (image .exit)) ⌝ }
 {
     if image.len() != LENGTH {
+        return REFUSED + 1;
+    }
+    if label.len() != LABEL_LENGTH {
         return REFUSED + 1;
     }
     let plate = plate_from(total, bits, address, ticks, pause);
     if !plate.is_ok() {
         return REFUSED + 1;
     }
-    make(plate, State::fresh(), image);
+    make(plate, label, State::fresh(address as u8), image);
     0
 }
 
-// From the bytes that the host kept: codes, counter and offset. The host then gives the measured position.
+// From the bytes that the host kept: codes, counter, address and offset. The host then gives the measured position.
 #[no_mangle]
 pub extern "C" fn qs_restart(
     total: u32,
@@ -70,15 +75,19 @@ pub extern "C" fn qs_restart(
     address: u32,
     ticks: u32,
     pause: u32,
+    label: &[u8],
     lasting: &[u8],
     image: &mut [u8],
 ) -> usize
-    ensures { λ r. ⌜ Restarts (plateOf (plateFrom total bits address ticks pause)) (now (lasting .entry)) (now (image .entry)) r (now (image .exit)) ⌝ }
+    ensures { λ r. ⌜ Restarts (plateOf (plateFrom total bits address ticks pause) (now (label .entry))) (now (lasting .entry)) (now (image .entry)) r (now (image .exit)) ⌝ }
 {
     if lasting.len() != LASTING_LENGTH {
         return REFUSED + 1;
     }
     if image.len() != LENGTH {
+        return REFUSED + 1;
+    }
+    if label.len() != LABEL_LENGTH {
         return REFUSED + 1;
     }
     let plate = plate_from(total, bits, address, ticks, pause);
@@ -89,6 +98,6 @@ pub extern "C" fn qs_restart(
     if !state.is_ok(plate.bits) {
         return REFUSED + 1;
     }
-    make(plate, state, image);
+    make(plate, label, state, image);
     0
 }

@@ -23,7 +23,7 @@ use Rattle.state.specs.Queue.{queueOf, holding, Queues, Reads}
 use Rattle.state.specs.State.{stateWith, ReadsOut}
 use Rattle.state.specs.declared.effects.Effect.{Effect}
 use Rattle.state.specs.declared.effects.Effect.the-variants.{Nothing, Code, Counter, Offset, Overflow, OldestRead, Emptied}
-use Rattle.state.specs.Effects.{WithinFour, effectOn, rowEffect}
+use Rattle.state.specs.Effects.{Settable, effectOn, rowEffect}
 use Rattle.state.specs.Rows.{checkOf, Answers}
 use Rattle.state.proofs.Answering.{refuses, accepts, accepts-bare, failed, passed, first-four}
 use Rattle.meaning.proofs.Puts.{put-one}
@@ -125,7 +125,7 @@ read-out s l t o b q =
     }
 
 -- a state t after an effect, as the code makes it
-pub placed-code : {x : Effect} {n c : ℕ} → WithinFour x → x ≡ Code n c → n < 4
+pub placed-code : {x : Effect} {n c : ℕ} → Settable x → x ≡ Code n c → n < 4
 placed-code h e = rw e at h
 
 module _ (s : State) (l : Line) {x : Effect} where

@@ -1,34 +1,36 @@
 -- What a command changes in the state and what a noted code comes to, and what the state is then (01, "The commands", "Faults"). Assumes nothing.
-use Prim.Native.Nat.{ℕ, zero, suc, _+_, _<_}
+use Prim.Native.Nat.{ℕ, zero, suc, _+_, _-_, _<_, _≤_}
 use mathlib.Core.Bool.{true}
 use mathlib.Core.List.{List, []}
 use lib.Dec.{eqb}
 use lib.ListN.{length, set, drop, take}
 use Rattle.meaning.specs.Bytes.{pick, among, arg, number}
-use Rattle.meaning.specs.State.{Plate, State, lastCount, locks, queued, offsetFor, withCodes, withCounter, withOffset, withQueue}
-use Rattle.meaning.specs.Commands.{Command, Answer, refuse, accept, quiet, c42, c43, c46, c47, c49, c4A, c4B, c4C, c4D, c4E, c4F, c50, c53, unknown}
+use Rattle.meaning.specs.State.{Plate, State, lastAddress, lastCount, locks, queued, offsetFor, withCodes, withCounter, withAddress, withOffset, withQueue}
+use Rattle.meaning.specs.Commands.{Command, Answer, refuse, accept, quiet, c42, c43, c46, c47, c49, c4A, c4B, c4C, c4D, c4E, c4F, c50, c52, c53, c55, c56, unknown}
 use Rattle.state.specs.declared.faults.Faults.{Faults}
 use Rattle.state.specs.declared.faults.Noting.{Noting}
 use Rattle.state.specs.declared.faults.Noting.the-variants.{Ignored, Locks, First, Second, Third, Fourth}
 use Rattle.state.specs.Queue.{queueOf}
 use Rattle.state.specs.declared.effects.Effect.{Effect}
-use Rattle.state.specs.declared.effects.Effect.the-variants.{Nothing, Code, Counter, Offset, Overflow, OldestRead, Emptied}
+use Rattle.state.specs.declared.effects.Effect.the-variants.{Nothing, Code, Counter, Address, Offset, Overflow, OldestRead, Emptied}
 
--- the codes are four
-abbrev pub WithinFour : Effect → Type 0
-WithinFour Nothing = Unit
-WithinFour (Code n c) = n < 4
-WithinFour (Counter n) = Unit
-WithinFour (Offset n) = Unit
-WithinFour Overflow = Unit
-WithinFour OldestRead = Unit
-WithinFour Emptied = Unit
+-- what may be set: one of four codes; a counter of at most FFFFFFh; an address of 0 to 31
+abbrev pub Settable : Effect → Type 0
+Settable Nothing = Unit
+Settable (Code n c) = n < 4
+Settable (Counter n) = n ≤ lastCount
+Settable (Address n) = n ≤ lastAddress
+Settable (Offset n) = Unit
+Settable Overflow = Unit
+Settable OldestRead = Unit
+Settable Emptied = Unit
 
 -- the state after it; all else stays
 unfoldable pub effectOn : Effect → State → State
 effectOn Nothing s = s
 effectOn (Code n c) s = withCodes s (set (s .codes) n c)
 effectOn (Counter n) s = withCounter s n
+effectOn (Address n) s = withAddress s n
 effectOn (Offset n) s = withOffset s n
 effectOn Overflow s = withQueue (withCounter s 0) (queued (s .queue) 0x08)
 effectOn OldestRead s = withQueue s (drop 1 (s .queue))
@@ -48,7 +50,10 @@ rowEffect c4D p s d = Nothing
 rowEffect c4E p s d = Nothing
 rowEffect c4F p s d = Code (arg d 0) (arg d 2)
 rowEffect c50 p s d = OldestRead
+rowEffect c52 p s d = Nothing
 rowEffect c53 p s d = Emptied
+rowEffect c55 p s d = Address (arg d 0 - 0x40)
+rowEffect c56 p s d = Nothing
 rowEffect unknown p s d = Nothing
 
 -- 01, "An error reply .. changes nothing else"

@@ -12,6 +12,7 @@ abbrev pub stateWith : State → meaning.Line → meaning.State
 stateWith s l = record {
   codes = s .codes;
   counter = s .counter;
+  address = s .address;
   offset = s .offset;
   measured = s .measured;
   queue = queueOf (s .faults);

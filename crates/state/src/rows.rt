@@ -1,12 +1,13 @@
 // The commands that work on the state alone, their checks in the row's order (01, "The commands"). Reply data goes to place 2 of the room on.
 ghost use mathlib.Core.Path.{_≡_};
+ghost use mathlib.Core.Bool.{not};
 ghost use mathlib.Core.List.{List, _∷_, []};
 ghost use Prim.Native.Nat.{ℕ, _≤_, _<_, _^_};
 ghost use lib.Dec.{leb, ltb};
 ghost use lib.ListN.{length, getD};
 ghost use Rattle.meaning.specs.Bytes.{differ, longestReply, put, number, bytes3, bytes4};
-ghost use Rattle.meaning.specs.State.{Plate, Line, lastCount, position, offsetFor};
-ghost use Rattle.meaning.specs.Commands.{c42, c43, c46, c47, c49, c4F, c50, c53};
+ghost use Rattle.meaning.specs.State.{Plate, Line, boardByte, lastCount, position, offsetFor};
+ghost use Rattle.meaning.specs.Commands.{c42, c43, c46, c47, c49, c4F, c50, c53, c55};
 ghost use Rattle.state.specs.State.{stateWith};
 ghost use Rattle.state.specs.Rows.{checkOf, Answers};
 use crate::effects::Effect;
@@ -39,7 +40,7 @@ fn refused(code: u8) -> Worked
     }
 }
 
-fn accepted(effect: Effect, count: u8) -> Worked
+pub(crate) fn accepted(effect: Effect, count: u8) -> Worked
     ensures { λ r. ⌜ r ≡ record { effect = effect; answer = Answer.Accept count } ⌝ }
 {
     Worked {
@@ -88,6 +89,16 @@ fn check_number(number: u8) -> Check
         return Check::Failed;
     }
     Check::Passed
+}
+
+// 000, table 30, "40...5Fh".
+fn check_address(byte: u8) -> Check
+    ensures { λ r. ⌜ r ≡ checkOf (not (boardByte byte)) ⌝ }
+{
+    if wire::is_board(byte) {
+        return Check::Passed;
+    }
+    Check::Failed
 }
 
 // 01, "Position is (measured + offset) mod 2^P".
@@ -234,4 +245,20 @@ pub fn reset(state: State) -> Worked
         effect: Effect::Emptied,
         answer: Answer::Quiet,
     }
+}
+
+// 02, Req 01, 55h: 0Fh unless Code0; 0Dh unless the new byte is a board's.
+pub fn set_address(state: State, request: &[u8]) -> Worked
+    requires { ⌜ length (now request) ≡ 2 ⌝ }
+    ensures { λ r. ⌜ ((p : Plate) (l : Line) (m w : List ℕ) → Answers c55 p state l m (now (request .entry)) w r w) ⌝ }
+{
+    let codes = state.codes;
+    let Check::Passed = check_code(codes, 0, request[1]) else {
+        return refused(WRONG_CODE);
+    };
+    let byte = request[0];
+    let Check::Passed = check_address(byte) else {
+        return refused(WRONG_ARGUMENT);
+    };
+    accepted(Effect::Address(byte - 0x40), 0)
 }

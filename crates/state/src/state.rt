@@ -4,13 +4,14 @@ ghost use Prim.Native.Nat.{_≤_, _<_, _^_};
 ghost use lib.ListN.{length, set};
 ghost use lib.Dec.{ltb};
 ghost use Rattle.meaning.specs.Bytes.{longestRequest};
-ghost use Rattle.meaning.specs.State.{Plate, Line, fresh, stateOk, withCodes, withCounter, withOffset, withMeasured, none, noted, poweredOn};
+ghost use Rattle.meaning.specs.State.{Plate, Line, fresh, stateOk, withCodes, withCounter, withAddress, withOffset, withMeasured, none, noted, poweredOn};
 ghost use Rattle.state.specs.State.{stateWith, ReadsOut};
-ghost use Rattle.state.specs.Effects.{WithinFour, effectOn};
+ghost use Rattle.state.specs.Effects.{Settable, effectOn};
 ghost use Rattle.state.specs.Queue.{holding};
 use crate::effects::Effect;
 use crate::faults::Faults;
 use wire::codes::COUNTER_OVERFLOW;
+use wire::codes::LAST_ADDRESS;
 
 // 01, "counter at most FFFFFFh".
 pub const LAST_COUNT: u32 = 0xFFFFFF;
@@ -18,6 +19,7 @@ pub const LAST_COUNT: u32 = 0xFFFFFF;
 pub struct State {
     pub codes: [u8; 4],
     pub counter: u32,
+    pub address: u8,
     pub offset: u32,
     pub measured: u32,
     pub faults: Faults,
@@ -30,12 +32,14 @@ pub struct OldestFault {
 }
 
 impl State {
-    pub fn fresh() -> State
-        ensures { λ r. ⌜ ((p : Plate) → stateWith r none ≡ fresh p) ⌝ }
+    // With the plate's address (02, Req 01).
+    pub fn fresh(address: u8) -> State
+        ensures { λ r. ⌜ ((p : Plate) → p .address ≡ address → stateWith r none ≡ fresh p) ⌝ }
     {
         State {
             codes: [0x55, 0x55, 0x55, 0x55],
             counter: 0,
+            address,
             offset: 0,
             measured: 0,
             faults: Faults::none(),
@@ -56,6 +60,14 @@ impl State {
     {
         let mut next = self;
         next.counter = counter;
+        next
+    }
+
+    fn with_address(self, address: u8) -> State
+        ensures { λ r. ⌜ ((l : Line) → stateWith r l ≡ withAddress (stateWith self l) address) ⌝ }
+    {
+        let mut next = self;
+        next.address = address;
         next
     }
 
@@ -85,13 +97,14 @@ impl State {
 
     // What a command changes, changed; all else stays.
     pub fn after(self, effect: Effect) -> State
-        requires { ⌜ WithinFour effect ⌝ }
+        requires { ⌜ Settable effect ⌝ }
         ensures { λ r. ⌜ ((l : Line) → stateWith r l ≡ effectOn effect (stateWith self l)) ⌝ }
     {
         match effect {
             Effect::Nothing => self,
             Effect::Code(number, code) => self.with_code(number, code),
             Effect::Counter(counter) => self.with_counter(counter),
+            Effect::Address(address) => self.with_address(address),
             Effect::Offset(offset) => self.with_offset(offset),
             Effect::Overflow => {
                 let faults = self.faults.queued(COUNTER_OVERFLOW);
@@ -137,6 +150,9 @@ impl State {
         ensures { λ r. ⌜ ((p : Plate) (l : Line) → p .bits ≡ bits → length (l .kept) ≤ longestRequest → r ≡ stateOk p (stateWith self l)) ⌝ }
     {
         if LAST_COUNT < self.counter {
+            return false;
+        }
+        if LAST_ADDRESS < self.address {
             return false;
         }
         if !offset_fits(self.offset, bits) {

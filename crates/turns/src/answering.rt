@@ -15,6 +15,7 @@ use board::Outcome;
 use board::Stepped;
 use line::Plate;
 use tape::Event;
+use wire::codes::LABEL_LENGTH;
 
 // The board after a record, how much of the output is used, and whether the record was bad.
 pub struct Turned {
@@ -90,7 +91,7 @@ fn not_called(board: Board) -> Called
     }
 }
 
-// The board's call for what a record says; a second plate and an unfit record are none. Only a character and a poll bring a line.
+// The board's call for what a record says; a second plate and an unfit record are none. On the tape the label bytes are all zero (02, Req 01). Only a character and a poll bring a line.
 fn ask(
     plate: Plate,
     board: Board,
@@ -102,22 +103,23 @@ fn ask(
     requires { ⌜ Sound plate board (now kept) (now memory) (now reply) ⌝ }
     ensures { λ r. ⌜ Calls plate board (saidOf event) (now (kept .entry)) (now (memory .entry)) (now (reply .entry)) r (now (kept .exit)) (now (memory .exit)) (now (reply .exit)) ⌝ }
 {
+    let label = [0u8; LABEL_LENGTH];
     match event {
         Event::Character {
             tick,
             value,
             parity,
         } => {
-            let stepped = board::character(plate, board, tick, value, parity, kept, memory, reply);
+            let stepped = board::character(plate, &label, board, tick, value, parity, kept, memory, reply);
             brought(stepped, tick)
         }
         Event::Poll { tick } => {
-            let stepped = board::poll(plate, board, tick, kept, memory, reply);
+            let stepped = board::poll(plate, &label, board, tick, kept, memory, reply);
             brought(stepped, tick)
         }
-        Event::Measured { position } => brought(board::measured(plate, board, position), 0),
-        Event::Fault { code } => brought(board::fault(plate, board, code), 0),
-        Event::PowerOn => brought(board::power_on(plate, board), 0),
+        Event::Measured { position } => brought(board::measured(plate, &label, board, position), 0),
+        Event::Fault { code } => brought(board::fault(plate, &label, board, code), 0),
+        Event::PowerOn => brought(board::power_on(plate, &label, board), 0),
         _ => not_called(board),
     }
 }

@@ -5,6 +5,7 @@ use mathlib.Core.List.{List, [], _∷_}
 use Prim.Native.Nat.{ℕ}
 use lib.ListN.{length, length-replicate}
 use Rattle.meaning.specs.Bytes.{arg, zeros}
+use Rattle.meaning.specs.State.{Plate, State, fresh, withAddress, ownByte}
 use Rattle.meaning.specs.Commands.{commandOf, row, lengthFits}
 use Rattle.meaning.specs.Commands as meaning
 use Rattle.wire.specs.Table.{lengthOf, rowOf}
@@ -43,3 +44,7 @@ row-of-tight c a b p q = one-outcome rowOf rowBack row-back (row (commandOf c)) 
 pub length-fits-tight : (l : meaning.Length) (d : List ℕ) (n : ℕ) (a b : Bool) → ((x : List ℕ) → length x ≡ n → a ≡ lengthFits l d x)
     → ((x : List ℕ) → length x ≡ n → b ≡ lengthFits l d x) → a ≡ b
 length-fits-tight l d n a b p q = p (zeros n) (length-replicate n 0) ∙ sym (q (zeros n) (length-replicate n 0))
+
+pub own-byte-tight : (p : Plate) (n a b : ℕ) → ((s : State) → s .address ≡ n → a ≡ ownByte s) → ((s : State) → s .address ≡ n → b ≡ ownByte s) → a ≡ b
+unfolding withAddress
+own-byte-tight p n a b h i = h (withAddress (fresh p) n) refl ∙ sym (i (withAddress (fresh p) n) refl)

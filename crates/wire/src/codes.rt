@@ -34,6 +34,14 @@ pub const ERROR_REPLY: u8 = 0x50;
 
 pub const BROADCAST: u8 = 0xFF;
 
+// 01, "address a 0 to 31".
+pub const LAST_ADDRESS: u8 = 31;
+
+// 000, table 28, then table 31: the type label's bytes, and those of serial number, program version and date.
+pub const TYPE_LABEL: usize = 4;
+
+pub const LABEL_LENGTH: usize = 41;
+
 // The most bytes that are kept of a frame, and that a request has.
 pub const LONGEST_REQUEST: usize = 135;
 

@@ -1,4 +1,5 @@
 // What board and bench share of the wire: the frame of 000, 2.3.3, its bytes and numbers, the error codes, the table of the commands, and what a command comes to.
+mod address;
 mod answer;
 mod bytes;
 pub mod codes;
@@ -7,6 +8,8 @@ mod number;
 mod sum;
 mod table;
 
+pub use address::is_board;
+pub use address::own_byte;
 pub use answer::Answer;
 pub use bytes::byte_at;
 pub use bytes::data_part;

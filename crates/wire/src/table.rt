@@ -34,7 +34,7 @@ fn known_row(request: Length, reply: Length, repeats: usize) -> Row
     }
 }
 
-// 53h has no reply (000, "Encoder Reset").
+// 53h has no reply (000, "Encoder Reset"). 52h, 55h and 56h by 000, tables 28, 30 and 31 (02, Req 01).
 pub fn row_of(command: u8) -> Row
     ensures { λ r. ⌜ rowOf r ≡ row (commandOf command) ⌝ }
 {
@@ -51,7 +51,10 @@ pub fn row_of(command: u8) -> Row
         0x4E => known_row(Length::Exactly(0), Length::Exactly(2), 0),
         0x4F => known_row(Length::Exactly(3), Length::Exactly(1), 1),
         0x50 => known_row(Length::Exactly(0), Length::Exactly(1), 0),
+        0x52 => known_row(Length::Exactly(0), Length::Exactly(4), 0),
         0x53 => known_row(Length::Exactly(0), Length::Never, 0),
+        0x55 => known_row(Length::Exactly(2), Length::Exactly(0), 0),
+        0x56 => known_row(Length::Exactly(0), Length::Exactly(37), 0),
         _ => Row {
             known: false,
             request: Length::Never,

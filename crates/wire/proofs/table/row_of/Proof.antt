@@ -47,6 +47,15 @@ known-row-requires-12 c κs = search needs
 known-row-requires-13 : tie.Need-known-row-requires-13
 known-row-requires-13 c κs = search needs
 
+known-row-requires-14 : tie.Need-known-row-requires-14
+known-row-requires-14 c κs = search needs
+
+known-row-requires-15 : tie.Need-known-row-requires-15
+known-row-requires-15 c κs = search needs
+
+known-row-requires-16 : tie.Need-known-row-requires-16
+known-row-requires-16 c κs = search needs
+
 returns : tie.Need-returns
 unfolding commandOf row
 returns c = rw (c .before .match .keys1) (c .known-row .ensures)
@@ -101,9 +110,24 @@ returns-13 c = rw (c .before .match .keys13) (c .known-row13 .ensures)
 
 returns-14 : tie.Need-returns-14
 unfolding commandOf row
-returns-14 c =
+returns-14 c = rw (c .before .match .keys14) (c .known-row14 .ensures)
+
+returns-15 : tie.Need-returns-15
+unfolding commandOf row
+returns-15 c = rw (c .before .match .keys15) (c .known-row15 .ensures)
+
+returns-16 : tie.Need-returns-16
+unfolding commandOf row
+returns-16 c = rw (c .before .match .keys16) (c .known-row16 .ensures)
+
+returns-17 : tie.Need-returns-17
+unfolding commandOf row
+returns-17 c =
     let r = c .match .rest in
     simp (
+      ne-eqb _ _ (r .0 .0 .0 .0 .0 .0 .0 .0 .0 .0 .0 .0 .0 .0 .0 .1),
+      ne-eqb _ _ (r .0 .0 .0 .0 .0 .0 .0 .0 .0 .0 .0 .0 .0 .0 .1),
+      ne-eqb _ _ (r .0 .0 .0 .0 .0 .0 .0 .0 .0 .0 .0 .0 .0 .1),
       ne-eqb _ _ (r .0 .0 .0 .0 .0 .0 .0 .0 .0 .0 .0 .0 .1),
       ne-eqb _ _ (r .0 .0 .0 .0 .0 .0 .0 .0 .0 .0 .0 .1),
       ne-eqb _ _ (r .0 .0 .0 .0 .0 .0 .0 .0 .0 .0 .1),
@@ -136,6 +160,9 @@ row-of-spec =
     known-row-requires-11
     known-row-requires-12
     known-row-requires-13
+    known-row-requires-14
+    known-row-requires-15
+    known-row-requires-16
     returns
     returns-2
     returns-3
@@ -149,4 +176,7 @@ row-of-spec =
     returns-11
     returns-12
     returns-13
-    returns-14)
+    returns-14
+    returns-15
+    returns-16
+    returns-17)

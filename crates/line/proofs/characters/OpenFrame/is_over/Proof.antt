@@ -27,17 +27,17 @@ returns : tie.Need-returns
 unfolding over
 returns c =
     let after-1 = c .before .before .before .before in
-    λ s kept e. rw (ap (λ (l : Line). l .begun) e, ap (λ (l : Line). l .last) e) (simp (after-1 .if1 .taken, le-leb _ _ (c .if2 .taken), sym (c .before .gap .ensures)))
+    λ s kept l e. rw (ap (λ (x : Line). x .begun) e, ap (λ (x : Line). x .last) e) (simp (after-1 .if1 .taken, le-leb _ _ (c .if2 .taken), sym (c .before .gap .ensures)))
 
 returns-2 : tie.Need-returns-2
 unfolding over
 returns-2 c =
     let after-1 = c .before .before .before .before in
-    λ s kept e. rw (ap (λ (l : Line). l .begun) e, ap (λ (l : Line). l .last) e) (simp (after-1 .if1 .taken, lt-leb _ _ (c .if2 .left), sym (c .before .gap .ensures)))
+    λ s kept l e. rw (ap (λ (x : Line). x .begun) e, ap (λ (x : Line). x .last) e) (simp (after-1 .if1 .taken, lt-leb _ _ (c .if2 .left), sym (c .before .gap .ensures)))
 
 returns-3 : tie.Need-returns-3
 unfolding over
-returns-3 c = λ s kept e. rw (ap (λ (l : Line). l .begun) e) (simp (c .if1 .left))
+returns-3 c = λ s kept l e. rw (ap (λ (x : Line). x .begun) e) (simp (c .if1 .left))
 
 pub is-over-spec : {M : Type 1} → statement M
 is-over-spec =
