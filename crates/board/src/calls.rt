@@ -50,7 +50,14 @@ pub fn poll(
 ) -> Stepped
     ensures { λ r. ⌜ Steps (plateOf plate (now (label .entry))) board (now (kept .entry)) (now (memory .entry)) (now (room .entry)) (run.poll tick) r (now (kept .exit)) (now (memory .exit)) (now (room .exit)) ⌝ }
 {
-    let refused = refusal(plate, label.len(), board, kept.len(), memory.len(), room.len());
+    let refused = refusal(
+        plate,
+        label.len(),
+        board,
+        kept.len(),
+        memory.len(),
+        room.len(),
+    );
     let state = board.state;
     let frame = board.frame;
     if refused.is_refusal() {

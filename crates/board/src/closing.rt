@@ -32,7 +32,13 @@ pub fn refuse(state: State, code: u8, room: &mut [u8]) -> u8
         return 0;
     }
     let waiting = state.faults.waits();
-    send(wire::own_byte(state.address), waiting, ERROR_REPLY, Answer::Refuse(code), room)
+    send(
+        wire::own_byte(state.address),
+        waiting,
+        ERROR_REPLY,
+        Answer::Refuse(code),
+        room,
+    )
 }
 
 // A request that needs the memory, and leaves the state as it is.
@@ -50,7 +56,13 @@ fn ask(
     let codes = state.codes;
     let answer = on_memory(total, &codes, command, request, memory, room);
     let waiting = state.faults.waits();
-    send(wire::own_byte(state.address), waiting, command, answer, room)
+    send(
+        wire::own_byte(state.address),
+        waiting,
+        command,
+        answer,
+        room,
+    )
 }
 
 // Any other request; the memory is not touched.
@@ -113,5 +125,13 @@ pub(crate) fn close(
         let sent = refuse(state, judgement.code(), room);
         return Closed { state, sent };
     };
-    serve(plate, label, state, command, wire::data_part(bytes), memory, room)
+    serve(
+        plate,
+        label,
+        state,
+        command,
+        wire::data_part(bytes),
+        memory,
+        room,
+    )
 }

@@ -64,7 +64,17 @@ fn converse(
     requires { ⌜ Clear (plateOf plate (now label)) board spacing (now request) (now kept) (now memory) (now room) ⌝ }
     ensures { λ r. ⌜ ((n c : ℕ) (d : List ℕ) → Asks n c d (now (request .entry)) → Converses (plateOf plate (now (label .entry))) board n c d (now (kept .entry)) (now (memory .entry)) (now (room .entry)) r (now (kept .exit)) (now (memory .exit)) (now (room .exit))) ⌝ }
 {
-    let sent = send(plate, label, board, tick, spacing, request, kept, memory, room);
+    let sent = send(
+        plate,
+        label,
+        board,
+        tick,
+        spacing,
+        request,
+        kept,
+        memory,
+        room,
+    );
     let over = line::stamp_after(sent.last, pause_of(plate));
     let waiting = sent.board;
     let closed = board::poll(plate, label, waiting, over, kept, memory, room);
@@ -100,7 +110,14 @@ pub fn exchange(
 ) -> Exchanged
     ensures { λ r. ⌜ Passes (plateOf plate (now (label .entry))) board address command (now (body .entry)) spacing (now (request .entry)) (now (kept .entry)) (now (memory .entry)) (now (room .entry)) r (now (request .exit)) (now (kept .exit)) (now (memory .exit)) (now (room .exit)) ⌝ }
 {
-    match board::refusal(plate, label.len(), board, kept.len(), memory.len(), room.len()) {
+    match board::refusal(
+        plate,
+        label.len(),
+        board,
+        kept.len(),
+        memory.len(),
+        room.len(),
+    ) {
         Outcome::R1 => return unsent(board, Refusal::R1),
         Outcome::R2 => return unsent(board, Refusal::R2),
         Outcome::R3 => return unsent(board, Refusal::R3),
@@ -117,7 +134,17 @@ pub fn exchange(
         Written::R5 => unsent(board, Refusal::R5),
         Written::Request { len } => {
             let asked = &request[..len];
-            converse(plate, label, board, tick, spacing, asked, kept, memory, room)
+            converse(
+                plate,
+                label,
+                board,
+                tick,
+                spacing,
+                asked,
+                kept,
+                memory,
+                room,
+            )
         }
     }
 }

@@ -41,7 +41,17 @@ pub(crate) fn send(
     let mut i = 0;
     while i < request.len() {
         last = stamp;
-        let stepped = board::character(plate, label, taken, stamp, request[i], false, kept, memory, room);
+        let stepped = board::character(
+            plate,
+            label,
+            taken,
+            stamp,
+            request[i],
+            false,
+            kept,
+            memory,
+            room,
+        );
         taken = stepped.board;
         stamp = line::stamp_after(stamp, spacing);
         i += 1;

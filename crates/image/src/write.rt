@@ -9,7 +9,7 @@ ghost use Rattle.meaning.specs.State.{Line, lastCount, none};
 ghost use Rattle.meaning.specs.Characters.{more};
 ghost use Rattle.line.specs.Line.{lineOf};
 ghost use Rattle.state.specs.State.{stateWith};
-ghost use Rattle.state.specs.Effects.{Settable};
+ghost use Rattle.state.specs.Effects.{Bounded};
 ghost use Rattle.wire.specs.Numbers.{low4};
 ghost use Rattle.image.specs.Image.{frameAt, parityAt, keptAt, coreLength, flagByte, isCore, stateIn, frameIn, keptIn, stateBytes};
 ghost use Rattle.image.specs.Writes.{frameRow, measuredSet, faultsSet, counterSet, offsetSet, HoldsState, Open, PutsState, NotesIn, PutsEffect, PutsFrame, PutsBoard, Takes};
@@ -182,7 +182,7 @@ fn put_offset(offset: u32, core: &mut [u8])
 
 // What a command changes, in place: nothing is written that does not change. The codes are the core's first bytes.
 pub fn put_effect(effect: Effect, core: &mut [u8])
-    requires { ⌜ Settable effect ⌝ }
+    requires { ⌜ Bounded effect ⌝ }
     requires { ⌜ HoldsState (now core) ⌝ }
     ensures { λ _. ⌜ PutsEffect effect (now (core .entry)) (now (core .exit)) ⌝ }
 {

@@ -18,7 +18,7 @@ use Rattle.state.specs.declared.rows.Check.the-variants.{Passed, Failed}
 use Rattle.state.specs.State.{stateWith}
 use Rattle.state.specs.declared.effects.Effect.{Effect}
 use Rattle.state.specs.declared.effects.Effect.the-variants.{Nothing}
-use Rattle.state.specs.Effects.{Settable, effectOn, rowEffect}
+use Rattle.state.specs.Effects.{Bounded, effectOn, rowEffect}
 use Rattle.state.specs.Rows.{checkOf, Answers}
 use Rattle.meaning.proofs.Puts.{stored-is-put}
 
@@ -32,13 +32,13 @@ module _ (k : Command) (p : Plate) (s : State) (l : Line) (m d w : List ℕ) whe
   refuses h q = rw h (record { answer = rw q; effect = rw q; placed = tt; state = rw q; room = rw q })
 
   pub accepts : {x : Effect} {n : ℕ} {r : Worked} {w′ : List ℕ} (z : List ℕ) → r ≡ (record { effect = x; answer = Accept n })
-      → worked k p (stateWith s l) m d ≡ accept z (effectOn x (stateWith s l)) m → rowEffect k p (stateWith s l) d ≡ x → Settable x → n ≡ length z → w′ ≡ put w 2 z
+      → worked k p (stateWith s l) m d ≡ accept z (effectOn x (stateWith s l)) m → rowEffect k p (stateWith s l) d ≡ x → Bounded x → n ≡ length z → w′ ≡ put w 2 z
       → Answers k p s l m d w r w′
   accepts z h q x t n o = rw h (record { answer = rw q (ap Accept n); effect = rw q (sym x); placed = t; state = rw q; room = rw q o })
 
   -- without reply data the room is as it was
   pub accepts-bare : {x : Effect} {r : Worked} → r ≡ (record { effect = x; answer = Accept 0 }) → worked k p (stateWith s l) m d ≡ accept [] (effectOn x (stateWith s l)) m
-      → rowEffect k p (stateWith s l) d ≡ x → Settable x → Answers k p s l m d w r w
+      → rowEffect k p (stateWith s l) d ≡ x → Bounded x → Answers k p s l m d w r w
   accepts-bare h q x t = accepts [] h q x t refl (put-nothing w 2)
 
 stands : Check → Bool

@@ -40,13 +40,13 @@ same-faults f g h l =
     parts (same-front (f .first) (g .first) _ _ h) (same-front (f .second) (g .second) _ _ h₂) (same-front (f .third) (g .third) _ _ h₃)
     (same-front (f .fourth) (g .fourth) [] [] h₄) l
 
-fields : {a a′ : List ℕ} {b c d b′ c′ d′ : ℕ} {f f′ : Faults} → a ≡ a′ → b ≡ b′ → c ≡ c′ → d ≡ d′ → f ≡ f′
-    → _≡_ {A = State} (record { codes = a; counter = b; offset = c; measured = d; faults = f }) (record { codes = a′; counter = b′; offset = c′; measured = d′; faults = f′ })
-fields i j k n o = rw (i, j, k, n, o)
+fields : {a a′ : List ℕ} {b x c d b′ x′ c′ d′ : ℕ} {f f′ : Faults} → a ≡ a′ → b ≡ b′ → x ≡ x′ → c ≡ c′ → d ≡ d′ → f ≡ f′
+    → _≡_ {A = State} (record { codes = a; counter = b; address = x; offset = c; measured = d; faults = f }) (record { codes = a′; counter = b′; address = x′; offset = c′; measured = d′; faults = f′ })
+fields i j y k n o = rw (i, j, y, k, n, o)
 
 pub same-state : (s t : State) (l n : meaning.Line) → stateWith s l ≡ stateWith t n → s ≡ t
 same-state s t l n h =
-    fields (ap (λ (x : meaning.State). x .codes) h) (ap (λ (x : meaning.State). x .counter) h) (ap (λ (x : meaning.State). x .offset) h)
+    fields (ap (λ (x : meaning.State). x .codes) h) (ap (λ (x : meaning.State). x .counter) h) (ap (λ (x : meaning.State). x .address) h) (ap (λ (x : meaning.State). x .offset) h)
     (ap (λ (x : meaning.State). x .measured) h) (same-faults (s .faults) (t .faults) (ap (λ (x : meaning.State). x .queue) h) (ap (λ (x : meaning.State). x .locked) h))
 
 -- so no two differing outcomes satisfy a contract of this crate (01, "How tightly the contracts bind")
@@ -62,7 +62,7 @@ pub is-ok-tight : (s : State) (bits : ℕ) (a b : Bool)
     → ((p : meaning.Plate) (l : meaning.Line) → p .bits ≡ bits → length (l .kept) ≤ 135 → b ≡ stateOk p (stateWith s l)) → a ≡ b
 unfolding none
 is-ok-tight s bits a b h i =
-    let p : meaning.Plate = record { total = 1; bits = bits; address = 0; ticks = 1; pause = 22 } in
+    let p : meaning.Plate = record { total = 1; bits = bits; address = 0; ticks = 1; pause = 22; label = [] } in
     h p none refl (omega arith) ∙ sym (i p none refl (omega arith))
 
 pub queues-tight : (f : Faults) (q : List ℕ) (r t : Faults) → Queues f q r → Queues f q t → r ≡ t

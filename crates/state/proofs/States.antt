@@ -14,7 +14,7 @@ use Rattle.state.specs.declared.faults.Faults.{Faults}
 use Rattle.state.specs.declared.state.State.{State}
 use Rattle.state.specs.Queue.{waiting, queueOf, noFaults, holding}
 use Rattle.state.specs.State.{stateWith}
-use Rattle.meaning.proofs.Choices.{both-true}
+use Rattle.meaning.proofs.Choices.{both-true, both-false}
 
 holds-own : (s : State) (l : Line) → holding (stateWith s l) (s .faults) ≡ stateWith s l
 unfolding holding withLock withQueue
@@ -45,11 +45,18 @@ unfolding queueOf
 at-most-four f =
     longer-by-one (f .first) 3 _ (longer-by-one (f .second) 2 _ (longer-by-one (f .third) 1 _ (longer-by-one (f .fourth) 0 [] (omega arith))))
 
+-- the address is tested earlier than the definition tells it
+moved : (a x b c : Bool) → both a (both x (both b c)) ≡ both a (both b (both c x))
+moved false x b c = refl
+moved true true b c = ap (both b) (sym (both-true c))
+moved true false true c = sym (both-false c)
+moved true false false c = refl
+
 -- 01, "State limits"
 pub within : (s : State) (p : Plate) (l : Line) {t : Bool} → length (s .codes) ≡ 4 → length (l .kept) ≤ 135
-    → both (leb (s .counter) 0xFFFFFF) (both (ltb (s .offset) (2 ^ p .bits)) (apart (queueOf (s .faults)))) ≡ t
+    → both (leb (s .counter) 0xFFFFFF) (both (leb (s .address) 31) (both (ltb (s .offset) (2 ^ p .bits)) (apart (queueOf (s .faults))))) ≡ t
     → t ≡ stateOk p (stateWith s l)
 unfolding stateOk
 within s p l four few e =
     rw (le-leb (length (queueOf (s .faults))) 4 (at-most-four (s .faults)), le-leb (length (l .kept)) 135 few, eq-eqb (length (s .codes)) 4 four)
-    (sym e ∙ ap (λ (t : Bool). both (leb (s .counter) 0xFFFFFF) (both (ltb (s .offset) (2 ^ p .bits)) t)) (sym (both-true (apart (queueOf (s .faults))))))
+    (sym e ∙ moved (leb (s .counter) 0xFFFFFF) (leb (s .address) 31) (ltb (s .offset) (2 ^ p .bits)) (apart (queueOf (s .faults))))

@@ -1,16 +1,17 @@
 -- The ways out of each command that works on the state alone, by the facts on the way (01, "The commands"). Assumes nothing.
-use Prim.Native.Nat.{ℕ, _+_, _^_, _≤_, _<_}
+use Prim.Native.Nat.{ℕ, _+_, _-_, _^_, _≤_, _<_}
 use native.Mathlib.Omega.{arith}
 use mathlib.Core.Path.{_≡_, refl, sym, ap, _∙_}
-use mathlib.Core.Bool.{Bool, true, false}
+use mathlib.Core.Bool.{Bool, true, false, not}
 use mathlib.Core.List.{List, [], _∷_}
-use borrow.Author.Tests.{ltb-false}
+use borrow.Author.Tests.{eqb-false, leb-true, ltb-false, not-false}
 use lib.Dec.{eqb, leb, ltb}
-use lib.ListN.{length, getD, take, drop, set}
-use Rattle.meaning.specs.Bytes.{differ, longestReply, put, number, bytes3, bytes4}
+use lib.ListN.{length, getD, take, drop, set, length-drop}
+use lib.Seq.{length-take-le}
+use Rattle.meaning.specs.Bytes.{both, differ, longestReply, part, put, number, bytes3, bytes4}
 use Rattle.meaning.specs.State as meaning
-use Rattle.meaning.specs.State.{Plate, Line, code, queued, position, offsetFor, withCodes, withCounter, withOffset, withQueue, withLock}
-use Rattle.meaning.specs.Commands.{c42, c43, c46, c47, c49, c4F, c50, c53, accept, error, choose, readPosition, setPosition, readCounter, stepCounter, clearCounter, setCode, readFault, reset, worked}
+use Rattle.meaning.specs.State.{Plate, Line, labelLength, boardByte, code, queued, position, offsetFor, withCodes, withCounter, withAddress, withOffset, withQueue, withLock}
+use Rattle.meaning.specs.Commands.{Command, c42, c43, c46, c47, c49, c4F, c50, c53, c55, accept, error, choose, readPosition, setPosition, readCounter, stepCounter, clearCounter, setCode, readFault, reset, setAddress, worked}
 use Rattle.meaning.specs.Commands as commands
 use Rattle.wire.specs.declared.answer.Answer.the-variants.{Refuse, Accept, Quiet}
 use Rattle.state.specs.declared.faults.Faults.{Faults}
@@ -22,11 +23,21 @@ use Rattle.state.specs.declared.rows.Check.the-variants.{Passed, Failed}
 use Rattle.state.specs.Queue.{queueOf, holding, Queues, Reads}
 use Rattle.state.specs.State.{stateWith, ReadsOut}
 use Rattle.state.specs.declared.effects.Effect.{Effect}
-use Rattle.state.specs.declared.effects.Effect.the-variants.{Nothing, Code, Counter, Offset, Overflow, OldestRead, Emptied}
-use Rattle.state.specs.Effects.{Settable, effectOn, rowEffect}
+use Rattle.state.specs.declared.effects.Effect.the-variants.{Nothing, Code, Counter, Address, Offset, Overflow, OldestRead, Emptied}
+use Rattle.state.specs.Effects.{Bounded, effectOn, rowEffect}
 use Rattle.state.specs.Rows.{checkOf, Answers}
 use Rattle.state.proofs.Answering.{refuses, accepts, accepts-bare, failed, passed, first-four}
 use Rattle.meaning.proofs.Puts.{put-one}
+use Rattle.meaning.proofs.Choices.{both-left, both-right}
+
+-- 000, table 30: a byte that passes is 40h to 5Fh
+pub board-range : (a : ℕ) → checkOf (not (boardByte a)) ≡ Passed → (0x40 ≤ a) × (a ≤ 0x5F)
+unfolding boardByte
+board-range a e =
+    let k : both (leb 0x40 a) (leb a 0x5F) ≡ true = not-false _ (passed (not (both (leb 0x40 a) (leb a 0x5F))) e) in (
+      leb-true 0x40 a (both-left (leb 0x40 a) (leb a 0x5F) k),
+      leb-true a 0x5F (both-right (leb 0x40 a) (leb a 0x5F) k),
+    )
 
 -- a check that passes
 passes : (e : ℕ) (t : Bool) (a : commands.Answer) → t ≡ false → error e t a ≡ a
@@ -79,11 +90,11 @@ module _ (p : Plate) (s : State) (l : Line) (m d w : List ℕ) {r : Worked} wher
 
   pub cleared-49 : r ≡ (record { effect = Counter 0; answer = Accept 0 }) → checkOf (differ (getD d 0 0) (getD (s .codes) 0 0)) ≡ Passed → Answers c49 p s l m d w r w
   unfolding worked clearCounter error code effectOn rowEffect
-  cleared-49 k b = accepts-bare c49 p s l m d w k (rw (passed (differ (getD d 0 0) (getD (s .codes) 0 0)) b)) refl tt
+  cleared-49 k b = accepts-bare c49 p s l m d w k (rw (passed (differ (getD d 0 0) (getD (s .codes) 0 0)) b)) refl (omega arith)
 
-  pub steps-47 : r ≡ (record { effect = Counter (s .counter + 1); answer = Accept 0 }) → eqb (s .counter) 0xFFFFFF ≡ false → Answers c47 p s l m d w r w
+  pub steps-47 : s .counter ≤ 0xFFFFFF → r ≡ (record { effect = Counter (s .counter + 1); answer = Accept 0 }) → eqb (s .counter) 0xFFFFFF ≡ false → Answers c47 p s l m d w r w
   unfolding worked stepCounter choose effectOn rowEffect
-  steps-47 k e = accepts-bare c47 p s l m d w k (rw e) (rw e) tt
+  steps-47 few k e = accepts-bare c47 p s l m d w k (rw e) (rw e) (omega (arith, few, eqb-false (s .counter) 0xFFFFFF e))
 
   pub wraps-47 : r ≡ (record { effect = Overflow; answer = Accept 0 }) → eqb (s .counter) 0xFFFFFF ≡ true → Answers c47 p s l m d w r w
   unfolding worked stepCounter choose effectOn rowEffect
@@ -111,6 +122,27 @@ module _ (p : Plate) (s : State) (l : Line) (m d w : List ℕ) {r : Worked} wher
   unfolding worked readFault effectOn rowEffect
   told-50 {c} h k o = accepts c50 p s l m d w (c ∷ []) k (rw (← o .oldest)) refl tt refl (put-one w 2 c (omega arith))
 
+  pub barred-55 : r ≡ (record { effect = Nothing; answer = Refuse 0x0F }) → checkOf (differ (getD d 1 0) (getD (s .codes) 0 0)) ≡ Failed → Answers c55 p s l m d w r w
+  unfolding worked setAddress error code
+  barred-55 k b = refuses c55 p s l m d w k (rw (failed (differ (getD d 1 0) (getD (s .codes) 0 0)) b))
+
+  module _ (b : checkOf (differ (getD d 1 0) (getD (s .codes) 0 0)) ≡ Passed) where
+    pub none-55 : r ≡ (record { effect = Nothing; answer = Refuse 0x0D }) → checkOf (not (boardByte (getD d 0 0))) ≡ Failed → Answers c55 p s l m d w r w
+    unfolding worked setAddress error code
+    none-55 k e = refuses c55 p s l m d w k (rw (passed (differ (getD d 1 0) (getD (s .codes) 0 0)) b, failed (not (boardByte (getD d 0 0))) e))
+
+    pub set-55 : r ≡ (record { effect = Address (getD d 0 0 - 0x40); answer = Accept 0 }) → checkOf (not (boardByte (getD d 0 0))) ≡ Passed → Answers c55 p s l m d w r w
+    unfolding worked setAddress error code effectOn rowEffect
+    set-55 k e =
+        accepts-bare c55 p s l m d w k (rw (passed (differ (getD d 1 0) (getD (s .codes) 0 0)) b, passed (not (boardByte (getD d 0 0))) e)) refl
+        (omega (arith, (board-range (getD d 0 0) e) .1))
+
+  -- 52h and 56h: n of the label bytes from place i on
+  pub told-label : (k : Command) (i n : ℕ) {w′ : List ℕ} → worked k p (stateWith s l) m d ≡ accept (part (p .label) i n) (stateWith s l) m → rowEffect k p (stateWith s l) d ≡ Nothing
+      → length (p .label) ≡ labelLength → i + n ≤ labelLength → r ≡ (record { effect = Nothing; answer = Accept n }) → w′ ≡ put w 2 (part (p .label) i n) → Answers k p s l m d w r w′
+  unfolding effectOn part
+  told-label k i n q x all few h o = accepts k p s l m d w (part (p .label) i n) h q x tt (sym (length-take-le n (drop i (p .label)) (rw (length-drop, all) (omega arith)))) o
+
   pub quiet-53 : r ≡ (record { effect = Emptied; answer = Quiet }) → Answers c53 p s l m d w r w
   unfolding worked reset effectOn rowEffect
   quiet-53 k = rw k (record { answer = refl; effect = refl; placed = tt; state = refl; room = refl })
@@ -125,7 +157,7 @@ read-out s l t o b q =
     }
 
 -- a state t after an effect, as the code makes it
-pub placed-code : {x : Effect} {n c : ℕ} → Settable x → x ≡ Code n c → n < 4
+pub placed-code : {x : Effect} {n c : ℕ} → Bounded x → x ≡ Code n c → n < 4
 placed-code h e = rw e at h
 
 module _ (s : State) (l : Line) {x : Effect} where
@@ -141,6 +173,10 @@ module _ (s : State) (l : Line) {x : Effect} where
     pub counts : {n : ℕ} → x ≡ Counter n → t ≡ withCounter (stateWith s l) n → t ≡ effectOn x (stateWith s l)
     unfolding effectOn
     counts e h = rw e h
+
+    pub moves : {n : ℕ} → x ≡ Address n → t ≡ withAddress (stateWith s l) n → t ≡ effectOn x (stateWith s l)
+    unfolding effectOn
+    moves e h = rw e h
 
     pub turns : {n : ℕ} → x ≡ Offset n → t ≡ withOffset (stateWith s l) n → t ≡ effectOn x (stateWith s l)
     unfolding effectOn

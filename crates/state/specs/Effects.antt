@@ -15,15 +15,15 @@ use Rattle.state.specs.declared.effects.Effect.{Effect}
 use Rattle.state.specs.declared.effects.Effect.the-variants.{Nothing, Code, Counter, Address, Offset, Overflow, OldestRead, Emptied}
 
 -- what may be set: one of four codes; a counter of at most FFFFFFh; an address of 0 to 31
-abbrev pub Settable : Effect → Type 0
-Settable Nothing = Unit
-Settable (Code n c) = n < 4
-Settable (Counter n) = n ≤ lastCount
-Settable (Address n) = n ≤ lastAddress
-Settable (Offset n) = Unit
-Settable Overflow = Unit
-Settable OldestRead = Unit
-Settable Emptied = Unit
+abbrev pub Bounded : Effect → Type 0
+Bounded Nothing = Unit
+Bounded (Code n c) = n < 4
+Bounded (Counter n) = n ≤ lastCount
+Bounded (Address n) = n ≤ lastAddress
+Bounded (Offset n) = Unit
+Bounded Overflow = Unit
+Bounded OldestRead = Unit
+Bounded Emptied = Unit
 
 -- the state after it; all else stays
 unfoldable pub effectOn : Effect → State → State

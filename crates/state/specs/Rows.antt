@@ -11,7 +11,7 @@ use Rattle.state.specs.declared.rows.Worked.{Worked}
 use Rattle.state.specs.declared.rows.Check.{Check}
 use Rattle.state.specs.declared.rows.Check.the-variants.{Passed, Failed}
 use Rattle.state.specs.State.{stateWith}
-use Rattle.state.specs.Effects.{Settable, effectOn, rowEffect, effectOf}
+use Rattle.state.specs.Effects.{Bounded, effectOn, rowEffect, effectOf}
 
 -- 01, "left to right in the table": a check fails where its test holds
 abbrev pub checkOf : Bool → Check
@@ -22,6 +22,6 @@ checkOf false = Passed
 pub record Answers (k : Command) (p : Plate) (s : State) (l : Line) (m d w : List ℕ) (r : Worked) (w′ : List ℕ) : Type 0 where
   pub answer : r .answer ≡ told (worked k p (stateWith s l) m d)
   pub effect : r .effect ≡ effectOf (worked k p (stateWith s l) m d) (rowEffect k p (stateWith s l) d)
-  pub placed : Settable (r .effect)
+  pub placed : Bounded (r .effect)
   pub state : effectOn (r .effect) (stateWith s l) ≡ stateAfter (worked k p (stateWith s l) m d) (stateWith s l)
   pub room : w′ ≡ dataIn (worked k p (stateWith s l) m d) w

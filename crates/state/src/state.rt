@@ -6,7 +6,7 @@ ghost use lib.Dec.{ltb};
 ghost use Rattle.meaning.specs.Bytes.{longestRequest};
 ghost use Rattle.meaning.specs.State.{Plate, Line, fresh, stateOk, withCodes, withCounter, withAddress, withOffset, withMeasured, none, noted, poweredOn};
 ghost use Rattle.state.specs.State.{stateWith, ReadsOut};
-ghost use Rattle.state.specs.Effects.{Settable, effectOn};
+ghost use Rattle.state.specs.Effects.{Bounded, effectOn};
 ghost use Rattle.state.specs.Queue.{holding};
 use crate::effects::Effect;
 use crate::faults::Faults;
@@ -97,7 +97,7 @@ impl State {
 
     // What a command changes, changed; all else stays.
     pub fn after(self, effect: Effect) -> State
-        requires { ⌜ Settable effect ⌝ }
+        requires { ⌜ Bounded effect ⌝ }
         ensures { λ r. ⌜ ((l : Line) → stateWith r l ≡ effectOn effect (stateWith self l)) ⌝ }
     {
         match effect {

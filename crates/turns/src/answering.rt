@@ -110,7 +110,17 @@ fn ask(
             value,
             parity,
         } => {
-            let stepped = board::character(plate, &label, board, tick, value, parity, kept, memory, reply);
+            let stepped = board::character(
+                plate,
+                &label,
+                board,
+                tick,
+                value,
+                parity,
+                kept,
+                memory,
+                reply,
+            );
             brought(stepped, tick)
         }
         Event::Poll { tick } => {

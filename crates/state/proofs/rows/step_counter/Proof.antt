@@ -25,7 +25,8 @@ accepted-requires-2 c κs = search needs
 returns-2 : tie.Need-returns-2
 returns-2 c =
     let after-if1 = c .before .before in
-    λ p l m d w. steps-47 p _ l m d w (c .accepted2 .ensures) (ne-eqb _ _ (after-if1 .if1 .left))
+    let start = after-if1 .before .before in
+    λ p l m d w. steps-47 p _ l m d w (start .pre) (c .accepted2 .ensures) (ne-eqb _ _ (after-if1 .if1 .left))
 
 pub step-counter-spec : {M : Type 1} → statement M
 step-counter-spec =

@@ -1,5 +1,5 @@
 -- `state::state::State::after` meets its contract. Assumes nothing.
-use Rattle.state.proofs.Ways.{placed-code, stays-so, with-one-code, counts, turns, overflows, moves-up, empties}
+use Rattle.state.proofs.Ways.{placed-code, stays-so, with-one-code, counts, moves, turns, overflows, moves-up, empties}
 use borrow.Author.Needs.{needs}
 use Rattle.state.proofs.state.State.after.Statement.{statement}
 use Rattle.state.proofs.state.State.after.Tie as tie
@@ -8,6 +8,7 @@ use Rattle.state.proofs.state.State.after.Lts as lts
 use Rattle.state.proofs.faults.Faults.emptied.Reads as emptied-reads
 use Rattle.state.proofs.faults.Faults.queued.Reads as queued-reads
 use Rattle.state.proofs.state.State.read.Reads as read-reads
+use Rattle.state.proofs.state.State.with_address.Reads as with-address-reads
 use Rattle.state.proofs.state.State.with_code.Reads as with-code-reads
 use Rattle.state.proofs.state.State.with_counter.Reads as with-counter-reads
 use Rattle.state.proofs.state.State.with_faults.Reads as with-faults-reads
@@ -33,6 +34,12 @@ with-counter-requires c κs = search needs
 
 enum-known-effect-3 : tie.Need-enum-known-effect-3
 enum-known-effect-3 c = search needs
+
+with-address-requires : tie.Need-with-address-requires
+with-address-requires c κs = search needs
+
+enum-known-effect-4 : tie.Need-enum-known-effect-4
+enum-known-effect-4 c = search needs
 
 with-offset-requires : tie.Need-with-offset-requires
 with-offset-requires c κs = search needs
@@ -80,23 +87,28 @@ returns-3 c =
 returns-4 : tie.Need-returns-4
 returns-4 c =
     let after-effect3 = c .before .before in
-    λ l. turns _ l (after-effect3 .effect3 .given .1) (c .with-offset .ensures l)
+    λ l. moves _ l (after-effect3 .effect3 .given .1) (c .with-address .ensures l)
 
 returns-5 : tie.Need-returns-5
 returns-5 c =
+    let after-effect4 = c .before .before in
+    λ l. turns _ l (after-effect4 .effect4 .given .1) (c .with-offset .ensures l)
+
+returns-6 : tie.Need-returns-6
+returns-6 c =
     let after-with-counter2 = c .before in
     let after-queued = after-with-counter2 .before in
     let after-enum-told2 = after-queued .before in
     λ l. overflows _ l _ (after-queued .queued .result) (after-enum-told2 .enum-told2 .given .1) (after-queued .queued .ensures) (after-with-counter2 .with-counter2 .ensures l) (c .with-faults .ensures l)
 
-returns-6 : tie.Need-returns-6
-returns-6 c =
+returns-7 : tie.Need-returns-7
+returns-7 c =
     let after-read = c .before in
     let after-enum-told3 = after-read .before in
     λ l. moves-up _ l (after-enum-told3 .enum-told3 .given .1) (after-read .read .ensures l)
 
-returns-7 : tie.Need-returns-7
-returns-7 c =
+returns-8 : tie.Need-returns-8
+returns-8 c =
     let after-emptied = c .before in
     let after-enum-told4 = after-emptied .before in
     λ l. empties _ l (after-emptied .emptied .result) (after-enum-told4 .enum-told4 .given .1) (after-emptied .emptied .ensures) (c .with-faults2 .ensures l)
@@ -111,6 +123,8 @@ after-spec =
     enum-known-effect-2
     with-counter-requires
     enum-known-effect-3
+    with-address-requires
+    enum-known-effect-4
     with-offset-requires
     enum-told-2
     queued-requires
@@ -127,4 +141,5 @@ after-spec =
     returns-4
     returns-5
     returns-6
-    returns-7)
+    returns-7
+    returns-8)

@@ -10,7 +10,7 @@ none-requires c κs = search needs
 
 returns : tie.Need-returns
 unfolding fresh queueOf waiting
-returns c = λ p. rw (c .none .ensures)
+returns c = λ p e. rw (c .none .ensures, e)
 
 pub fresh-spec : {M : Type 1} → statement M
 fresh-spec = tie.close (tie.spec none-requires returns)
