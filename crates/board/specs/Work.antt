@@ -5,7 +5,7 @@ use mathlib.Core.Bool.{Bool, true, false}
 use mathlib.Core.List.{List, [], _∷_}
 use lib.Dec.{eqb, leb}
 use lib.ListN.{length}
-use Rattle.meaning.specs.Bytes.{pick, both, longestReply, part, put}
+use Rattle.meaning.specs.Bytes.{pick, both, either, longestReply, part, put}
 use Rattle.meaning.specs.State as meaning
 use Rattle.meaning.specs.State.{labelLength, lastAddress, none, lastCount, plateOk}
 use Rattle.meaning.specs.Fields.{memoryLength}
@@ -65,6 +65,12 @@ pub record MemoryLent (t : ℕ) (cs : List ℕ) (c : ℕ) (d m w : List ℕ) : T
 pub record Tells (a : commands.Answer) (s : meaning.State) (m w : List ℕ) (r : Answer) (m′ w′ : List ℕ) : Type 0 where
   pub works : Works a m w r m′ w′
   pub state : stateAfter a s ≡ s
+
+-- what 52h and 56h ask: the label bytes
+pub record LabelLent (label : List ℕ) (c : ℕ) (w : List ℕ) : Type 0 where
+  pub all : length label ≡ labelLength
+  pub room : longestReply ≤ length w
+  pub tells : either (eqb c 0x52) (eqb c 0x56) ≡ true
 
 -- what the other rows ask
 pub record Changeable (n : ℕ) (label : List ℕ) (s : State) (c : ℕ) (d w : List ℕ) : Type 0 where

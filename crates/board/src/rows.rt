@@ -4,7 +4,8 @@ ghost use mathlib.Core.List.{List};
 ghost use Prim.Native.Nat.{ℕ};
 ghost use Rattle.meaning.specs.State as meaning;
 ghost use Rattle.meaning.specs.Commands.{commandOf, worked};
-ghost use Rattle.board.specs.Work.{MemoryLent, Changeable, WorksOn, onMemory, Tells};
+ghost use Rattle.state.specs.declared.state.State.{State};
+ghost use Rattle.board.specs.Work.{MemoryLent, LabelLent, Changeable, WorksOn, onMemory, Tells};
 use state::State;
 use state::Worked;
 use wire::Answer;
@@ -49,6 +50,17 @@ pub fn on_memory(
     fields::memory_status(seen, room)
 }
 
+// 52h and 56h.
+fn on_label(label: &[u8], command: u8, room: &mut [u8]) -> Worked
+    requires { ⌜ LabelLent (now label) command (now room) ⌝ }
+    ensures { λ r. ⌜ ((p : meaning.Plate) (s : State) (d m : List ℕ) → p .label ≡ now (label .entry) → WorksOn (commandOf command) p s d m (now (room .entry)) r m (now (room .exit))) ⌝ }
+{
+    if command == 0x52 {
+        return state::read_label(label, room);
+    }
+    state::read_version(label, room)
+}
+
 // The rows on the state, whose changes are left to who holds it; the memory stays as it is.
 pub fn on_state(
     bits: u32,
@@ -82,14 +94,11 @@ pub fn on_state(
     if command == 0x50 {
         return state::read_fault(state, room);
     }
-    if command == 0x52 {
-        return state::read_label(label, room);
+    if command == 0x53 {
+        return state::reset(state);
     }
     if command == 0x55 {
         return state::set_address(state, request);
     }
-    if command == 0x56 {
-        return state::read_version(label, room);
-    }
-    state::reset(state)
+    on_label(label, command, room)
 }

@@ -55,45 +55,35 @@ fn converse(
     label: &[u8],
     board: Board,
     tick: u32,
-    spacing: u32,
-    request: &[u8],
+    apart: u32,
+    asked: &[u8],
     kept: &mut [u8],
     memory: &mut [u8],
     room: &mut [u8],
 ) -> Exchanged
-    requires { ⌜ Clear (plateOf plate (now label)) board spacing (now request) (now kept) (now memory) (now room) ⌝ }
-    ensures { λ r. ⌜ ((n c : ℕ) (d : List ℕ) → Asks n c d (now (request .entry)) → Converses (plateOf plate (now (label .entry))) board n c d (now (kept .entry)) (now (memory .entry)) (now (room .entry)) r (now (kept .exit)) (now (memory .exit)) (now (room .exit))) ⌝ }
+    requires { ⌜ Clear (plateOf plate (now label)) board apart (now asked) (now kept) (now memory) (now room) ⌝ }
+    ensures { λ r. ⌜ ((n c : ℕ) (d : List ℕ) → Asks n c d (now (asked .entry)) → Converses (plateOf plate (now (label .entry))) board n c d (now (kept .entry)) (now (memory .entry)) (now (room .entry)) r (now (kept .exit)) (now (memory .exit)) (now (room .exit))) ⌝ }
 {
-    let sent = send(
-        plate,
-        label,
-        board,
-        tick,
-        spacing,
-        request,
-        kept,
-        memory,
-        room,
-    );
+    let sent = send(plate, label, board, tick, apart, asked, kept, memory, room);
     let over = line::stamp_after(sent.last, pause_of(plate));
     let waiting = sent.board;
     let closed = board::poll(plate, label, waiting, over, kept, memory, room);
     let next = closed.board;
     let outcome = closed.outcome;
     let reply = outcome.reply_length();
-    let verdict = bench::judge(request, &room[..reply]);
+    let verdict = bench::judge(asked, &room[..reply]);
     Exchanged {
         board: next,
         ended: Ended::Heard {
-            request: request.len(),
+            request: asked.len(),
             reply,
             verdict,
         },
     }
 }
 
-// The request for `address` (0 to 31, or 255 for broadcast) is written into `request`, sent from `tick` on with its characters `spacing` ticks
-// apart, and closed by a poll after the pause. `kept`, `memory` and `room` are the board's. For another board's address silence follows, B1.
+// The request for `address` (0 to 31, or 255 for broadcast) is written into `request`, sent from `tick` on with its characters `apart` ticks
+// from one another, and closed by a poll after the pause. `kept`, `memory` and `room` are the board's. For another board's address silence follows, B1.
 pub fn exchange(
     plate: Plate,
     label: &[u8],
@@ -102,22 +92,16 @@ pub fn exchange(
     command: u8,
     body: &[u8],
     tick: u32,
-    spacing: u32,
+    apart: u32,
     request: &mut [u8],
     kept: &mut [u8],
     memory: &mut [u8],
     room: &mut [u8],
 ) -> Exchanged
-    ensures { λ r. ⌜ Passes (plateOf plate (now (label .entry))) board address command (now (body .entry)) spacing (now (request .entry)) (now (kept .entry)) (now (memory .entry)) (now (room .entry)) r (now (request .exit)) (now (kept .exit)) (now (memory .exit)) (now (room .exit)) ⌝ }
+    ensures { λ r. ⌜ Passes (plateOf plate (now (label .entry))) board address command (now (body .entry)) apart (now (request .entry)) (now (kept .entry)) (now (memory .entry)) (now (room .entry)) r (now (request .exit)) (now (kept .exit)) (now (memory .exit)) (now (room .exit)) ⌝ }
 {
-    match board::refusal(
-        plate,
-        label.len(),
-        board,
-        kept.len(),
-        memory.len(),
-        room.len(),
-    ) {
+    let places = kept.len();
+    match board::refusal(plate, label.len(), board, places, memory.len(), room.len()) {
         Outcome::R1 => return unsent(board, Refusal::R1),
         Outcome::R2 => return unsent(board, Refusal::R2),
         Outcome::R3 => return unsent(board, Refusal::R3),
@@ -126,7 +110,7 @@ pub fn exchange(
     if board.is_open() {
         return unsent(board, Refusal::FrameOpen);
     }
-    if pause_of(plate) <= spacing {
+    if pause_of(plate) <= apart {
         return unsent(board, Refusal::TooSlow);
     }
     match bench::write_request(address, command, body, request) {
@@ -134,17 +118,7 @@ pub fn exchange(
         Written::R5 => unsent(board, Refusal::R5),
         Written::Request { len } => {
             let asked = &request[..len];
-            converse(
-                plate,
-                label,
-                board,
-                tick,
-                spacing,
-                asked,
-                kept,
-                memory,
-                room,
-            )
+            converse(plate, label, board, tick, apart, asked, kept, memory, room)
         }
     }
 }

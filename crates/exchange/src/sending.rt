@@ -20,40 +20,40 @@ pub(crate) fn pause_of(plate: Plate) -> u32
     plate.pause * plate.ticks
 }
 
-// The first character ends at `tick`, each further one a spacing after the last.
+// The first character ends at `tick`, each further one `apart` ticks after the last.
 pub(crate) fn send(
     plate: Plate,
     label: &[u8],
     board: Board,
     tick: u32,
-    spacing: u32,
-    request: &[u8],
+    apart: u32,
+    asked: &[u8],
     kept: &mut [u8],
     memory: &mut [u8],
     room: &mut [u8],
 ) -> Sent
-    requires { ⌜ Clear (plateOf plate (now label)) board spacing (now request) (now kept) (now memory) (now room) ⌝ }
-    ensures { λ r. ⌜ SendsRequest (plateOf plate (now (label .entry))) board tick spacing (now (request .entry)) (now (kept .entry)) (now (memory .entry)) (now (room .entry)) r (now (kept .exit)) (now (memory .exit)) (now (room .exit)) ⌝ }
+    requires { ⌜ Clear (plateOf plate (now label)) board apart (now asked) (now kept) (now memory) (now room) ⌝ }
+    ensures { λ r. ⌜ SendsRequest (plateOf plate (now (label .entry))) board tick apart (now (asked .entry)) (now (kept .entry)) (now (memory .entry)) (now (room .entry)) r (now (kept .exit)) (now (memory .exit)) (now (room .exit)) ⌝ }
 {
     let mut taken = board;
     let mut last = tick;
     let mut stamp = tick;
     let mut i = 0;
-    while i < request.len() {
+    while i < asked.len() {
         last = stamp;
         let stepped = board::character(
             plate,
             label,
             taken,
             stamp,
-            request[i],
+            asked[i],
             false,
             kept,
             memory,
             room,
         );
         taken = stepped.board;
-        stamp = line::stamp_after(stamp, spacing);
+        stamp = line::stamp_after(stamp, apart);
         i += 1;
     }
     Sent { board: taken, last }

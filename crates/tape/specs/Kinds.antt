@@ -3,8 +3,8 @@ use Prim.Native.Nat.{ℕ}
 use mathlib.Core.List.{List}
 use lib.ListN.{length, take}
 use lib.Dec.{eqb, leb}
-use Rattle.meaning.specs.Bytes.{pick, arg, little}
-use Rattle.meaning.specs.State.{Plate}
+use Rattle.meaning.specs.Bytes.{pick, arg, little, zeros}
+use Rattle.meaning.specs.State.{Plate, labelLength}
 use Rattle.meaning.specs.Run.{Call, character, poll, measured, fault, power-on}
 use Rattle.tape.specs.Records.{Found, whole, cut}
 
@@ -14,9 +14,9 @@ pub data Said : Type 0 where
   call : Call → Said
   unfit : Said
 
--- 01, "plate (T, P, a, ticks per bit, pause, a byte each)"
+-- 01, "plate (T, P, a, ticks per bit, pause, a byte each)"; 02, Req 01: "on the tape they are all zero", the label bytes
 abbrev pub plateIn : List ℕ → Plate
-plateIn b = record { total = arg b 0; bits = arg b 1; address = arg b 2; ticks = arg b 3; pause = arg b 4 }
+plateIn b = record { total = arg b 0; bits = arg b 1; address = arg b 2; ticks = arg b 3; pause = arg b 4; label = zeros labelLength }
 
 -- 01, "character (tick 4, value, parity fault 0 or 1)"
 unfoldable pub characterIn : List ℕ → Said

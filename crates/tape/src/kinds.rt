@@ -4,9 +4,13 @@ ghost use Rattle.meaning.specs.Bytes.{arg, little};
 ghost use Rattle.meaning.specs.Run as run;
 ghost use Rattle.tape.specs.Kinds.{plate, call, plateIn, characterIn, sized, callOf};
 ghost use Rattle.tape.specs.Reader.{saidOf};
+use wire::codes::LABEL_LENGTH;
 
 // The longest record of the kinds, a character's: kind, tick, value and parity, as its length counts.
 pub const LONGEST_RECORD: u16 = 8;
+
+// 02, Req 01: the label bytes "on the tape .. are all zero".
+pub const NO_LABEL: [u8; LABEL_LENGTH] = [0; LABEL_LENGTH];
 
 // What a record says; Unfit where it fits no kind.
 pub enum Event {

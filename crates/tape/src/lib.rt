@@ -5,6 +5,7 @@ mod text;
 
 pub use kinds::Event;
 pub use kinds::LONGEST_RECORD;
+pub use kinds::NO_LABEL;
 pub use kinds::event_of;
 pub use record::Cursor;
 pub use record::Read;

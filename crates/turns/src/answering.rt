@@ -15,7 +15,7 @@ use board::Outcome;
 use board::Stepped;
 use line::Plate;
 use tape::Event;
-use wire::codes::LABEL_LENGTH;
+use tape::NO_LABEL;
 
 // The board after a record, how much of the output is used, and whether the record was bad.
 pub struct Turned {
@@ -103,7 +103,6 @@ fn ask(
     requires { ⌜ Sound plate board (now kept) (now memory) (now reply) ⌝ }
     ensures { λ r. ⌜ Calls plate board (saidOf event) (now (kept .entry)) (now (memory .entry)) (now (reply .entry)) r (now (kept .exit)) (now (memory .exit)) (now (reply .exit)) ⌝ }
 {
-    let label = [0u8; LABEL_LENGTH];
     match event {
         Event::Character {
             tick,
@@ -112,7 +111,7 @@ fn ask(
         } => {
             let stepped = board::character(
                 plate,
-                &label,
+                &NO_LABEL,
                 board,
                 tick,
                 value,
@@ -124,12 +123,15 @@ fn ask(
             brought(stepped, tick)
         }
         Event::Poll { tick } => {
-            let stepped = board::poll(plate, &label, board, tick, kept, memory, reply);
+            let stepped = board::poll(plate, &NO_LABEL, board, tick, kept, memory, reply);
             brought(stepped, tick)
         }
-        Event::Measured { position } => brought(board::measured(plate, &label, board, position), 0),
-        Event::Fault { code } => brought(board::fault(plate, &label, board, code), 0),
-        Event::PowerOn => brought(board::power_on(plate, &label, board), 0),
+        Event::Measured { position } => brought(
+            board::measured(plate, &NO_LABEL, board, position),
+            0,
+        ),
+        Event::Fault { code } => brought(board::fault(plate, &NO_LABEL, board, code), 0),
+        Event::PowerOn => brought(board::power_on(plate, &NO_LABEL, board), 0),
         _ => not_called(board),
     }
 }
