@@ -18,11 +18,17 @@ use Rattle.board.specs.Work.{Ready}
 use Rattle.board.specs.declared.limits.Outcome.{Outcome}
 use Rattle.board.specs.declared.limits.Outcome.the-variants.{R1, R2, R3, Still}
 use Rattle.board.specs.Board.{stateOf, fitsIn, within, refusalOn, refusedAs, refusalNumber, isRefusal}
-use Rattle.meaning.proofs.Choices.{both-left, both-true, both-false, and-both}
+use Rattle.meaning.proofs.Choices.{true-told, both-left, both-true, both-false, and-both}
+use Rattle.meaning.proofs.Limits.{Lim, to-lim}
 
 pub lends-poll : (t : ℕ) → lends (poll t) ≡ true
 unfolding lends
 lends-poll t = refl
+
+-- 02, Req 01: the label bytes are 41
+pub bad-label : (p : Plate) → (length (p .label) ≡ 41 → ⊥) → plateOk p ≡ false
+unfolding plateOk
+bad-label p n = simp (ne-eqb (length (p .label)) 41 n, both-false)
 
 few-taken : (n : ℕ) (kept : List ℕ) → length kept ≡ 135 → length (take n kept) ≤ 135
 few-taken n kept all = simp length-take (omega arith)
@@ -155,18 +161,19 @@ module _ (p : Plate) (b : Board) (k m : List ℕ) (r : ℕ) (g : Call) (l : lend
   unfolding refusalOn refusedBy fitsIn
   facts = passed _ _ _ _ _ _ (rw l at e)
 
-  counts : b .state .counter ≤ 0xFFFFFF
-  unfolding stateOk
-  counts = leb-true (b .state .counter) 0xFFFFFF (both-left (leb (b .state .counter) 0xFFFFFF) _ (facts .state))
+  limits : Lim p (stateOf b k)
+  limits = to-lim p (stateOf b k) (true-told (stateOk p (stateOf b k)) (facts .state))
 
 -- .. as `close` and `with_character` ask for it
-pub ready : (p : line.Plate) (b : Board) (k m w : List ℕ) (g : Call) → lends g ≡ true → refusalOn (plateOf p) b k m (length w) g ≡ 0
-    → Ready p (b .state) (b .frame) k m w
-ready p b k m w g l e =
-    let f = facts (plateOf p) b k m (length w) g l e in
+pub ready : (p : line.Plate) (label : List ℕ) (b : Board) (k m w : List ℕ) (g : Call) → lends g ≡ true → refusalOn (plateOf p label) b k m (length w) g ≡ 0
+    → Ready p label (b .state) (b .frame) k m w
+ready p label b k m w g l e =
+    let f = facts (plateOf p label) b k m (length w) g l e in
+    let within-limits = limits (plateOf p label) b k m (length w) g l e in
     record {
       plate = f .plate;
-      counter = counts (plateOf p) b k m (length w) g l e;
+      counter = within-limits .counts;
+      address = within-limits .placed;
       fits = record { few = leb-true (b .frame .len) 135 (f .few); all = eqb-true (length k) 135 (f .all) };
       size = eqb-true (length m) (memoryLength (p .total)) (f .size);
       room = ltb-false (length w) 134 (f .wide);

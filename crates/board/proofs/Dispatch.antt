@@ -7,13 +7,13 @@ use mathlib.Core.List.{List}
 use borrow.Author.Tests.{eqb-true, ne-eqb, leb-true}
 use lib.Dec.{eqb, leb}
 use lib.ListN.{length}
-use Rattle.meaning.specs.Bytes.{pick, both, arg}
+use Rattle.meaning.specs.Bytes.{pick, both, either, arg}
 use Rattle.meaning.specs.Fields.{survey}
 use Rattle.meaning.specs.State as meaning
 use Rattle.meaning.specs.State.{none}
 use Rattle.meaning.specs.Commands as commands
-use Rattle.meaning.specs.Commands.{Command, c42, c43, c46, c47, c49, c4A, c4B, c4C, c4D, c4F, c50, c53, unknown, commandOf, asked, row, lengthFits, error, choose, onField}
-use Rattle.meaning.specs.Commands.{readPosition, setPosition, readCounter, stepCounter, clearCounter, readField, storeField, fieldStatus, create, modify, delete, shapeField, memoryStatus, setCode, readFault, reset, worked}
+use Rattle.meaning.specs.Commands.{Command, c42, c43, c46, c47, c49, c4A, c4B, c4C, c4D, c4F, c50, c52, c53, c55, c56, unknown, commandOf, asked, row, lengthFits, error, choose, onField}
+use Rattle.meaning.specs.Commands.{readPosition, setPosition, readCounter, stepCounter, clearCounter, readField, storeField, fieldStatus, create, modify, delete, shapeField, memoryStatus, setCode, readFault, readLabel, reset, setAddress, readVersion, worked}
 use Rattle.meaning.proofs.Choices.{both-left, both-right}
 use Rattle.wire.specs.declared.answer.Answer.{Answer}
 use Rattle.wire.specs.Answers.{memoryAfter, stateAfter, Works}
@@ -23,7 +23,7 @@ use Rattle.fields.specs.Replies.{Asked, Looked, Tellable, Countable}
 use Rattle.fields.proofs.Gives.{looked, tellable, countable}
 use Rattle.line.specs.declared.plate.Plate.{Plate}
 use Rattle.line.specs.Line.{plateOf}
-use Rattle.line.proofs.Limits.{total-fits, few-bits}
+use Rattle.line.proofs.Limits.{total-fits, few-bits, whole-label}
 use Rattle.state.specs.declared.state.State.{State}
 use Rattle.state.specs.declared.rows.Worked.{Worked}
 use Rattle.state.specs.Rows.{Answers}
@@ -39,19 +39,28 @@ module _ (c : ℕ) (d : List ℕ) (h : asked (commandOf c) d ≡ true) where
   unfolding commandOf asked row lengthFits
   five e = exact 5 {k = c43} (rw e) (λ x. refl)
 
+  pub two : c ≡ 0x55 → length d ≡ 2
+  unfolding commandOf asked row lengthFits
+  two e = exact 2 {k = c55} (rw e) (λ x. refl)
+
   pub three : c ≡ 0x4F → length d ≡ 3
   unfolding commandOf asked row lengthFits
   three e = exact 3 {k = c4F} (rw e) (λ x. refl)
 
-module _ (p : Plate) (s : State) {c : ℕ} (d m w : List ℕ) (h : Workable p s c d m w) where
-  pub bits-fit : p .bits ≤ 32
-  bits-fit = few-bits (plateOf p) (h .plate)
-
-  pub changeable : onMemory c ≡ false → Changeable (p .bits) s c d w
-  changeable e = record { bits = bits-fit; counter = h .counter; room = h .room; fits = h .fits; alone = e }
+module _ (p : Plate) (label : List ℕ) (s : State) {c : ℕ} (d m w : List ℕ) (h : Workable p label s c d m w) where
+  pub changeable : onMemory c ≡ false → Changeable (p .bits) label s c d w
+  changeable e =
+      record {
+        bits = few-bits (plateOf p label) (h .plate);
+        label-bytes = whole-label (plateOf p label) (h .plate);
+        counter = h .counter;
+        room = h .room;
+        fits = h .fits;
+        alone = e;
+      }
 
   pub memory-lent : (codes : List ℕ) → length codes ≡ 4 → onMemory c ≡ true → MemoryLent (p .total) codes c d m w
-  memory-lent codes k e = record { few = total-fits (plateOf p) (h .plate); size = h .size; room = h .room; codes = k; fits = h .fits; memory = e }
+  memory-lent codes k e = record { few = total-fits (plateOf p label) (h .plate); size = h .size; room = h .room; codes = k; fits = h .fits; memory = e }
 
 -- what the rows on the memory ask, once the table is surveyed for the field that the request names
 module _ {t c : ℕ} (codes d m w : List ℕ) (h : MemoryLent t codes c d m w) where
@@ -95,17 +104,23 @@ module _ {t c : ℕ} (codes d m w : List ℕ) (h : MemoryLent t codes c d m w) w
 not-on-memory : (c : ℕ) → onMemory c ≡ false → (k : ℕ) → onMemory k ≡ true → eqb c k ≡ false
 not-on-memory c x k y = ne-eqb c k (λ e. false≢true (sym x ∙ ap onMemory e ∙ y))
 
--- a command of the table that is on the state and none of the other seven is 53h
+-- a command of the table that is on the state and none of the other nine tells label bytes
 pub last-alone : (c : ℕ) (d : List ℕ) → asked (commandOf c) d ≡ true → onMemory c ≡ false → eqb c 0x42 ≡ false → eqb c 0x43 ≡ false → eqb c 0x46 ≡ false
-    → eqb c 0x47 ≡ false → eqb c 0x49 ≡ false → eqb c 0x4F ≡ false → eqb c 0x50 ≡ false → c ≡ 0x53
+    → eqb c 0x47 ≡ false → eqb c 0x49 ≡ false → eqb c 0x4F ≡ false → eqb c 0x50 ≡ false → eqb c 0x53 ≡ false → eqb c 0x55 ≡ false
+    → either (eqb c 0x52) (eqb c 0x56) ≡ true
 unfolding commandOf onMemory
-last-alone c d h x i j k l n o q =
+last-alone c d h x i j k l n o q u v =
     let y = not-on-memory c x in
-    eqb-true c 0x53 (go (eqb c 0x53) (rw (i, j, k, l, n, y 0x4A refl, y 0x4B refl, y 0x4C refl, y 0x4D refl, y 0x4E refl, o, q) at h))
+    go (eqb c 0x52) (eqb c 0x56) (rw (i, j, k, l, n, y 0x4A refl, y 0x4B refl, y 0x4C refl, y 0x4D refl, y 0x4E refl, o, q, u, v) at h)
   where
-    go : (t : Bool) → asked (pick t c53 unknown) d ≡ true → t ≡ true
-    go true e = refl
-    go false e = absurd (false≢true (sym (unknown-never d) ∙ e))
+    go : (s t : Bool) → asked (pick s c52 (pick t c56 unknown)) d ≡ true → either s t ≡ true
+    go true t e = refl
+    go false true e = refl
+    go false false e = absurd (false≢true (sym (unknown-never d) ∙ e))
+
+-- .. 56h where it is not 52h
+pub not-52 : (c : ℕ) → either (eqb c 0x52) (eqb c 0x56) ≡ true → (c ≡ 0x52 → ⊥) → c ≡ 0x56
+not-52 c h n = eqb-true c 0x56 (rw (ne-eqb c 0x52 n) at h)
 
 -- the last of those on the memory
 pub last-on-memory : (c : ℕ) → onMemory c ≡ true → (c ≡ 0x4A → ⊥) → (c ≡ 0x4B → ⊥) → (c ≡ 0x4C → ⊥) → (c ≡ 0x4D → ⊥) → c ≡ 0x4E
@@ -166,6 +181,18 @@ module _ (p : meaning.Plate) (s : State) {c : ℕ} (d m w : List ℕ) {r : Worke
   pub row-50 : c ≡ 0x50 → Answers c50 p s none m d w r w′ → WorksOn (commandOf c) p s d m w r m w′
   unfolding commandOf worked readFault
   row-50 e h = rw e (record { row = h; memory = refl })
+
+  pub row-52 : c ≡ 0x52 → Answers c52 p s none m d w r w′ → WorksOn (commandOf c) p s d m w r m w′
+  unfolding commandOf worked readLabel
+  row-52 e h = rw e (record { row = h; memory = refl })
+
+  pub row-55 : c ≡ 0x55 → Answers c55 p s none m d w r w′ → WorksOn (commandOf c) p s d m w r m w′
+  unfolding commandOf worked setAddress
+  row-55 e h = rw e (record { row = h; memory = sym (keeps m _ _ _ (keeps m _ _ _ refl)) })
+
+  pub row-56 : c ≡ 0x56 → Answers c56 p s none m d w r w′ → WorksOn (commandOf c) p s d m w r m w′
+  unfolding commandOf worked readVersion
+  row-56 e h = rw e (record { row = h; memory = refl })
 
   pub row-53 : c ≡ 0x53 → Answers c53 p s none m d w r w′ → WorksOn (commandOf c) p s d m w r m w′
   unfolding commandOf worked reset

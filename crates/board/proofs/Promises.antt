@@ -89,7 +89,7 @@ stays-within p b k m w g {r} {k′} h wide s =
 -- so a host that only calls, from fresh, never meets a refusal
 pub since-fresh-within : (p : Plate) {b : Board} {k m : List ℕ} → SinceFresh p b k m → Within p b k m
 since-fresh-within p (start b k m i j l n e) =
-    record { plate = i; state = rw e (told-true (stateOk p (fresh p)) (fresh-within p)); few = n; places = j; size = l }
+    record { plate = i; state = rw e (told-true (stateOk p (fresh p)) (fresh-within p (true-told (plateOk p) i))); few = n; places = j; size = l }
 since-fresh-within p (next b k m w g r k′ m′ w′ h wide s) = stays-within p b k m w g (since-fresh-within p h) wide s
 
 pub never-refused : (p : Plate) (b : Board) (k m : List ℕ) (n : ℕ) (g : Call) → SinceFresh p b k m → 134 ≤ n → refusalOn p b k m n g ≡ 0

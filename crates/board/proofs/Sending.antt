@@ -7,7 +7,6 @@ use lib.Dec.{eqb}
 use mathlib.Core.List.{List, [], _∷_}
 use lib.ListN.{length, length-append, length-take, length-drop}
 use Rattle.meaning.specs.Bytes.{longestReply, put, part}
-use Rattle.meaning.specs.State as meaning
 use Rattle.meaning.specs.State.{none, ownByte}
 use Rattle.meaning.specs.Frames.{sealed, message, warned}
 use Rattle.wire.specs.declared.answer.Answer.{Answer}
@@ -32,9 +31,9 @@ brief-data h e = rw e at h
 pub enough-room : {n l : ℕ} → n ≤ 131 → longestReply ≤ l → n + 3 ≤ l
 enough-room h k = omega arith
 
-module _ (p : meaning.Plate) (s : State) (c : ℕ) (w : List ℕ) {x : Answer} where
+module _ (s : State) (c : ℕ) (w : List ℕ) {x : Answer} where
   pub error-sent : {own mark e : ℕ} {w′ : List ℕ} → x ≡ Refuse e → own ≡ ownByte (stateWith s none) → mark ≡ warned 0x50 (queueOf (s .faults))
-      → w′ ≡ put w 0 (sealed (own ∷ mark ∷ e ∷ [])) → Sends p s c x w 4 w′
+      → w′ ≡ put w 0 (sealed (own ∷ mark ∷ e ∷ [])) → Sends s c x w 4 w′
   unfolding replyOf message
   error-sent {e = e} q o k h =
       record {
@@ -43,7 +42,7 @@ module _ (p : meaning.Plate) (s : State) (c : ℕ) (w : List ℕ) {x : Answer} w
       }
 
   pub data-sent : {own mark n : ℕ} {w′ : List ℕ} → x ≡ Accept n → n ≤ 131 → longestReply ≤ length w → own ≡ ownByte (stateWith s none)
-      → mark ≡ warned c (queueOf (s .faults)) → w′ ≡ put w 0 (sealed (own ∷ mark ∷ part w 2 n)) → Sends p s c x w (n + 3) w′
+      → mark ≡ warned c (queueOf (s .faults)) → w′ ≡ put w 0 (sealed (own ∷ mark ∷ part w 2 n)) → Sends s c x w (n + 3) w′
   unfolding replyOf message
   data-sent {n = n} q few wide o k h =
       let l : length (part w 2 n) ≡ n = part-length w n few wide in
@@ -52,19 +51,19 @@ module _ (p : meaning.Plate) (s : State) (c : ℕ) (w : List ℕ) {x : Answer} w
         bytes = rw (q, ← o, ← k) h;
       }
 
-  pub none-sent : x ≡ Quiet → Sends p s c x w 0 w
+  pub none-sent : x ≡ Quiet → Sends s c x w 0 w
   unfolding replyOf
   none-sent q = record { count = rw q; bytes = rw q (put-nothing w 0) }
 
 -- an error code by itself, and silence
-pub fault-sent : (p : meaning.Plate) (s : State) (w : List ℕ) {e n : ℕ} {w′ : List ℕ} → eqb e 0 ≡ false → Sends p s 0x50 (Refuse e) w n w′ → Refused p s e w n w′
+pub fault-sent : (s : State) (w : List ℕ) {e n : ℕ} {w′ : List ℕ} → eqb e 0 ≡ false → Sends s 0x50 (Refuse e) w n w′ → Refused s e w n w′
 unfolding faultReply replyOf
-fault-sent p s w q h = record { count = rw q (h .count); bytes = rw q (h .bytes) }
+fault-sent s w q h = record { count = rw q (h .count); bytes = rw q (h .bytes) }
 
-pub fault-silent : (p : meaning.Plate) (s : State) (w : List ℕ) {e : ℕ} → eqb e 0 ≡ true → Refused p s e w 0 w
+pub fault-silent : (s : State) (w : List ℕ) {e : ℕ} → eqb e 0 ≡ true → Refused s e w 0 w
 unfolding faultReply
-fault-silent p s w q = record { count = rw q; bytes = rw q (put-nothing w 0) }
+fault-silent s w q = record { count = rw q; bytes = rw q (put-nothing w 0) }
 
 -- no two differing outcomes satisfy the contract of an error code, or of silence
-pub refused-tight : (p : meaning.Plate) (s : State) (e : ℕ) (w : List ℕ) {n k : ℕ} {w′ w″ : List ℕ} → Refused p s e w n w′ → Refused p s e w k w″ → (n ≡ k) × (w′ ≡ w″)
-refused-tight p s e w x y = (x .count ∙ sym (y .count), x .bytes ∙ sym (y .bytes))
+pub refused-tight : (s : State) (e : ℕ) (w : List ℕ) {n k : ℕ} {w′ w″ : List ℕ} → Refused s e w n w′ → Refused s e w k w″ → (n ≡ k) × (w′ ≡ w″)
+refused-tight s e w x y = (x .count ∙ sym (y .count), x .bytes ∙ sym (y .bytes))

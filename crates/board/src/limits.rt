@@ -69,10 +69,10 @@ pub(crate) fn within_limits(plate: Plate, label: usize, board: Board) -> bool
 {
     let state = board.state;
     let frame = board.frame;
-    if !plate.is_ok() {
+    if label != LABEL_LENGTH {
         return false;
     }
-    if label != LABEL_LENGTH {
+    if !plate.is_ok() {
         return false;
     }
     if (LONGEST_REQUEST as u8) < frame.len {

@@ -1,7 +1,7 @@
 -- No two differing outcomes satisfy a contract (01, "How tightly the contracts bind"). Assumes nothing.
 use Prim.Native.Nat.{ℕ}
 use mathlib.Core.Path.{_≡_, refl, sym, _∙_}
-use mathlib.Core.List.{List}
+use mathlib.Core.List.{List, []}
 use Rattle.meaning.specs.State.{Plate, State, fresh, withCodes}
 use Rattle.meaning.specs.Fields as meaning
 use Rattle.meaning.specs.Commands.{Answer}
@@ -30,7 +30,7 @@ pub field-row-tight : (row : Plate → State → Answer) (t : ℕ) (codes m w : 
     → ((p : Plate) (s : State) → p .total ≡ t → s .codes ≡ codes → Works (row p s) m w r₂ m₂ w₂) → (r ≡ r₂) × (m₁ ≡ m₂) × (w₁ ≡ w₂)
 unfolding withCodes
 field-row-tight row t codes m w r r₂ m₁ m₂ w₁ w₂ x y =
-    let p : Plate = record { total = t; bits = 1; address = 0; ticks = 1; pause = 22 } in
+    let p : Plate = record { total = t; bits = 1; address = 0; ticks = 1; pause = 22; label = [] } in
     let s : State = withCodes (fresh p) codes in
     works-tight (x p s refl refl) (y p s refl refl)
 
@@ -39,6 +39,6 @@ pub told-row-tight : (row : Plate → State → List ℕ → Answer) (v : meanin
     → ((p : Plate) (s : State) (m : List ℕ) → v ≡ meaning.survey (p .total) m f → Works (row p s m) m w r m w₁)
     → ((p : Plate) (s : State) (m : List ℕ) → v ≡ meaning.survey (p .total) m f → Works (row p s m) m w r₂ m w₂) → (r ≡ r₂) × (w₁ ≡ w₂)
 told-row-tight row v t m f e w r r₂ w₁ w₂ x y =
-    let p : Plate = record { total = t; bits = 1; address = 0; ticks = 1; pause = 22 } in
+    let p : Plate = record { total = t; bits = 1; address = 0; ticks = 1; pause = 22; label = [] } in
     let k = works-tight (x p (fresh p) m e) (y p (fresh p) m e) in
     (k .0, k .2)

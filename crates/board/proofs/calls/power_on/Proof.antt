@@ -20,7 +20,7 @@ told-requires c κs = search needs
 returns : tie.Need-returns
 unfolding step still closes lends
 returns c =
-    let start = c .before .before in
+    let start = c .before .before .before in
     λ k m w h. tells _ _ _ k m w _ h refl (c .told .ensures k h) refl (c .before .power-on .ensures k) refl (λ z. dropped-few (start .args .board) _ (c .before .power-on .ensures))
 
 pub power-on-spec : {M : Type 1} → statement M

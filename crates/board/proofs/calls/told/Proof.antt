@@ -12,10 +12,10 @@ within-limits-requires : tie.Need-within-limits-requires
 within-limits-requires c κs = search needs
 
 returns : tie.Need-returns
-returns c = λ k all. told-by _ _ _ k (c .before .within-limits .ensures k all) (not-true _ (c .if1 .taken))
+returns c = λ k all. told-by _ _ _ k (c .before .within-limits .ensures _ k refl all) (not-true _ (c .if1 .taken))
 
 returns-2 : tie.Need-returns-2
-returns-2 c = λ k all. told-by _ _ _ k (c .before .within-limits .ensures k all) (not-false _ (c .if1 .left))
+returns-2 c = λ k all. told-by _ _ _ k (c .before .within-limits .ensures _ k refl all) (not-false _ (c .if1 .left))
 
 pub told-spec : {M : Type 1} → statement M
 told-spec = tie.close (tie.spec within-limits-requires returns returns-2)

@@ -21,7 +21,7 @@ returns : tie.Need-returns
 unfolding refusedAs
 returns c =
     let after-within-limits = c .before .before in
-    λ k m g e h l. as-told (in-order _ _ k m _ g (after-within-limits .within-limits .ensures k) e h l (not-true _ (c .if1 .taken)) refl refl)
+    λ x k m g y e h l. as-told (in-order _ _ k m _ g (after-within-limits .within-limits .ensures x k y) e h l (not-true _ (c .if1 .taken)) refl refl)
 
 returns-2 : tie.Need-returns-2
 unfolding refusedAs
@@ -29,7 +29,7 @@ returns-2 c =
     let start = c .before .before .before .before in
     let after-memory-length = c .before .before in
     let after-within-limits = after-memory-length .before in
-    λ k m g e h l. as-told (in-order _ _ k m _ g (after-within-limits .within-limits .ensures k) e h l (not-false _ (c .before .if1 .left)) (sized (start .args .memory) (after-memory-length .memory-length .ensures) (not-true _ (c .if2 .taken))) refl)
+    λ x k m g y e h l. as-told (in-order _ _ k m _ g (after-within-limits .within-limits .ensures x k y) e h l (not-false _ (c .before .if1 .left)) (sized (start .args .memory) (after-memory-length .memory-length .ensures) (not-true _ (c .if2 .taken))) refl)
 
 returns-3 : tie.Need-returns-3
 unfolding refusedAs
@@ -38,7 +38,7 @@ returns-3 c =
     let after-else1 = c .before .before in
     let after-memory-length = after-else1 .before in
     let after-within-limits = after-memory-length .before in
-    λ k m g e h l. as-told (in-order _ _ k m _ g (after-within-limits .within-limits .ensures k) e h l (not-false _ (after-else1 .if1 .left)) (sized (start .args .memory) (after-memory-length .memory-length .ensures) (not-false _ (c .before .if2 .left))) (lt-ltb _ _ (c .if3 .taken)))
+    λ x k m g y e h l. as-told (in-order _ _ k m _ g (after-within-limits .within-limits .ensures x k y) e h l (not-false _ (after-else1 .if1 .left)) (sized (start .args .memory) (after-memory-length .memory-length .ensures) (not-false _ (c .before .if2 .left))) (lt-ltb _ _ (c .if3 .taken)))
 
 returns-4 : tie.Need-returns-4
 unfolding refusedAs
@@ -47,7 +47,7 @@ returns-4 c =
     let after-else1 = c .before .before in
     let after-memory-length = after-else1 .before in
     let after-within-limits = after-memory-length .before in
-    λ k m g e h l. as-told (in-order _ _ k m _ g (after-within-limits .within-limits .ensures k) e h l (not-false _ (after-else1 .if1 .left)) (sized (start .args .memory) (after-memory-length .memory-length .ensures) (not-false _ (c .before .if2 .left))) (le-ltb _ _ (c .if3 .left)))
+    λ x k m g y e h l. as-told (in-order _ _ k m _ g (after-within-limits .within-limits .ensures x k y) e h l (not-false _ (after-else1 .if1 .left)) (sized (start .args .memory) (after-memory-length .memory-length .ensures) (not-false _ (c .before .if2 .left))) (le-ltb _ _ (c .if3 .left)))
 
 pub refusal-spec : {M : Type 1} → statement M
 refusal-spec =

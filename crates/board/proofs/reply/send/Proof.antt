@@ -6,13 +6,9 @@ use Rattle.board.proofs.reply.send.Statement.{statement}
 use Rattle.board.proofs.reply.send.Tie as tie
 use Rattle.board.proofs.reply.send.Reads as reads
 use Rattle.board.proofs.reply.send.Lts as lts
-use Rattle.line.proofs.own_byte.Reads as own-byte-reads
 use Rattle.state.proofs.marked.Reads as marked-reads
 use Rattle.wire.proofs.seal.Reads as seal-reads
 use Rattle.wire.proofs.write.Reads as write-reads
-
-own-byte-requires : tie.Need-own-byte-requires
-own-byte-requires c κs = search needs
 
 enum-known-answer : tie.Need-enum-known-answer
 enum-known-answer c = search needs
@@ -38,13 +34,13 @@ cast-seal c = search needs
 seal-requires : tie.Need-seal-requires
 seal-requires c κs =
     let after-answer2 = c .before .before .before in
-    let start = after-answer2 .before .before .before .before in
-    enough-room (brief-data (start .pre .brief) (after-answer2 .answer2 .given .1)) (start .pre .ready .room)
+    let start = after-answer2 .before .before .before in
+    enough-room (brief-data (start .pre .brief) (after-answer2 .answer2 .given .1)) (start .pre .room)
 
 add-result : tie.Need-add-result
 add-result c =
     let after-answer2 = c .before .before .before .before .before .before in
-    let start = after-answer2 .before .before .before .before in
+    let start = after-answer2 .before .before .before in
     omega (arith, brief-data (start .pre .brief) (after-answer2 .answer2 .given .1))
 
 enum-told : tie.Need-enum-told
@@ -58,8 +54,7 @@ returns c =
     let after-write = c .before .before in
     let after-marked = after-write .before .before .before in
     let after-answer = after-marked .before .before in
-    let after-own-byte = after-answer .before .before in
-    λ s e. error-sent _ s _ _ (after-answer .answer .given .1) (after-own-byte .own-byte .ensures _) (after-marked .marked .ensures _ e) (after-write .write .ensures)
+    λ s o e. error-sent s _ _ (after-answer .answer .given .1) o (after-marked .marked .ensures _ e) (after-write .write .ensures)
 
 same-length-2 : tie.Need-same-length-2
 same-length-2 c = search needs
@@ -69,18 +64,16 @@ returns-2 c =
     let after-seal = c .before .before in
     let after-marked2 = after-seal .before .before in
     let after-answer2 = after-marked2 .before .before in
-    let after-own-byte = after-answer2 .before .before in
-    let start = after-own-byte .before .before in
-    λ s e. data-sent _ s _ _ (after-answer2 .answer2 .given .1) (brief-data (start .pre .brief) (after-answer2 .answer2 .given .1)) (start .pre .ready .room) (after-own-byte .own-byte .ensures _) (after-marked2 .marked2 .ensures _ e) (after-seal .seal .ensures)
+    let start = after-answer2 .before .before .before in
+    λ s o e. data-sent s _ _ (after-answer2 .answer2 .given .1) (brief-data (start .pre .brief) (after-answer2 .answer2 .given .1)) (start .pre .room) o (after-marked2 .marked2 .ensures _ e) (after-seal .seal .ensures)
 
 returns-3 : tie.Need-returns-3
-returns-3 c = λ s e. none-sent _ s _ _ (c .enum-told .given .1)
+returns-3 c = λ s o e. none-sent s _ _ (c .enum-told .given .1)
 
 pub send-spec : {M : Type 1} → statement M
 send-spec =
     tie.close
     (tie.spec
-    own-byte-requires
     enum-known-answer
     marked-requires
     slice-aggregate-write

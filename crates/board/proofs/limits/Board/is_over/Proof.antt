@@ -11,7 +11,7 @@ is-over-requires : tie.Need-is-over-requires
 is-over-requires c κs = search needs
 
 returns : tie.Need-returns
-returns c = λ kept. c .is-over .ensures _ kept refl
+returns c = λ kept l. c .is-over .ensures _ kept l refl
 
 pub is-over-spec : {M : Type 1} → statement M
 is-over-spec = tie.close (tie.spec is-over-requires returns)
