@@ -10,7 +10,7 @@ use lib.Dec.{eqb, leb}
 use lib.ListN.{length, take, drop, length-take, length-replicate}
 use Rattle.meaning.specs.Bytes.{pick, put, both, zeros}
 use Rattle.meaning.specs.State as meaning
-use Rattle.meaning.specs.State.{Plate, Line, stateOk, fresh}
+use Rattle.meaning.specs.State.{Plate, Line, stateOk, fresh, plateOk}
 use Rattle.meaning.specs.Fields.{memoryLength}
 use Rattle.meaning.specs.Characters.{over}
 use Rattle.meaning.specs.Run as run

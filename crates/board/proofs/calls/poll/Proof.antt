@@ -2,6 +2,7 @@
 use Rattle.meaning.specs.Run.{poll}
 use Rattle.board.proofs.Bounding.{ready, lends-poll, none-refused}
 use mathlib.Core.Path.{_≡_, refl, sym, ap, _∙_}
+use denote.Ref.{now}
 use lib.ListN.{length}
 use Rattle.line.specs.Line.{plateOf}
 use Rattle.board.specs.Board.{refusalOn, refusedAs, isRefusal}
@@ -14,7 +15,7 @@ use Rattle.board.proofs.calls.poll.Tie as tie
 
 abbrev start : tie.After-refusal → tie.Start
 start c =
-    let start = c .before .before .before .before in
+    let start = c .before .before .before .before .before in
     start
 
 abbrev tested : tie.Else1 → tie.After-refusal
@@ -24,15 +25,15 @@ tested c =
 
 -- the first refusal that applies, or none
 told : (c : tie.After-refusal) → let a = start c .args in
-    c .refusal .result ≡ refusedAs (refusalOn (plateOf (a .plate)) (a .board) (a .kept .now) (a .memory .now) (length (a .room .now)) (poll (a .tick))) Still
-told c = c .refusal .ensures _ _ (poll (start c .args .tick)) refl refl (lends-poll _)
+    c .refusal .result ≡ refusedAs (refusalOn (plateOf (a .plate) (now (a .label))) (a .board) (a .kept .now) (a .memory .now) (length (a .room .now)) (poll (a .tick))) Still
+told c = c .refusal .ensures (now (start c .args .label)) _ _ (poll (start c .args .tick)) refl refl refl (lends-poll _)
 
 -- nothing is refused, and what follows from it
-willing : (c : tie.Else1) → let a = start (tested c) .args in refusalOn (plateOf (a .plate)) (a .board) (a .kept .now) (a .memory .now) (length (a .room .now)) (poll (a .tick)) ≡ 0
+willing : (c : tie.Else1) → let a = start (tested c) .args in refusalOn (plateOf (a .plate) (now (a .label))) (a .board) (a .kept .now) (a .memory .now) (length (a .room .now)) (poll (a .tick)) ≡ 0
 willing c = none-refused _ Still (ap isRefusal (sym (told (tested c))) ∙ sym (c .before .is-refusal .ensures) ∙ c .if1 .left)
 
-enough : (c : tie.Else1) → let a = start (tested c) .args in Ready (a .plate) (a .board .state) (a .board .frame) (a .kept .now) (a .memory .now) (a .room .now)
-enough c = ready _ _ _ _ _ (poll (start (tested c) .args .tick)) (lends-poll _) (willing c)
+enough : (c : tie.Else1) → let a = start (tested c) .args in Ready (a .plate) (now (a .label)) (a .board .state) (a .board .frame) (a .kept .now) (a .memory .now) (a .room .now)
+enough c = ready _ _ _ _ _ _ (poll (start (tested c) .args .tick)) (lends-poll _) (willing c)
 
 refusal-requires : tie.Need-refusal-requires
 refusal-requires c κs = search needs
@@ -79,7 +80,7 @@ returns-2 c =
     let after-2 = after-close .before .before .before .before in
     let after-is-over = after-2 .before in
     let after-else1 = after-is-over .before in
-    poll-over _ _ _ _ _ _ (willing (after-else1)) (c .stepped2 .ensures) (c .before .none .ensures) (sym (after-is-over .is-over .ensures _ _ refl) ∙ after-2 .if2 .taken) (after-close .close .ensures)
+    poll-over _ _ _ _ _ _ (willing (after-else1)) (c .stepped2 .ensures) (c .before .none .ensures) (sym (after-is-over .is-over .ensures _ _ _ refl) ∙ after-2 .if2 .taken) (after-close .close .ensures)
 
 stepped-requires-3 : tie.Need-stepped-requires-3
 stepped-requires-3 c κs = search needs
@@ -88,7 +89,7 @@ returns-3 : tie.Need-returns-3
 returns-3 c =
     let after-is-over = c .before .before in
     let after-else1 = after-is-over .before in
-    poll-still _ _ _ _ _ _ (willing (after-else1)) (c .stepped3 .ensures) refl (sym (after-is-over .is-over .ensures _ _ refl) ∙ c .before .if2 .left) (enough (after-else1) .fits .few)
+    poll-still _ _ _ _ _ _ (willing (after-else1)) (c .stepped3 .ensures) refl (sym (after-is-over .is-over .ensures _ _ _ refl) ∙ c .before .if2 .left) (enough (after-else1) .fits .few)
 
 pub poll-spec : {M : Type 1} → statement M
 poll-spec =

@@ -1,4 +1,6 @@
 -- `board::calls::told` meets its contract. Assumes nothing.
+use denote.Ref.{now}
+use mathlib.Core.Path.{refl}
 use borrow.Author.Tests.{not-true, not-false}
 use Rattle.board.proofs.Stepping.{told-by}
 use borrow.Author.Needs.{needs}
@@ -12,10 +14,14 @@ within-limits-requires : tie.Need-within-limits-requires
 within-limits-requires c κs = search needs
 
 returns : tie.Need-returns
-returns c = λ k all. told-by _ _ _ k (c .before .within-limits .ensures _ k refl all) (not-true _ (c .if1 .taken))
+returns c =
+    let start = c .before .before .before in
+    λ k all. told-by _ _ _ k (c .before .within-limits .ensures (now (start .args .label)) k refl all) (not-true _ (c .if1 .taken))
 
 returns-2 : tie.Need-returns-2
-returns-2 c = λ k all. told-by _ _ _ k (c .before .within-limits .ensures _ k refl all) (not-false _ (c .if1 .left))
+returns-2 c =
+    let start = c .before .before .before in
+    λ k all. told-by _ _ _ k (c .before .within-limits .ensures (now (start .args .label)) k refl all) (not-false _ (c .if1 .left))
 
 pub told-spec : {M : Type 1} → statement M
 told-spec = tie.close (tie.spec within-limits-requires returns returns-2)

@@ -16,7 +16,7 @@ is-ok-requires c κs = search needs
 
 returns : tie.Need-returns
 returns c =
-    let start = c .before .before in
+    let start = c .before .before .before in
     λ l k long all. bad-plate _ _ k (bad-label (plateOf (start .args .plate) l) (λ e. c .if1 .taken (sym long ∙ e)))
 
 returns-2 : tie.Need-returns-2

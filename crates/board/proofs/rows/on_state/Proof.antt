@@ -95,14 +95,31 @@ returns-8 c = λ p m e x. row-53 p _ _ m _ (c .before .if8 .taken) (c .reset .en
 
 set-address-requires : tie.Need-set-address-requires
 set-address-requires c κs =
-    let start = c .before .before .before .before .before .before .before .before .before .before .before .before .before in
-    two _ _ (start .pre .fits) (c .before .if9 .taken)
+    let start = c .before .before .before .before .before .before .before .before .before .before .before .before in
+    two _ _ (start .pre .fits) (c .if9 .taken)
 
 returns-9 : tie.Need-returns-9
 returns-9 c = λ p m e x. row-55 p _ _ m _ (c .before .if9 .taken) (c .set-address .ensures p _ m _)
 
 on-label-requires : tie.Need-on-label-requires
-on-label-requires c κs = ?
+on-label-requires c κs =
+    let after-else9 = c .before in
+    let after-else8 = after-else9 .before in
+    let after-else7 = after-else8 .before in
+    let after-else6 = after-else7 .before in
+    let after-else5 = after-else6 .before in
+    let after-else4 = after-else5 .before in
+    let after-else3 = after-else4 .before in
+    let after-else2 = after-else3 .before in
+    let after-else1 = after-else2 .before in
+    let start = after-else1 .before .before .before .before in
+    record {
+      all = start .pre .label-bytes;
+      room = start .pre .room;
+      tells = last-alone _ _ (start .pre .fits) (start .pre .alone) (ne-eqb _ _ (after-else1 .if1 .left)) (ne-eqb _ _ (after-else2 .if2 .left)) (ne-eqb _ _ (after-else3 .if3 .left))
+          (ne-eqb _ _ (after-else4 .if4 .left)) (ne-eqb _ _ (after-else5 .if5 .left)) (ne-eqb _ _ (after-else6 .if6 .left)) (ne-eqb _ _ (after-else7 .if7 .left))
+          (ne-eqb _ _ (after-else8 .if8 .left)) (ne-eqb _ _ (after-else9 .if9 .left));
+    }
 
 same-length-5 : tie.Need-same-length-5
 same-length-5 c = search needs
