@@ -11,10 +11,10 @@ use lib.ListN.{length, getD, take, drop, length-take, length-drop, drop-of-lengt
 use lib.Seq.{drop-cons}
 use Rattle.meaning.specs.Bytes.{both, either, arg, put, xorAll, same}
 use Rattle.meaning.specs.State.{between}
-use Rattle.meaning.specs.Commands.{Command, c42, c43, c46, c47, c49, c4A, c4B, c4C, c4D, c4E, c4F, c50, c53, unknown, commandOf, row, lengthFits, asked}
+use Rattle.meaning.specs.Commands.{Command, c42, c43, c46, c47, c49, c4A, c4B, c4C, c4D, c4E, c4F, c50, c52, c53, c55, c56, unknown, commandOf, row, lengthFits, asked}
 use Rattle.meaning.specs.Commands as meaning
 use Rattle.meaning.specs.Frames.{commandByte, dataOf}
-use Rattle.meaning.specs.Bench.{inRange, allowed, addressOk, addressFor, request, writes, written, judge, fromAsked, bare, refusal, done, failed, bad, branch, warning, errorReply, rightLength, repeated, content}
+use Rattle.meaning.specs.Bench.{inRange, allowed, addressOk, addressFor, request, writes, written, judge, rightAddress, bare, refusal, done, failed, bad, branch, warning, errorReply, rightLength, repeated, content}
 use Rattle.meaning.proofs.Steps.{Named, named}
 use Rattle.meaning.proofs.Wire.{length-sealed, writes-well}
 use Rattle.wire.specs.Table.{lengthOf, rowOf}
@@ -69,7 +69,10 @@ in-range-else c d e n m = go (commandOf c) (named c) e
     go c4E h e = refl
     go c4F h e = absurd (m h)
     go c50 h e = refl
+    go c52 h e = refl
     go c53 h e = refl
+    go c55 h e = refl
+    go c56 h e = refl
     go unknown h e = e
 
 pub not-asked : (c : ℕ) (d : List ℕ) → asked (commandOf c) d ≡ false → allowed (commandOf c) d ≡ false
@@ -200,11 +203,11 @@ module _ (q r : List ℕ) where
       sum-wrong x = simp (w, le-ltb (length r) 3 l, ne-eqb (xorAll r) 0 x)
 
       module _ (x : xorAll r ≡ 0) where
-        pub not-from-asked : fromAsked (arg q 0) (arg r 0) ≡ false → judge q r ≡ refusal 3
+        pub address-unfit : rightAddress q r ≡ false → judge q r ≡ refusal 3
         unfolding judge bad
-        not-from-asked a = simp (w, le-ltb (length r) 3 l, eq-eqb (xorAll r) 0 x, a)
+        address-unfit a = simp (w, le-ltb (length r) 3 l, eq-eqb (xorAll r) 0 x, a)
 
-        module _ (a : fromAsked (arg q 0) (arg r 0) ≡ true) where
+        module _ (a : rightAddress q r ≡ true) where
           pub command-wrong : either (eqb (arg r 1 % 128) (arg q 1)) (eqb (arg r 1 % 128) 0x50) ≡ false → judge q r ≡ refusal 4
           unfolding judge bad bare commandByte
           command-wrong c = simp (w, le-ltb (length r) 3 l, eq-eqb (xorAll r) 0 x, a, c)

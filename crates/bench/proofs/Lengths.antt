@@ -9,7 +9,7 @@ use lib.Dec.{T, eqb, leb, ltb, eqb→eq, leb→le}
 use lib.ListN.{length, take, length-take}
 use lib.Seq.{getD-take}
 use Rattle.meaning.specs.Bytes.{pick, both, either, arg, xorAll}
-use Rattle.meaning.specs.Commands.{Command, c42, c43, c46, c47, c49, c4A, c4B, c4C, c4D, c4E, c4F, c50, c53, unknown, exactly, counted, never, commandOf, row, lengthFits, asked}
+use Rattle.meaning.specs.Commands.{Command, c42, c43, c46, c47, c49, c4A, c4B, c4C, c4D, c4E, c4F, c50, c52, c53, c55, c56, unknown, exactly, counted, never, commandOf, row, lengthFits, asked}
 use Rattle.meaning.specs.Commands as meaning
 use Rattle.meaning.specs.Frames.{commandByte, dataOf}
 use Rattle.meaning.specs.Bench.{Verdict, refusal, done, failed, written, addressByte, inRange, allowed, bare, errorReply, rightLength, judge, pieceOf, handed}
@@ -33,8 +33,8 @@ base (exactly n) = n
 base (counted n) = n
 base never = 0
 
--- 01, column "Reply data": four bytes at most, but for the count
-short-row : (k : Command) → leb (base ((row k) .reply)) 4 ≡ true
+-- column "Reply data": 37 bytes at most, of 56h (000, table 31), but for the count
+short-row : (k : Command) → leb (base ((row k) .reply)) 37 ≡ true
 unfolding row
 short-row c42 = refl
 short-row c43 = refl
@@ -48,15 +48,18 @@ short-row c4D = refl
 short-row c4E = refl
 short-row c4F = refl
 short-row c50 = refl
+short-row c52 = refl
 short-row c53 = refl
+short-row c55 = refl
+short-row c56 = refl
 short-row unknown = refl
 
 module _ (r : Row) (c : ℕ) (l : Length) (e : rowOf r ≡ row (commandOf c)) (f : r .reply ≡ l) where
   same-length : lengthOf l ≡ (row (commandOf c)) .reply
   same-length = ap lengthOf (sym f) ∙ ap (λ (w : meaning.Row). w .reply) e
 
-  pub few-bytes : base (lengthOf l) ≤ 4
-  few-bytes = leb-true (base (lengthOf l)) 4 (ap (λ (x : meaning.Length). leb (base x) 4) same-length ∙ short-row (commandOf c))
+  pub few-bytes : base (lengthOf l) ≤ 37
+  few-bytes = leb-true (base (lengthOf l)) 37 (ap (λ (x : meaning.Length). leb (base x) 37) same-length ∙ short-row (commandOf c))
 
   pub by-row : (d : List ℕ) → doneLength c d ≡ framed (lengthOf l) d
   unfolding doneLength
@@ -163,8 +166,8 @@ Within Unknown = Unit
 Within (Bytes n) = (3 ≤ n) × (n ≤ 134)
 Within (Refused b) = Unit
 
-few : (n : ℕ) → T (leb n 4) → Within (Bytes (3 + n))
-few n h = (omega arith, omega (arith, leb→le n 4 h))
+few : (n : ℕ) → T (leb n 37) → Within (Bytes (3 + n))
+few n h = (omega arith, omega (arith, leb→le n 37 h))
 
 -- 4Ah's count is at most 128 in a request that the bench writes
 done-within : (k : Command) (d : List ℕ) → T (allowed k d) → Within (framed ((row k) .reply) d)
@@ -184,7 +187,10 @@ done-within c4D d h = few 2 tt
 done-within c4E d h = few 2 tt
 done-within c4F d h = few 1 tt
 done-within c50 d h = few 1 tt
+done-within c52 d h = few 4 tt
 done-within c53 d h = tt
+done-within c55 d h = few 0 tt
+done-within c56 d h = few 37 tt
 done-within unknown d h = tt
 
 all-within : (q s : List ℕ) → Within (expectedLength q s)

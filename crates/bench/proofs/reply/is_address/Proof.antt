@@ -6,7 +6,7 @@ use Rattle.bench.proofs.reply.is_address.Statement.{statement}
 use Rattle.bench.proofs.reply.is_address.Tie as tie
 use Rattle.bench.proofs.reply.is_address.Reads as reads
 use Rattle.bench.proofs.reply.is_address.Lts as lts
-use Rattle.bench.proofs.reply.is_board.Reads as is-board-reads
+use Rattle.wire.proofs.is_board.Reads as is-board-reads
 
 is-board-requires : tie.Need-is-board-requires
 is-board-requires c κs = search needs

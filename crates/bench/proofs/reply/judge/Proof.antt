@@ -1,8 +1,8 @@
 -- `bench::reply::judge` meets its contract. Assumes nothing.
-use Rattle.bench.proofs.Laws.{not-written, written-long, reply-short, sum-wrong, not-from-asked, command-wrong, to-content}
+use Rattle.bench.proofs.Laws.{not-written, written-long, reply-short, sum-wrong, address-unfit, command-wrong, to-content}
 use Rattle.bench.specs.Outcomes.{withoutData}
 use Rattle.meaning.specs.Bench as meaning
-use Rattle.meaning.specs.Bench.{written, fromAsked, bare, errorReply, content}
+use Rattle.meaning.specs.Bench.{written, rightAddress, bare, errorReply, content}
 use Rattle.meaning.specs.Bytes.{arg}
 use Rattle.meaning.specs.Frames.{commandByte}
 use Rattle.meaning.specs.Bytes.{xorAll}
@@ -20,7 +20,7 @@ use Rattle.bench.proofs.reply.judge.Lts as lts
 use Rattle.bench.proofs.reply.command_fits.Reads as command-fits-reads
 use Rattle.bench.proofs.reply.done_verdict.Reads as done-verdict-reads
 use Rattle.bench.proofs.reply.error_verdict.Reads as error-verdict-reads
-use Rattle.bench.proofs.reply.from_asked.Reads as from-asked-reads
+use Rattle.bench.proofs.reply.address_fits.Reads as address-fits-reads
 use Rattle.bench.proofs.reply.is_error.Reads as is-error-reads
 use Rattle.bench.proofs.reply.is_written.Reads as is-written-reads
 use Rattle.wire.proofs.xor_of.Reads as xor-of-reads
@@ -38,15 +38,15 @@ sums : (c : tie.Else3) → xorAll (c .before .before .before .before .before .be
 sums c = sym (c .before .xor-of .ensures) ∙ c .if3 .left
 
 from : (c : tie.Else4)
-    → let a = c .before .before .before .before .before .before .before .before .before .before .before .args in fromAsked (arg (a .request .now) 0) (arg (a .reply .now) 0) ≡ true
-from c = sym (c .before .from-asked .ensures) ∙ not-false _ (c .if4 .left)
+    → let a = c .before .before .before .before .before .before .before .before .before .args in rightAddress (a .request .now) (a .reply .now) ≡ true
+from c = sym (c .before .address-fits .ensures) ∙ not-false _ (c .if4 .left)
 
 reached : (c : tie.Else5)
-    → let a = c .before .before .before .before .before .before .before .before .before .before .before .before .before .before .before .args in meaning.judge (a .request .now) (a .reply .now) ≡ content (a .request .now) (a .reply .now)
+    → let a = c .before .before .before .before .before .before .before .before .before .before .before .before .before .args in meaning.judge (a .request .now) (a .reply .now) ≡ content (a .request .now) (a .reply .now)
 reached c =
     let after-else4 = c .before .before .before .before in
     let w = after-else4 in
-    let v = w .before .before .before .before in
+    let v = w .before .before in
     let u = v .before .before in
     to-content _ _ (asks (u .before)) (u .if2 .left) (sums v) (from w) (sym (c .before .command-fits .ensures) ∙ not-false _ (c .if5 .left))
 
@@ -67,27 +67,22 @@ returns-3 c =
     let u = c .before .before in
     sym (ap withoutData (sum-wrong _ _ (asks (u .before)) (u .if2 .left) (λ e. c .if3 .taken (c .before .xor-of .ensures ∙ e))))
 
-shared-slice-read-from-asked : tie.Need-shared-slice-read-from-asked
-shared-slice-read-from-asked c =
-    let after-else1 = c .before .before .before .before in
-    omega (arith, asks-long (after-else1))
-
-shared-slice-read-from-asked-2 : tie.Need-shared-slice-read-from-asked-2
-shared-slice-read-from-asked-2 c = search needs
-
-from-asked-requires : tie.Need-from-asked-requires
-from-asked-requires c κs = search needs
+address-fits-requires : tie.Need-address-fits-requires
+address-fits-requires c κs =
+    let after-else1 = c .before .before .before in
+    let after-else2 = c .before .before in
+    (asks-long (after-else1), after-else2 .if2 .left)
 
 returns-4 : tie.Need-returns-4
 returns-4 c =
-    let after-else3 = c .before .before .before .before in
+    let after-else3 = c .before .before in
     let v = after-else3 in
     let u = v .before .before in
-    sym (ap withoutData (not-from-asked _ _ (asks (u .before)) (u .if2 .left) (sums v) (sym (c .before .from-asked .ensures) ∙ not-true _ (c .if4 .taken))))
+    sym (ap withoutData (address-unfit _ _ (asks (u .before)) (u .if2 .left) (sums v) (sym (c .before .address-fits .ensures) ∙ not-true _ (c .if4 .taken))))
 
 shared-slice-read-command-fits : tie.Need-shared-slice-read-command-fits
 shared-slice-read-command-fits c =
-    let after-else1 = c .before .before .before .before .before .before .before .before in
+    let after-else1 = c .before .before .before .before .before .before in
     omega (arith, asks-long (after-else1))
 
 shared-slice-read-command-fits-2 : tie.Need-shared-slice-read-command-fits-2
@@ -100,13 +95,13 @@ returns-5 : tie.Need-returns-5
 returns-5 c =
     let after-else4 = c .before .before .before .before in
     let w = after-else4 in
-    let v = w .before .before .before .before in
+    let v = w .before .before in
     let u = v .before .before in
     sym (ap withoutData (command-wrong _ _ (asks (u .before)) (u .if2 .left) (sums v) (from w) (sym (c .before .command-fits .ensures) ∙ not-true _ (c .if5 .taken))))
 
 shared-slice-read-is-error : tie.Need-shared-slice-read-is-error
 shared-slice-read-is-error c =
-    let after-else1 = c .before .before .before .before .before .before .before .before .before .before .before .before in
+    let after-else1 = c .before .before .before .before .before .before .before .before .before .before in
     omega (arith, asks-long (after-else1))
 
 shared-slice-read-is-error-2 : tie.Need-shared-slice-read-is-error-2
@@ -129,7 +124,7 @@ unfolding errorReply bare commandByte
 done-verdict-requires c κs =
     let t = c .before in
     let x = t .before .before .before in
-    let v = x .before .before .before .before .before .before .before .before in
+    let v = x .before .before .before .before .before .before in
     let u = v .before .before in
     record { long = asks-long (u .before); heard = u .if2 .left; ordinary = sym (t .is-error .ensures) ∙ c .if6 .left }
 
@@ -147,9 +142,7 @@ judge-spec =
     returns-2
     xor-of-requires
     returns-3
-    shared-slice-read-from-asked
-    shared-slice-read-from-asked-2
-    from-asked-requires
+    address-fits-requires
     returns-4
     shared-slice-read-command-fits
     shared-slice-read-command-fits-2
