@@ -8,7 +8,7 @@ use native.Mathlib.Nat.{mul-le-mul-left}
 use lib.ListN.{length, take, drop}
 use lib.Seq.{take-length, take-append-seam}
 use Rattle.meaning.specs.Bytes.{pick, put}
-use Rattle.meaning.specs.State.{Plate, State, Line, none, withLine, plateOk}
+use Rattle.meaning.specs.State.{Plate, State, Line, none, withLine, plateOk, stateOk}
 use Rattle.meaning.specs.Characters.{over}
 use Rattle.meaning.specs.Frames.{Outcome, still, resting}
 use Rattle.meaning.specs.Run.{poll, step, runFrom, closes}
@@ -16,8 +16,9 @@ use Rattle.meaning.specs.Bench.{addressFor, request, judge}
 use Rattle.meaning.specs.Demands.{meant}
 use Rattle.meaning.proofs.Puts.{length-put, put-front}
 use Rattle.meaning.proofs.Rests.{meant-rests}
-use Rattle.meaning.proofs.Limits.{replies-fit}
-use Rattle.line.proofs.Limits.{low-address, few-ticks, short-pause}
+use Rattle.meaning.proofs.Choices.{true-told}
+use Rattle.meaning.proofs.Limits.{Lim, to-lim, replies-fit}
+use Rattle.line.proofs.Limits.{whole-label, few-ticks, short-pause}
 use Rattle.state.proofs.Answering.{put-nothing}
 use Rattle.board.specs.declared.limits.Board.{Board}
 use Rattle.board.specs.declared.limits.Outcome.the-variants.{Still, Over}
@@ -46,7 +47,7 @@ module _ (p : Plate) (ok : plateOk p ≡ true) where
 -- after a request no frame is open
 answer-rests : (p : Plate) (s : State) (m : List ℕ) (a c : ℕ) (d : List ℕ) → (answerTo p s m a c d) .state .line ≡ s .line
 unfolding answerTo still
-answer-rests p s m a c d = go (reached p s a)
+answer-rests p s m a c d = go (reached s a)
   where
     go : (t : Bool) → (pick t (meant p s m c d) (still s m)) .state .line ≡ s .line
     go true = meant-rests p s m d c
@@ -89,6 +90,10 @@ module _ (p : Plate) (b : Board) (tick spacing : ℕ) (q kept m w : List ℕ) (c
       abbrev answer : Outcome
       answer = answerTo p s₀ m a c d
 
+      -- the board's address is one
+      home : Lim p (stateOf b kept)
+      home = to-lim p (stateOf b kept) (true-told (stateOk p (stateOf b kept)) (clear .within .state))
+
       short : length (request a c d) ≤ 135
       short = rw (asks .bytes) at (clear .short)
 
@@ -102,13 +107,13 @@ module _ (p : Plate) (b : Board) (tick spacing : ℕ) (q kept m w : List ℕ) (c
       answered =
           ap₂ (λ (x : State) (y : List ℕ). step p x y (poll t)) state-is (sent .taken .memory)
           ∙ ap (λ (x : ℕ). step p ((runFrom p (stateOf b kept) m (sending tick spacing (request a c d) (length (request a c d)))) .state) m (poll x)) tick-is
-          ∙ poll-answers p (stateOf b kept) m tick spacing a c d (clear .idle) low (clear .close) clear-pause short (low-address p (clear .within .plate)) (clear .within .size) (asks .may)
+          ∙ poll-answers p (stateOf b kept) m tick spacing a c d (clear .idle) low (clear .close) clear-pause short (home .placed) (whole-label p (clear .within .plate)) (clear .within .size) (asks .may)
 
       closed-now : closes p (stateOf (e .board) k₁) (poll t) ≡ true
       unfolding closes
       closed-now =
           ap₂ (λ (x : State) (y : ℕ). over p x y) state-is tick-is
-          ∙ over-now p (stateOf b kept) m tick spacing a c d (clear .idle) low (clear .close) clear-pause short (low-address p (clear .within .plate)) (clear .within .size) (asks .may)
+          ∙ over-now p (stateOf b kept) m tick spacing a c d (clear .idle) low (clear .close) clear-pause short (home .placed) (whole-label p (clear .within .plate)) (clear .within .size) (asks .may)
 
       count-is : replyLength (r .outcome) ≡ length (answer .reply)
       count-is = rw (polled .outcome, closed-now, answered)
@@ -124,7 +129,7 @@ module _ (p : Plate) (b : Board) (tick spacing : ℕ) (q kept m w : List ℕ) (c
           let heard-bytes : take k w₂ ≡ answer .reply
           = rw (room, kk, count-is, put-front w (answer .reply)) (take-append-seam (answer .reply) (drop (length (answer .reply)) w)) in
           let told : verdictOf v ≡ withoutData (verdictOn p s₀ m a c d)
-          = vv ∙ ap withoutData (ap₂ judge (asks .bytes) heard-bytes ∙ verdict-answers p s₀ m n c d (low-address p (clear .within .plate)) (clear .within .size) (asks .address) (asks .may)) in
+          = vv ∙ ap withoutData (ap₂ judge (asks .bytes) heard-bytes ∙ verdict-answers p s₀ m n c d (unfold resting withLine in home .placed) (whole-label p (clear .within .plate)) (clear .within .size) (asks .address) (asks .may)) in
           record {
             ended = rw (xx, told, kk, count-is, asks .bytes);
             state = rw xx (polled .state ∙ ap (λ (o : Outcome). o .state) answered);

@@ -7,29 +7,29 @@ use native.Mathlib.Omega.{arith}
 use lib.Dec.{T, eqb}
 use lib.ListN.{length}
 use lib.Seq.{take-length}
-use borrow.Author.Tests.{le-ltb}
 use Rattle.meaning.specs.Bytes.{pick, either, arg}
-use Rattle.meaning.specs.State.{Plate, State, ownByte}
+use Rattle.meaning.specs.State.{Plate, State, ownByte, withLine}
 use Rattle.meaning.specs.Fields.{memoryLength}
 use Rattle.meaning.specs.Commands.{commandOf, worked}
 use Rattle.meaning.specs.Characters.{closed}
-use Rattle.meaning.specs.Frames.{sealed, ours, ending, leaves, still, work, resting, upTo}
+use Rattle.meaning.specs.Frames.{sealed, ours, still, resting, upTo}
 use Rattle.meaning.specs.Characters as characters
 use Rattle.meaning.specs.Frames as frames
 use Rattle.meaning.specs.Run.{Call, poll, step, runFrom, closes}
 use Rattle.meaning.specs.Bench.{addressOk, addressFor, allowed, request, written, refusal, judge, bad}
 use Rattle.meaning.specs.Demands.{Sent, meant, concluded}
+use Rattle.meaning.proofs.Addresses.{passed-over}
 use Rattle.meaning.proofs.Lines.{poll-works}
 use Rattle.meaning.proofs.Wire.{length-sealed, verdict-follows, writes-well}
 use Rattle.exchange.specs.Calls.{stampOf, sending}
 use Rattle.exchange.specs.Passing.{reached, answerTo, verdictOn}
 use Rattle.exchange.proofs.Running.{kept-begun, Runs, runs, pause-closes, begun-then, sent-is-told}
 
--- 01, "judged in this order", 1: a frame of three bytes or more for another address
-elsewhere : (p : Plate) (s : State) (m : List ℕ) (now : ℕ) (q : List ℕ) → characters.over p s now ≡ true → s .line .kept ≡ q → 3 ≤ length q
+-- 01, "judged in this order", 1: a frame for another address
+elsewhere : (p : Plate) (s : State) (m : List ℕ) (now : ℕ) (q : List ℕ) → characters.over p s now ≡ true → s .line .kept ≡ q
     → ours (resting s) q ≡ false → step p s m (poll now) ≡ still (resting s) m
-unfolding step upTo frames.close work ending closed leaves ours still ownByte resting
-elsewhere p s m now q o e long away = rw (o, e, le-ltb (length q) 3 long, away)
+unfolding step upTo frames.close closed
+elsewhere p s m now q o e away = rw o (passed-over p (resting s) m (closed (s .line)) (ap (ours (resting s)) e ∙ away))
 
 -- the request's first byte is its address
 first-byte : (a c : ℕ) (d : List ℕ) → arg (request a c d) 0 ≡ a
@@ -42,7 +42,7 @@ request-long a c d = omega (arith, length-sealed (a ∷ c ∷ d))
 
 module _ (p : Plate) (s : State) (m : List ℕ) (tick spacing : ℕ) (a c : ℕ) (d : List ℕ) (idle : s .line .begun ≡ false) (low : tick < 2 ^ 32)
     (close : spacing < p .pause * p .ticks) (few : p .pause * p .ticks < 2 ^ 32) (short : length (request a c d) ≤ 135)
-    (home : p .address ≤ 31) (size : length m ≡ memoryLength (p .total)) (may : T (allowed (commandOf c) d)) where
+    (home : s .address ≤ 31) (labelled : length (p .label) ≡ 41) (size : length m ≡ memoryLength (p .total)) (may : T (allowed (commandOf c) d)) where
   abbrev q : List ℕ
   q = request a c d
 
@@ -74,7 +74,7 @@ module _ (p : Plate) (s : State) (m : List ℕ) (tick spacing : ℕ) (a c : ℕ)
   answered-here : T (either (eqb a (ownByte s)) (eqb a 0xFF)) → step p ((runFrom p s m gs) .state) m (poll now) ≡ meant p (resting s) m c d
   unfolding runFrom closes
   answered-here h =
-      let w : Sent p s m a c d = record { address = home; size = size; ours = h; may = may } in
+      let w : Sent p s m a c d = record { address = home; label = labelled; size = size; ours = h; may = may } in
       let t = sent-is-told p s m tick spacing q idle low close short a c d refl w in
       let o : T (characters.over p ((runFrom p s m gs) .state) now) = rw over-now tt in
       ap (λ (x : List ℕ). step p ((runFrom p s m gs) .state) x (poll now)) (sym (all .memory))
@@ -86,11 +86,12 @@ module _ (p : Plate) (s : State) (m : List ℕ) (tick spacing : ℕ) (a c : ℕ)
   answered-elsewhere h =
       let r : State = (runFrom p s m gs) .state in
       let k : r .line .kept ≡ q = kept-begun r q begun-now (all .kept ∙ take-length q) in
-      let away : ours (resting r) q ≡ false = rw (first-byte a c d) h in
-      elsewhere p r m now q over-now k (request-long a c d) away ∙ ap (λ (x : State). still x m) (all .rests)
+      let here : ours (resting s) q ≡ false = unfold resting withLine in (rw (first-byte a c d) h) in
+      let away : ours (resting r) q ≡ false = ap (λ (x : State). ours x q) (all .rests) ∙ here in
+      elsewhere p r m now q over-now k away ∙ ap (λ (x : State). still x m) (all .rests)
 
   pub poll-answers : step p ((runFrom p s m gs) .state) m (poll now) ≡ answerTo p (resting s) m a c d
-  unfolding answerTo reached ownByte
+  unfolding answerTo reached ownByte resting withLine
   poll-answers = go (either (eqb a (ownByte s)) (eqb a 0xFF)) refl
     where
       go : (t : Bool) → either (eqb a (ownByte s)) (eqb a 0xFF) ≡ t → step p ((runFrom p s m gs) .state) m (poll now) ≡ pick t (meant p (resting s) m c d) (still (resting s) m)
@@ -98,7 +99,7 @@ module _ (p : Plate) (s : State) (m : List ℕ) (tick spacing : ℕ) (a c : ℕ)
       go false e = answered-elsewhere e
 
 -- what the bench makes of it: by the row's answer, or silence
-module _ (p : Plate) (s : State) (m : List ℕ) (n c : ℕ) (d : List ℕ) (home : p .address ≤ 31) (size : length m ≡ memoryLength (p .total))
+module _ (p : Plate) (s : State) (m : List ℕ) (n c : ℕ) (d : List ℕ) (home : s .address ≤ 31) (labelled : length (p .label) ≡ 41) (size : length m ≡ memoryLength (p .total))
     (right : T (addressOk n)) (may : T (allowed (commandOf c) d)) where
   abbrev to : ℕ
   to = addressFor n
@@ -118,5 +119,5 @@ module _ (p : Plate) (s : State) (m : List ℕ) (n c : ℕ) (d : List ℕ) (home
       go : (t : Bool) → either (eqb to (ownByte s)) (eqb to 0xFF) ≡ t
           → judge (request to c d) ((pick t (meant p s m c d) (still s m)) .reply)
           ≡ pick t (concluded s (worked (commandOf c) p s m d)) (refusal 1)
-      go true e = verdict-follows p s m to c d (record { address = home; size = size; ours = rw e tt; may = may })
+      go true e = verdict-follows p s m to c d (record { address = home; label = labelled; size = size; ours = rw e tt; may = may })
       go false e = silent

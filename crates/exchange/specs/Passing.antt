@@ -59,16 +59,16 @@ refusalFor p b n c d spacing q kept m w =
     ((writes n c d q) .refusal)))
 
 -- 01, "Broadcast FFh is taken too": the address byte is this board's or broadcast
-unfoldable pub reached : Plate → State → ℕ → Bool
-reached p s a = either (eqb a (ownByte s)) (eqb a 0xFF)
+unfoldable pub reached : State → ℕ → Bool
+reached s a = either (eqb a (ownByte s)) (eqb a 0xFF)
 
 -- what a board with no frame open makes of a request: what its row means; of one for another address, silence
 unfoldable pub answerTo : Plate → State → List ℕ → ℕ → ℕ → List ℕ → Outcome
-answerTo p s m a c d = pick (reached p s a) (meant p s m c d) (still s m)
+answerTo p s m a c d = pick (reached s a) (meant p s m c d) (still s m)
 
 -- what the bench is to conclude; of silence, B1
 unfoldable pub verdictOn : Plate → State → List ℕ → ℕ → ℕ → List ℕ → Verdict
-verdictOn p s m a c d = pick (reached p s a) (concluded s (worked (commandOf c) p s m d)) (refusal 1)
+verdictOn p s m a c d = pick (reached s a) (concluded s (worked (commandOf c) p s m d)) (refusal 1)
 
 -- the bytes q are a request that the bench writes
 pub record Asks (n c : ℕ) (d q : List ℕ) : Type 0 where

@@ -40,7 +40,8 @@ module _ (p : Plate) (s : State) (m : List ℕ) (b : Frame) where
       (not-T (ltb (length (b .bytes)) 3) (λ k. omega (arith, ltb→lt (length (b .bytes)) 3 k)))
       ∙ not-short (not (ours s (b .bytes))) elsewhere (answered (judged p s m b)) (yes-not (ours s (b .bytes)) h)
 
-  passed-over : ours s (b .bytes) ≡ false → work p s m b ≡ still s m
+  -- one that is not changes nothing, however long it is
+  pub passed-over : ours s (b .bytes) ≡ false → work p s m b ≡ still s m
   unfolding work ending leaves
   passed-over n = rw n (go (ltb (length (b .bytes)) 3))
     where

@@ -4,6 +4,7 @@ use Prim.Native.Nat.{ℕ, _+_, _%_, _^_, _<_, _≤_}
 use lib.ListN.{length}
 use lib.Seq.{length-take-le}
 use Rattle.exchange.proofs.Answering.{reply-fits, converses}
+use Rattle.line.proofs.Limits.{few-ticks, short-pause}
 use borrow.Author.Needs.{needs}
 use Rattle.exchange.proofs.asking.converse.Statement.{statement}
 use Rattle.exchange.proofs.asking.converse.Tie as tie
@@ -21,13 +22,13 @@ tick-low c = search needs
 
 send-requires : tie.Need-send-requires
 send-requires c κs =
-    let start = c .before .before .before .before .before .before .before in
+    let start = c .before .before .before .before .before .before .before .before in
     start .pre
 
 pause-of-requires : tie.Need-pause-of-requires
 pause-of-requires c κs =
-    let start = c .before .before .before .before .before .before .before .before .before .before .before .before .before .before in
-    start .pre .within .plate
+    let start = c .before .before .before .before .before .before .before .before .before .before .before .before .before .before .before in
+    (short-pause _ (start .pre .within .plate), few-ticks _ (start .pre .within .plate))
 
 stamp-after-requires : tie.Need-stamp-after-requires
 stamp-after-requires c κs = search needs
@@ -38,12 +39,12 @@ poll-requires c κs = search needs
 reply-length-requires : tie.Need-reply-length-requires
 reply-length-requires c κs = search needs
 
-fits : (c : tie.After-reply-length) → let u = c .before .before .before .before .before .before .before .before in c .reply-length .result ≤ length (u .poll .last .1 .1 .1 .1 .1 .0)
+fits : (c : tie.After-reply-length) → let u = c .before .before .before .before .before .before .before .before in c .reply-length .result ≤ length (u .poll .last .1 .1 .1 .1 .1 .1 .0)
 fits c =
     let after-poll = c .before .before .before .before .before .before .before .before in
     let u = after-poll in
     let v = u .before .before .before .before .before .before .before .before .before .before .before .before .before in
-    let a = v .before .before .before .before .before .before .before .before in
+    let a = v .before .before .before .before .before .before .before .before .before in
     rw (c .reply-length .ensures) (reply-fits _ _ _ _ _ _ _ _ (a .pre) (v .send .ensures) _ (u .poll .ensures))
 
 slice-reshare-prefix-judge : tie.Need-slice-reshare-prefix-judge
@@ -69,7 +70,7 @@ returns c n k d h = let r = c .before .before in
     let u = r .before .before .before .before .before .before .before .before in
     let t = u .before .before .before .before .before in
     let v = t .before .before .before .before .before .before .before .before in
-    let a = v .before .before .before .before .before .before .before .before in
+    let a = v .before .before .before .before .before .before .before .before .before in
     let at = t .stamp-after .ensures ∙ ap (λ (x : ℕ). (v .send .result .last + x) % 2 ^ 32) (t .before .pause-of .ensures) in
     converses _ _ _ _ _ _ _ _ (a .pre) (v .send .ensures) _ (u .poll .ensures) (tick-low a) at n k d h (r .reply-length .ensures) (c .judge .ensures) refl
 

@@ -12,6 +12,8 @@ use mathlib.Core.Bool.{false}
 use Rattle.board.proofs.Bounding.{lends-poll}
 use Rattle.exchange.proofs.Stepping.{within, wide}
 use Rattle.exchange.proofs.Refusing.{Wrote, wrote, none-applies, passes-unsent, passes-refused, refused-open, refused-slow, refused-bench, passes-unwritten, passes-heard}
+use denote.Ref.{now}
+use Rattle.line.proofs.Limits.{few-ticks, short-pause}
 use borrow.Author.Needs.{needs}
 use Rattle.exchange.proofs.asking.exchange.Statement.{statement}
 use Rattle.exchange.proofs.asking.exchange.Tie as tie
@@ -26,20 +28,20 @@ use Rattle.exchange.proofs.sending.pause_of.Reads as pause-of-reads
 
 abbrev start : tie.After-refusal → tie.Start
 start c =
-    let start = c .before .before .before .before .before .before in
+    let start = c .before .before .before .before .before .before .before in
     start
 
 refusal-requires : tie.Need-refusal-requires
 refusal-requires c κs = search needs
 
 refusal-is : (c : tie.After-refusal)
-    → let a = start c .args in c .refusal .result ≡ refusedAs (refusalOn (plateOf (a .plate)) (a .board) (a .kept .now) (a .memory .now) (length (a .room .now)) (poll 0)) Still
+    → let a = start c .args in c .refusal .result ≡ refusedAs (refusalOn (plateOf (a .plate) (now (a .label))) (a .board) (a .kept .now) (a .memory .now) (length (a .room .now)) (poll 0)) Still
 refusal-is c =
     let a = start c .args in
-    c .refusal .ensures (a .kept .now) (a .memory .now) (poll 0) refl refl (lends-poll 0)
+    c .refusal .ensures (now (a .label)) (a .kept .now) (a .memory .now) (poll 0) refl refl refl (lends-poll 0)
 
 unrefused : (c : tie.At-match-keys4)
-    → let a = start (c .before) .args in refusalOn (plateOf (a .plate)) (a .board) (a .kept .now) (a .memory .now) (length (a .room .now)) (poll 0) ≡ 0
+    → let a = start (c .before) .args in refusalOn (plateOf (a .plate) (now (a .label))) (a .board) (a .kept .now) (a .memory .now) (length (a .room .now)) (poll 0) ≡ 0
 unrefused c = none-applies _ _ (refusal-is (c .before)) (c .match .keys4)
 
 -- no frame is open
@@ -53,7 +55,7 @@ tried c =
     let at-match-keys4 = c .before .before .before .before in
     at-match-keys4
 
-near : (c : tie.Else2) → let a = start (tried c .before) .args in a .spacing < a .plate .pause * a .plate .ticks
+near : (c : tie.Else2) → let a = start (tried c .before) .args in a .apart < a .plate .pause * a .plate .ticks
 near c = rw (c .before .pause-of .ensures) at (c .if2 .left)
 
 -- the request is written
@@ -112,7 +114,9 @@ returns-4 c =
     passes-refused _ _ _ _ _ _ _ _ _ _ (refused-open _ _ _ _ _ _ _ _ _ _ (unrefused (o .before)) (sym (o .is-open .ensures (start (o .before .before) .args .kept .now)) ∙ t .if1 .taken)) (eqb-false 6 0 refl) refl (c .unsent4 .ensures)
 
 pause-of-requires : tie.Need-pause-of-requires
-pause-of-requires c κs = within _ _ _ _ _ (poll 0) (lends-poll 0) (unrefused (c .before .before)) .plate
+pause-of-requires c κs =
+    let good = within _ _ _ _ _ (poll 0) (lends-poll 0) (unrefused (c .before .before)) in
+    (short-pause _ (good .plate), few-ticks _ (good .plate))
 
 unsent-requires-5 : tie.Need-unsent-requires-5
 unsent-requires-5 c κs = search needs

@@ -16,21 +16,21 @@ use Rattle.board.proofs.character.Reads as character-reads
 use Rattle.line.proofs.stamp_after.Reads as stamp-after-reads
 
 abbrev Inv-loop : tie.InvT-loop
-Inv-loop plate tick spacing request kept₀ memory₀ room₀ taken₀ last₀ stamp₀ i₀ kept memory room taken last stamp i =
-    (i ≤ length request) × (stamp ≡ stampOf tick spacing i) × (last ≡ stampOf tick spacing (i - 1))
-    × Taken (plateOf plate) taken₀ tick spacing request kept₀ memory₀ room₀ i taken kept memory room
+Inv-loop plate label tick apart asked kept₀ memory₀ room₀ taken₀ last₀ stamp₀ i₀ kept memory room taken last stamp i =
+    (i ≤ length asked) × (stamp ≡ stampOf tick apart i) × (last ≡ stampOf tick apart (i - 1))
+    × Taken (plateOf plate label) taken₀ tick apart asked kept₀ memory₀ room₀ i taken kept memory room
 
 abbrev μ-loop : tie.MeasureT-loop
-μ-loop plate tick spacing request kept₀ memory₀ room₀ taken₀ last₀ stamp₀ i₀ kept memory room taken last stamp i = length request - i
+μ-loop plate label tick apart asked kept₀ memory₀ room₀ taken₀ last₀ stamp₀ i₀ kept memory room taken last stamp i = length asked - i
 
 tick-low : (c : tie.Start Inv-loop μ-loop) → c .args .tick < 2 ^ 32
 tick-low c = search needs
 
 loop-holds : tie.Need-loop-holds Inv-loop μ-loop
 loop-holds c =
-    let start = c .before .before .before .before in
+    let start = c .before .before .before .before .before in
     let a = start in
-    (search needs, stamp-first _ (a .args .spacing), stamp-first _ (a .args .spacing), taken-none _ _ _ _ _ _ _ _ (a .pre))
+    (search needs, stamp-first _ (a .args .apart), stamp-first _ (a .args .apart), taken-none _ _ _ _ _ _ _ _ (a .pre))
 
 shared-slice-read-character : tie.Need-shared-slice-read-character Inv-loop μ-loop
 shared-slice-read-character c = search needs
@@ -52,12 +52,12 @@ loop-again c =
     let after-character = c .before .before .before .before .before .before .before .before in
     let d = after-character in
     let u = d .before .before .before .before .before .before in
-    let a = u .before .before .before .before .before in
+    let a = u .before .before .before .before .before .before in
     let v = u .loop .inv in
-    let more : u .loop .i < length (a .args .request .now) = d .before .before .before .before .before .loop-test .taken in (
+    let more : u .loop .i < length (a .args .asked .now) = d .before .before .before .before .before .loop-test .taken in (
       omega (arith, more),
-      c .stamp-after .ensures ∙ stamp-next (a .args .tick) (a .args .spacing) (u .loop .i) (v .1),
-      stamp-kept (a .args .tick) (a .args .spacing) (u .loop .i) (v .1),
+      c .stamp-after .ensures ∙ stamp-next (a .args .tick) (a .args .apart) (u .loop .i) (v .1),
+      stamp-kept (a .args .tick) (a .args .apart) (u .loop .i) (v .1),
       taken-next _ _ _ _ _ _ _ _ (a .pre) (tick-low a) (u .loop .i) more (v .1) (v .3) (d .character .ensures),
     )
 
