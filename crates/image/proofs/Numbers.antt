@@ -2,7 +2,7 @@
 use Prim.Native.Nat.{ℕ, zero, suc, _+_, _*_, _/_, _%_, _<_, _≤_, _^_}
 use native.Mathlib.Omega.{arith}
 use native.Mathlib.Nat.{div-div-eq-div-mul, mul-assoc, mul-zero, pow-suc, pow-succ'}
-use mathlib.Core.Path.{_≡_, refl, sym, ap, _∙_}
+use mathlib.Core.Path.{_≡_, refl, ap, _∙_}
 use mathlib.Core.Bool.{Bool, true, false}
 use mathlib.Core.List.{List, [], _∷_, _++_}
 use borrow.Author.Tests.{leb-true, leb-false, le-leb, lt-leb}
@@ -41,7 +41,7 @@ unfolding lowest
 number-again n h = ap little (four-lowest n []) ∙ lowest-again 4 n h
 
 -- the first w of a list of bytes
-abbrev Small : List ℕ → Type 0
+abbrev pub Small : List ℕ → Type 0
 Small s = (i : ℕ) → arg s i < 256
 
 first-again : (w : ℕ) (s : List ℕ) → w ≤ length s → Small s → lowest w (little (take w s)) ≡ take w s

@@ -63,6 +63,11 @@ module _ (core : List ℕ) (h : HoldsState core) (small : (i : ℕ) → arg core
   in-32 : (i : ℕ) → numberAt core i < 2 ^ 32
   in-32 i = there-fits core small i 4
 
+  -- whatever its address and its waiting codes
+  typed-as : (n : ℕ) (f : Faults) → Typed (faultsSet (addressSet s n) f)
+  unfolding stateIn
+  typed-as n f = record { codes = refl; counter = in-24; offset = in-32 8; measured = in-32 12 }
+
   pub with-measured : (n : ℕ) {place : List ℕ} → n < 2 ^ 32 → place ≡ put (take 4 (drop 12 core)) 0 (low4 n [])
       → PutsState (measuredSet s n) core (take 12 core ++ (place ++ drop 4 (drop 12 core)))
   unfolding stateBytes stateIn put
@@ -91,7 +96,7 @@ module _ (core : List ℕ) (h : HoldsState core) (small : (i : ℕ) → arg core
   with-faults f {b} x e =
       let row : List ℕ = f .first ∷ f .second ∷ f .third ∷ f .fourth ∷ b ∷ [] in
       let q = places f in
-      placed (faultsSet s f) 16 row (record { codes = refl; counter = in-24; offset = in-32 8; measured = in-32 12 }) (omega arith)
+      placed (faultsSet s f) 16 row (typed-as (s .address) f) (omega arith)
       (λ l. rw (q .first, q .second, q .third, q .fourth, x)) (part-filled core 16 5 row (omega (arith, h .all)) refl e)
 
   pub with-code : (n c : ℕ) → n < 4 → PutsState (codeSet s n c) core (set core n c)
@@ -118,7 +123,7 @@ module _ (core : List ℕ) (h : HoldsState core) (small : (i : ℕ) → arg core
 
   pub with-address : (n : ℕ) → PutsState (addressSet s n) core (set core 7 n)
   unfolding stateBytes stateIn put
-  with-address n = one-byte (addressSet s n) 7 n (record { codes = refl; counter = in-24; offset = in-32 8; measured = in-32 12 }) (omega arith) (λ l. refl)
+  with-address n = one-byte (addressSet s n) 7 n (typed-as n (s .faults)) (omega arith) (λ l. refl)
 
   -- the state's bytes as they are
   pub state-there : PutsState s core core
@@ -136,8 +141,7 @@ module _ (core : List ℕ) (h : HoldsState core) (small : (i : ℕ) → arg core
   module _ (c : ℕ) {x : Noting} where
     noted-at : (i v : ℕ) (n : Noting) → x ≡ n → i < 21
         → ((l : Line) → put (stateBytes (stateWith s l)) i (v ∷ []) ≡ stateBytes (stateWith (faultsSet s (notedAs (s .faults) c n)) l)) → Noted c x (set core i v)
-    unfolding stateIn
-    noted-at i v n e k q = rw e (one-byte (faultsSet s (notedAs (s .faults) c n)) i v (record { codes = refl; counter = in-24; offset = in-32 8; measured = in-32 12 }) k q)
+    noted-at i v n e k q = rw e (one-byte (faultsSet s (notedAs (s .faults) c n)) i v (typed-as (s .address) (notedAs (s .faults) c n)) k q)
 
     pub noting-none : x ≡ Ignored → Noted c x core
     noting-none e = rw e state-there

@@ -1,5 +1,5 @@
 -- `image::read::address_ok` meets its contract. Assumes nothing.
-use mathlib.Core.Path.{sym, ap, _∙_}
+use mathlib.Core.Path.{ap, _∙_}
 use Prim.Native.Nat.{ℕ}
 use lib.Dec.{leb}
 use Rattle.image.proofs.Numbers.{address-above}
