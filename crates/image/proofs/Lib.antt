@@ -1,4 +1,5 @@
 -- What the proofs of several functions use, and the laws that callers cite.
+pub mod Numbers
 pub mod Standing
 mod Flags
 pub mod Parts

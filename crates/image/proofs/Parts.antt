@@ -8,44 +8,37 @@ use lib.Seq.{take-all, take-at, drop-at, drop-drop, drop-cons, take-take, take-a
 use Rattle.meaning.specs.Bytes.{arg, part, put, little}
 use Rattle.meaning.specs.State.{Line, none}
 use Rattle.meaning.proofs.Puts.{length-put}
-use Rattle.wire.proofs.Numbers.{little-at}
 use Rattle.state.specs.declared.state.State.{State}
 use Rattle.state.specs.State.{stateWith}
 use Rattle.line.specs.declared.characters.OpenFrame.{OpenFrame}
 use Rattle.line.specs.Line.{lineOf, Fits, Extends}
-use Rattle.wire.specs.Numbers.{low4}
+use Rattle.wire.specs.Numbers.{low3, low4}
 use Rattle.image.specs.Image.{stateIn, frameIn, keptIn, stateBytes, lineBytes}
 use Rattle.image.specs.Writes.{frameRow, frameBytes, Takes, PutsState, PutsFrame, PutsBoard}
-use Rattle.image.proofs.Standing.{places, byte-0, byte-1, byte-2, byte-3, flag-back, line-row, frame-again}
+use Rattle.image.proofs.Numbers.{lowest, three-lowest, four-lowest, there-again}
+use Rattle.image.proofs.Standing.{places, flag-back, line-row, frame-again}
 
 -- the state is read from the front alone
+front-part : (k i n : ℕ) (s : List ℕ) → i + n ≤ k → part (take k s) i n ≡ part s i n
+unfolding part
+front-part k zero n s h = take-take n k s (omega arith)
+front-part zero (suc i) n s h = absurd (omega arith)
+front-part (suc k) (suc i) n [] h = refl
+front-part (suc k) (suc i) n (x ∷ s) h = front-part k i n s (omega arith)
+
 pub state-front : (core : List ℕ) → stateIn (take 21 core) ≡ stateIn core
 unfolding stateIn
 state-front core =
     let front : (i : ℕ) → i < 21 → arg (take 21 core) i ≡ arg core i = λ i h. getD-take 21 core i 0 h in
     rw (
-      little-at (take 21 core) 4,
-      little-at (take 21 core) 8,
-      little-at (take 21 core) 12,
-      little-at core 4,
-      little-at core 8,
-      little-at core 12,
+      front-part 21 4 3 core (omega arith),
+      front-part 21 8 4 core (omega arith),
+      front-part 21 12 4 core (omega arith),
       front 0 (omega arith),
       front 1 (omega arith),
       front 2 (omega arith),
       front 3 (omega arith),
-      front 4 (omega arith),
-      front 5 (omega arith),
-      front 6 (omega arith),
       front 7 (omega arith),
-      front 8 (omega arith),
-      front 9 (omega arith),
-      front 10 (omega arith),
-      front 11 (omega arith),
-      front 12 (omega arith),
-      front 13 (omega arith),
-      front 14 (omega arith),
-      front 15 (omega arith),
       front 16 (omega arith),
       front 17 (omega arith),
       front 18 (omega arith),
@@ -194,28 +187,25 @@ laid-out core all = sym (parts-joined core all) ∙ ap (λ (x : List ℕ). take 
 
 -- of a core's own bytes
 module _ (core : List ℕ) (all : length core ≡ 165) (small : (i : ℕ) → arg core i < 256) where
-  low-4 : (i : ℕ) (rest : List ℕ) → low4 (little (part core i 4)) rest
-      ≡ arg core i ∷ arg core (i + 1) ∷ arg core (i + 2) ∷ arg core (i + 3) ∷ rest
-  low-4 i rest =
-      let a = arg core i in
-      let b = arg core (i + 1) in
-      let c = arg core (i + 2) in
-      let d = arg core (i + 3) in
-      let p = small i in
-      let q = small (i + 1) in
-      let r = small (i + 2) in
-      let s = small (i + 3) in
-      rw (little-at core i, byte-0 a b c d p q r s, byte-1 a b c d p q r s, byte-2 a b c d p q r s, byte-3 a b c d p q r s)
+  lowest-there : (i n : ℕ) → i + n ≤ 165 → (rest : List ℕ) → lowest n (little (part core i n)) ++ rest ≡ cells core i n ++ rest
+  unfolding part
+  lowest-there i n h rest = ap (λ (x : List ℕ). x ++ rest) (there-again core small i n (omega arith) ∙ cells-are core i n (omega arith))
+
+  low-3 : (i : ℕ) → i + 3 ≤ 165 → (rest : List ℕ) → low3 (little (part core i 3)) rest ≡ cells core i 3 ++ rest
+  low-3 i h rest = three-lowest (little (part core i 3)) rest ∙ lowest-there i 3 h rest
+
+  low-4 : (i : ℕ) → i + 4 ≤ 165 → (rest : List ℕ) → low4 (little (part core i 4)) rest ≡ cells core i 4 ++ rest
+  low-4 i h rest = four-lowest (little (part core i 4)) rest ∙ lowest-there i 4 h rest
 
   pub state-as-it-was : arg core 20 ≤ 1 → (l : Line) → stateBytes (stateWith (stateIn core) l) ≡ take 21 core
   unfolding stateBytes stateIn cells
   state-as-it-was f l =
       let q = places (stateIn core .faults) in
-      rw (q .first, q .second, q .third, q .fourth, flag-back (arg core 20) f, low-4 12, low-4 8, low-4 4) (sym (cells-are core 0 21 (omega arith)))
+      rw (q .first, q .second, q .third, q .fourth, flag-back (arg core 20) f, low-4 12 (omega arith), low-4 8 (omega arith), low-3 4 (omega arith)) (sym (cells-are core 0 21 (omega arith)))
 
   pub frame-as-it-was : arg core 21 ≤ 1 → arg core 22 ≤ 1 → arg core 23 ≤ 1 → (kept : List ℕ) → length kept ≡ 135 → arg core 29 ≤ 135
       → lineBytes (lineOf (frameIn core) kept) ≡ part core 21 9
   unfolding lineBytes frameIn cells part
   frame-as-it-was f g h kept k n =
-      rw (flag-back (arg core 21) f, flag-back (arg core 22) g, flag-back (arg core 23) h, length-take-le (arg core 29) kept (omega arith), low-4 24)
+      rw (flag-back (arg core 21) f, flag-back (arg core 22) g, flag-back (arg core 23) h, length-take-le (arg core 29) kept (omega arith), low-4 24 (omega arith))
       (sym (cells-are core 21 9 (omega arith)))

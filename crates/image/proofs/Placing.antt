@@ -7,10 +7,10 @@ use mathlib.Core.Bool.{Bool, true, false}
 use mathlib.Core.List.{List, [], _∷_, _++_, append-assoc}
 use lib.ListN.{length, take, drop, set, take-append-drop}
 use lib.Seq.{take-take, drop-append-le, drop-at, length-take-le}
-use Rattle.meaning.specs.Bytes.{arg, part, put, little}
-use Rattle.meaning.specs.State.{Line, none, queued, noted, withCodes, withCounter, withOffset, withQueue, withLock}
+use Rattle.meaning.specs.Bytes.{arg, part, put}
+use Rattle.meaning.specs.State.{Line, lastCount, none, queued, noted, withCodes, withCounter, withAddress, withOffset, withQueue, withLock}
 use Rattle.meaning.proofs.Puts.{length-put, put-after, drop-put-low, put-one}
-use Rattle.wire.specs.Numbers.{low4}
+use Rattle.wire.specs.Numbers.{low3, low4}
 use Rattle.wire.proofs.Numbers.{little-at}
 use Rattle.state.specs.declared.faults.Faults.{Faults}
 use Rattle.state.specs.declared.faults.Oldest.{Oldest}
@@ -18,15 +18,16 @@ use Rattle.state.specs.declared.faults.Noting.{Noting}
 use Rattle.state.specs.declared.faults.Noting.the-variants.{Ignored, Locks, First, Second, Third, Fourth}
 use Rattle.state.specs.declared.state.State.{State}
 use Rattle.state.specs.declared.effects.Effect.{Effect}
-use Rattle.state.specs.declared.effects.Effect.the-variants.{Nothing, Code, Counter, Offset, Overflow, OldestRead, Emptied}
+use Rattle.state.specs.declared.effects.Effect.the-variants.{Nothing, Code, Counter, Address, Offset, Overflow, OldestRead, Emptied}
 use Rattle.state.specs.Queue.{queueOf, holding, Queues, Reads}
 use Rattle.state.specs.Effects.{notingOf, notedAs, effectOn}
 use Rattle.state.specs.State.{stateWith}
 use Rattle.state.proofs.Places.{notes-so}
 use Rattle.state.proofs.States.{notes}
-use Rattle.state.proofs.Ways.{with-one-code, counts, turns, overflows, moves-up, empties, read-out, stays-so}
-use Rattle.image.specs.Image.{flagByte, stateIn, frameIn, keptIn, stateBytes}
-use Rattle.image.specs.Writes.{frameBytes, HoldsState, measuredSet, faultsSet, codeSet, counterSet, offsetSet, PutsState, NotesIn, PutsEffect, PutsBoard}
+use Rattle.state.proofs.Ways.{with-one-code, counts, moves, turns, overflows, moves-up, empties, read-out, stays-so}
+use Rattle.image.specs.Image.{flagByte, numberAt, countAt, stateIn, frameIn, keptIn, stateBytes}
+use Rattle.image.specs.Writes.{frameBytes, HoldsState, measuredSet, faultsSet, codeSet, counterSet, addressSet, offsetSet, PutsState, NotesIn, PutsEffect, PutsBoard}
+use Rattle.image.proofs.Numbers.{there-fits, few-counted}
 use Rattle.image.proofs.Standing.{places, Typed, puts-state, part-filled, line-row}
 use Rattle.image.proofs.Parts.{state-as-it-was, frame-as-it-was, parts-joined, front-length, kept-length, state-length}
 use Rattle.image.proofs.Round.{Good}
@@ -43,14 +44,6 @@ front-put core i ys h k =
     let d : drop n core ≡ drop n f ++ drop 21 core = ap (drop n) (sym (take-append-drop 21 core)) ∙ drop-append-le n f (drop 21 core) (omega arith) in
     rw (z, zero-add, d, ← t) (append-assoc (take i f) (ys ++ drop n f) (drop 21 core) ∙ ap (λ (x : List ℕ). take i f ++ x) (append-assoc ys (drop n f) (drop 21 core)))
 
-pub number-fits : (core : List ℕ) → ((i : ℕ) → arg core i < 256) → (i : ℕ) → little (part core i 4) < 2 ^ 32
-unfolding little
-number-fits core small i = rw (little-at core i) (omega (arith, small i, small (i + 1), small (i + 2), small (i + 3)))
-
-four-codes : (core : List ℕ) → length (stateIn core .codes) ≡ 4
-unfolding stateIn
-four-codes core = refl
-
 -- a state t that is the core's but for the bytes ys at place i
 module _ (core : List ℕ) (h : HoldsState core) (small : (i : ℕ) → arg core i < 256) where
   placed : (t : State) (i : ℕ) (ys : List ℕ) {core′ : List ℕ} → Typed t → i + length ys ≤ 21
@@ -61,28 +54,39 @@ module _ (core : List ℕ) (h : HoldsState core) (small : (i : ℕ) → arg core
   abbrev s : State
   s = stateIn core
 
-  in-32 : (i : ℕ) → little (part core i 4) < 2 ^ 32
-  in-32 i = number-fits core small i
+  one-byte : (t : State) (i v : ℕ) → Typed t → i < 21 → ((l : Line) → put (stateBytes (stateWith s l)) i (v ∷ []) ≡ stateBytes (stateWith t l)) → PutsState t core (set core i v)
+  one-byte t i v g k q = placed t i (v ∷ []) g (omega arith) q (put-one core i v (omega (arith, h .all)))
+
+  in-24 : countAt core ≤ lastCount
+  in-24 = few-counted core small
+
+  in-32 : (i : ℕ) → numberAt core i < 2 ^ 32
+  in-32 i = there-fits core small i 4
+
+  -- whatever its address and its waiting codes
+  typed-as : (n : ℕ) (f : Faults) → Typed (faultsSet (addressSet s n) f)
+  unfolding stateIn
+  typed-as n f = record { codes = refl; counter = in-24; offset = in-32 8; measured = in-32 12 }
 
   pub with-measured : (n : ℕ) {place : List ℕ} → n < 2 ^ 32 → place ≡ put (take 4 (drop 12 core)) 0 (low4 n [])
       → PutsState (measuredSet s n) core (take 12 core ++ (place ++ drop 4 (drop 12 core)))
   unfolding stateBytes stateIn put
   with-measured n low e =
-      placed (measuredSet s n) 12 (low4 n []) (record { codes = refl; counter = number-fits core small 4; offset = number-fits core small 8; measured = low }) (omega arith) (λ l. refl)
+      placed (measuredSet s n) 12 (low4 n []) (record { codes = refl; counter = in-24; offset = in-32 8; measured = low }) (omega arith) (λ l. refl)
       (part-filled core 12 4 (low4 n []) (omega (arith, h .all)) refl e)
 
-  pub with-counter : (n : ℕ) {place : List ℕ} → n < 2 ^ 32 → place ≡ put (take 4 (drop 4 core)) 0 (low4 n [])
-      → PutsState (counterSet s n) core (take 4 core ++ (place ++ drop 4 (drop 4 core)))
+  pub with-counter : (n : ℕ) {place : List ℕ} → n ≤ lastCount → place ≡ put (take 3 (drop 4 core)) 0 (low3 n [])
+      → PutsState (counterSet s n) core (take 4 core ++ (place ++ drop 3 (drop 4 core)))
   unfolding stateBytes stateIn put
   with-counter n low e =
-      placed (counterSet s n) 4 (low4 n []) (record { codes = refl; counter = low; offset = number-fits core small 8; measured = number-fits core small 12 }) (omega arith) (λ l. refl)
-      (part-filled core 4 4 (low4 n []) (omega (arith, h .all)) refl e)
+      placed (counterSet s n) 4 (low3 n []) (record { codes = refl; counter = low; offset = in-32 8; measured = in-32 12 }) (omega arith) (λ l. refl)
+      (part-filled core 4 3 (low3 n []) (omega (arith, h .all)) refl e)
 
   pub with-offset : (n : ℕ) {place : List ℕ} → n < 2 ^ 32 → place ≡ put (take 4 (drop 8 core)) 0 (low4 n [])
       → PutsState (offsetSet s n) core (take 8 core ++ (place ++ drop 4 (drop 8 core)))
   unfolding stateBytes stateIn put
   with-offset n low e =
-      placed (offsetSet s n) 8 (low4 n []) (record { codes = refl; counter = number-fits core small 4; offset = low; measured = number-fits core small 12 }) (omega arith) (λ l. refl)
+      placed (offsetSet s n) 8 (low4 n []) (record { codes = refl; counter = in-24; offset = low; measured = in-32 12 }) (omega arith) (λ l. refl)
       (part-filled core 8 4 (low4 n []) (omega (arith, h .all)) refl e)
 
   pub with-faults : (f : Faults) {b : ℕ} {place : List ℕ} → b ≡ flagByte (f .locked)
@@ -92,16 +96,16 @@ module _ (core : List ℕ) (h : HoldsState core) (small : (i : ℕ) → arg core
   with-faults f {b} x e =
       let row : List ℕ = f .first ∷ f .second ∷ f .third ∷ f .fourth ∷ b ∷ [] in
       let q = places f in
-      placed (faultsSet s f) 16 row (record { codes = refl; counter = number-fits core small 4; offset = number-fits core small 8; measured = number-fits core small 12 }) (omega arith)
+      placed (faultsSet s f) 16 row (typed-as (s .address) f) (omega arith)
       (λ l. rw (q .first, q .second, q .third, q .fourth, x)) (part-filled core 16 5 row (omega (arith, h .all)) refl e)
 
   pub with-code : (n c : ℕ) → n < 4 → PutsState (codeSet s n c) core (set core n c)
   unfolding stateBytes stateIn put
   with-code n c k =
-      placed (codeSet s n c) n (c ∷ []) (typed n) (omega arith) (λ l. go l n k) (put-one core n c (omega (arith, h .all)))
+      one-byte (codeSet s n c) n c (typed n) (omega arith) (λ l. go l n k)
     where
       typed : (n : ℕ) → Typed (codeSet s n c)
-      typed n = record { codes = four n; counter = number-fits core small 4; offset = number-fits core small 8; measured = number-fits core small 12 }
+      typed n = record { codes = four n; counter = in-24; offset = in-32 8; measured = in-32 12 }
         where
           four : (n : ℕ) → length (set (stateIn core .codes) n c) ≡ 4
           four zero = refl
@@ -117,6 +121,10 @@ module _ (core : List ℕ) (h : HoldsState core) (small : (i : ℕ) → arg core
       go l (suc (suc (suc zero))) k = refl
       go l (suc (suc (suc (suc n)))) k = absurd (omega arith)
 
+  pub with-address : (n : ℕ) → PutsState (addressSet s n) core (set core 7 n)
+  unfolding stateBytes stateIn put
+  with-address n = one-byte (addressSet s n) 7 n (typed-as n (s .faults)) (omega arith) (λ l. refl)
+
   -- the state's bytes as they are
   pub state-there : PutsState s core core
   unfolding put
@@ -131,13 +139,9 @@ module _ (core : List ℕ) (h : HoldsState core) (small : (i : ℕ) → arg core
   Noted c x core′ = PutsState (faultsSet s (notedAs (s .faults) c x)) core core′
 
   module _ (c : ℕ) {x : Noting} where
-    one-byte : (i v : ℕ) (n : Noting) → x ≡ n → i < 21
+    noted-at : (i v : ℕ) (n : Noting) → x ≡ n → i < 21
         → ((l : Line) → put (stateBytes (stateWith s l)) i (v ∷ []) ≡ stateBytes (stateWith (faultsSet s (notedAs (s .faults) c n)) l)) → Noted c x (set core i v)
-    unfolding stateIn
-    one-byte i v n e k q =
-        let typed : Typed (faultsSet s (notedAs (s .faults) c n)) =
-        record { codes = four-codes core; counter = in-32 4; offset = in-32 8; measured = in-32 12 } in
-        rw e (placed (faultsSet s (notedAs (s .faults) c n)) i (v ∷ []) typed (omega arith) q (put-one core i v (omega (arith, h .all))))
+    noted-at i v n e k q = rw e (one-byte (faultsSet s (notedAs (s .faults) c n)) i v (typed-as (s .address) (notedAs (s .faults) c n)) k q)
 
     pub noting-none : x ≡ Ignored → Noted c x core
     noting-none e = rw e state-there
@@ -147,35 +151,35 @@ module _ (core : List ℕ) (h : HoldsState core) (small : (i : ℕ) → arg core
     noting-lock e =
         let q = places (s .faults) in
         let r = places (notedAs (s .faults) c Locks) in
-        one-byte 20 1 Locks e (omega arith) (λ l. rw (q .first, q .second, q .third, q .fourth, r .first, r .second, r .third, r .fourth))
+        noted-at 20 1 Locks e (omega arith) (λ l. rw (q .first, q .second, q .third, q .fourth, r .first, r .second, r .third, r .fourth))
 
     pub noting-1 : x ≡ First → Noted c x (set core 16 c)
     unfolding stateBytes put
     noting-1 e =
         let q = places (s .faults) in
         let r = places (notedAs (s .faults) c First) in
-        one-byte 16 c First e (omega arith) (λ l. rw (q .second, q .third, q .fourth, r .first, r .second, r .third, r .fourth))
+        noted-at 16 c First e (omega arith) (λ l. rw (q .second, q .third, q .fourth, r .first, r .second, r .third, r .fourth))
 
     pub noting-2 : x ≡ Second → Noted c x (set core 17 c)
     unfolding stateBytes put
     noting-2 e =
         let q = places (s .faults) in
         let r = places (notedAs (s .faults) c Second) in
-        one-byte 17 c Second e (omega arith) (λ l. rw (q .first, q .third, q .fourth, r .first, r .second, r .third, r .fourth))
+        noted-at 17 c Second e (omega arith) (λ l. rw (q .first, q .third, q .fourth, r .first, r .second, r .third, r .fourth))
 
     pub noting-3 : x ≡ Third → Noted c x (set core 18 c)
     unfolding stateBytes put
     noting-3 e =
         let q = places (s .faults) in
         let r = places (notedAs (s .faults) c Third) in
-        one-byte 18 c Third e (omega arith) (λ l. rw (q .first, q .second, q .fourth, r .first, r .second, r .third, r .fourth))
+        noted-at 18 c Third e (omega arith) (λ l. rw (q .first, q .second, q .fourth, r .first, r .second, r .third, r .fourth))
 
     pub noting-4 : x ≡ Fourth → Noted c x (set core 19 c)
     unfolding stateBytes put
     noting-4 e =
         let q = places (s .faults) in
         let r = places (notedAs (s .faults) c Fourth) in
-        one-byte 19 c Fourth e (omega arith) (λ l. rw (q .first, q .second, q .third, r .first, r .second, r .third, r .fourth))
+        noted-at 19 c Fourth e (omega arith) (λ l. rw (q .first, q .second, q .third, r .first, r .second, r .third, r .fourth))
 
 -- one part after the other
 few-kept : {core : List ℕ} → Good core → frameIn core .len ≤ 135
@@ -261,6 +265,10 @@ module _ {x : Effect} {core core′ : List ℕ} where
   pub put-counter : {n : ℕ} → x ≡ Counter n → PutsState (counterSet (stateIn core) n) core core′ → PutsEffect x core core′
   unfolding withCounter
   put-counter {n} e p = puts-effect (counterSet (stateIn core) n) p (λ l. counts (stateIn core) l e refl)
+
+  pub put-address : {n : ℕ} → x ≡ Address n → PutsState (addressSet (stateIn core) n) core core′ → PutsEffect x core core′
+  unfolding withAddress
+  put-address {n} e p = puts-effect (addressSet (stateIn core) n) p (λ l. moves (stateIn core) l e refl)
 
   pub put-offset : {n : ℕ} → x ≡ Offset n → PutsState (offsetSet (stateIn core) n) core core′ → PutsEffect x core core′
   unfolding withOffset

@@ -1,17 +1,17 @@
--- What stands where in a core: the waiting codes, four-byte numbers and flags, written and read again. Assumes nothing.
-use Prim.Native.Nat.{ℕ, zero, suc, _+_, _*_, _/_, _%_, _<_, _≤_, _^_}
+-- What stands where in a core: the waiting codes, numbers and flags, written and read again. Assumes nothing.
+use Prim.Native.Nat.{ℕ, zero, suc, _+_, _<_, _≤_, _^_}
 use native.Mathlib.Omega.{arith}
-use native.Mathlib.Nat.{div-div-eq-div-mul, div-add-mod', mod-eq-of-lt, zero-add}
-use mathlib.Core.Path.{_≡_, refl, sym, ap, _∙_}
+use native.Mathlib.Nat.{zero-add}
+use mathlib.Core.Path.{_≡_, refl, ap, _∙_}
 use mathlib.Core.Bool.{Bool, true, false}
 use mathlib.Core.List.{List, [], _∷_, _++_, append-nil}
 use lib.Dec.{eqb}
 use lib.ListN.{length, take, drop, drop-of-length-le, length-drop}
 use lib.Seq.{drop-drop, length-take-le}
-use Rattle.meaning.specs.Bytes.{arg, part, pick, put, little}
-use Rattle.meaning.specs.State.{Line, none}
+use Rattle.meaning.specs.Bytes.{arg, part, pick, put}
+use Rattle.meaning.specs.State.{Line, lastCount, none}
 use Rattle.meaning.proofs.Puts.{put-at}
-use Rattle.wire.proofs.Numbers.{low-first, little-at}
+use Rattle.wire.proofs.Numbers.{little-at}
 use Rattle.state.specs.declared.faults.Faults.{Faults}
 use Rattle.state.specs.declared.state.State.{State}
 use Rattle.state.specs.Queue.{waiting, queueOf}
@@ -22,6 +22,7 @@ use Rattle.wire.specs.Numbers.{low4}
 use Rattle.image.specs.Image.{flagByte, stateIn, stateBytes, frameIn, lineBytes}
 use Rattle.image.specs.Writes.{frameRow, frameBytes, PutsState, PutsFrame}
 use Rattle.state.proofs.Places.{front}
+use Rattle.image.proofs.Numbers.{count-again, number-again}
 
 later-place : (c i : ℕ) (q : List ℕ) → arg (waiting c q) (suc i) ≡ arg q i
 unfolding waiting
@@ -49,37 +50,6 @@ places f =
       fourth = later-place (f .first) 2 _ ∙ later-place (f .second) 1 _ ∙ later-place (f .third) 0 _ ∙ front (f .fourth) _;
     }
 
--- four bytes and back
-joined : (n a b c r s t : ℕ) → a * 256 + r ≡ n → b * 256 + s ≡ a → c * 256 + t ≡ b → r + 0x100 * s + 0x10000 * t + 0x1000000 * c ≡ n
-joined n a b c r s t e f g = omega arith
-
-pub number-again : (n : ℕ) → n < 2 ^ 32 → little (low4 n []) ≡ n
-number-again n h =
-    let e : n / 0x10000 ≡ n / 0x100 / 256 = sym (div-div-eq-div-mul n 256 256) in
-    let f : n / 0x1000000 ≡ n / 0x10000 / 256 = sym (div-div-eq-div-mul n 0x10000 256) in
-    let low : n / 0x1000000 % 256 ≡ n / 0x1000000 = mod-eq-of-lt (omega arith) in
-    low-first (n % 256) (n / 0x100 % 256) (n / 0x10000 % 256) (n / 0x1000000 % 256) ∙ rw low
-    (joined n (n / 0x100) (n / 0x10000) (n / 0x1000000) (n % 256) (n / 0x100 % 256) (n / 0x10000 % 256)
-    (div-add-mod' n 256) (ap (λ (x : ℕ). x * 256 + n / 0x100 % 256) e ∙ div-add-mod' (n / 0x100) 256)
-    (ap (λ (x : ℕ). x * 256 + n / 0x10000 % 256) f ∙ div-add-mod' (n / 0x10000) 256))
-
-module _ (a b c d : ℕ) (ha : a < 256) (hb : b < 256) (hc : c < 256) (hd : d < 256) where
-  pub byte-0 : little (a ∷ b ∷ c ∷ d ∷ []) % 256 ≡ a
-  unfolding little
-  byte-0 = omega arith
-
-  pub byte-1 : little (a ∷ b ∷ c ∷ d ∷ []) / 0x100 % 256 ≡ b
-  unfolding little
-  byte-1 = omega arith
-
-  pub byte-2 : little (a ∷ b ∷ c ∷ d ∷ []) / 0x10000 % 256 ≡ c
-  unfolding little
-  byte-2 = omega arith
-
-  pub byte-3 : little (a ∷ b ∷ c ∷ d ∷ []) / 0x1000000 % 256 ≡ d
-  unfolding little
-  byte-3 = omega arith
-
 pub flag-again : (t : Bool) → eqb (flagByte t) 1 ≡ t
 unfolding flagByte
 flag-again true = refl
@@ -102,16 +72,16 @@ codes-again (a ∷ b ∷ c ∷ d ∷ x ∷ l) e = absurd (omega arith)
 -- the row of a state, its flag as a byte and its numbers as theirs
 pub state-row : (s : State) (l : Line) {k : ℕ} {a b c : List ℕ} → k ≡ flagByte (s .faults .locked) → a ≡ low4 (s .counter) [] → b ≡ low4 (s .offset) [] → c ≡ low4 (s .measured) []
     → _≡_ {A = List ℕ} (arg (s .codes) 0 ∷ arg (s .codes) 1 ∷ arg (s .codes) 2 ∷ arg (s .codes) 3
-    ∷ arg a 0 ∷ arg a 1 ∷ arg a 2 ∷ arg a 3 ∷ arg b 0 ∷ arg b 1 ∷ arg b 2 ∷ arg b 3 ∷ arg c 0 ∷ arg c 1 ∷ arg c 2 ∷ arg c 3
+    ∷ arg a 0 ∷ arg a 1 ∷ arg a 2 ∷ s .address ∷ arg b 0 ∷ arg b 1 ∷ arg b 2 ∷ arg b 3 ∷ arg c 0 ∷ arg c 1 ∷ arg c 2 ∷ arg c 3
     ∷ s .faults .first ∷ s .faults .second ∷ s .faults .third ∷ s .faults .fourth ∷ k ∷ [])
     (stateBytes (stateWith s l))
 unfolding stateBytes
 state-row s l e x y z = let q = places (s .faults) in rw (e, x, y, z, q .first, q .second, q .third, q .fourth)
 
--- a state within its types is written and read again
+-- a state within its types, its counter within three bytes, is written and read again
 pub record Typed (s : State) : Type 0 where
   pub codes : length (s .codes) ≡ 4
-  pub counter : s .counter < 2 ^ 32
+  pub counter : s .counter ≤ lastCount
   pub offset : s .offset < 2 ^ 32
   pub measured : s .measured < 2 ^ 32
 
@@ -126,7 +96,7 @@ state-first s rest l t =
       q .fourth,
       flag-again,
       codes-again (s .codes) (t .codes),
-      number-again (s .counter) (t .counter),
+      count-again (s .counter) (t .counter),
       number-again (s .offset) (t .offset),
       number-again (s .measured) (t .measured),
     )

@@ -5,6 +5,7 @@ use Rattle.image.proofs.read.lasting_in.Statement.{statement}
 use Rattle.image.proofs.read.lasting_in.Tie as tie
 use Rattle.image.proofs.read.lasting_in.Reads as reads
 use Rattle.image.proofs.read.lasting_in.Lts as lts
+use Rattle.image.proofs.read.counter_in.Reads as counter-in-reads
 use Rattle.state.proofs.faults.Faults.none.Reads as none-reads
 use Rattle.wire.proofs.number_at.Reads as number-at-reads
 
@@ -29,11 +30,14 @@ add-t11 c = search needs
 shared-slice-read-t13 : tie.Need-shared-slice-read-t13
 shared-slice-read-t13 c = search needs
 
+counter-in-requires : tie.Need-counter-in-requires
+counter-in-requires c κs = search needs
+
+shared-slice-read-t4-2 : tie.Need-shared-slice-read-t4-2
+shared-slice-read-t4-2 c = search needs
+
 number-at-requires : tie.Need-number-at-requires
 number-at-requires c κs = search needs
-
-number-at-requires-2 : tie.Need-number-at-requires-2
-number-at-requires-2 c κs = search needs
 
 none-requires : tie.Need-none-requires
 none-requires c κs = search needs
@@ -41,8 +45,8 @@ none-requires c κs = search needs
 returns : tie.Need-returns
 unfolding restedIn
 returns c =
-    let after-number-at = c .before .before in
-    rw (after-number-at .number-at .ensures, c .before .number-at2 .ensures, c .none .ensures)
+    let after-counter-in = c .before .before .before in
+    rw (after-counter-in .counter-in .ensures, c .before .number-at .ensures, c .none .ensures)
 
 pub lasting-in-spec : {M : Type 1} → statement M
 lasting-in-spec =
@@ -55,7 +59,8 @@ lasting-in-spec =
     shared-slice-read-t10
     add-t11
     shared-slice-read-t13
+    counter-in-requires
+    shared-slice-read-t4-2
     number-at-requires
-    number-at-requires-2
     none-requires
     returns)

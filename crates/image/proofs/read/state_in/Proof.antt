@@ -5,6 +5,7 @@ use Rattle.image.proofs.read.state_in.Statement.{statement}
 use Rattle.image.proofs.read.state_in.Tie as tie
 use Rattle.image.proofs.read.state_in.Reads as reads
 use Rattle.image.proofs.read.state_in.Lts as lts
+use Rattle.image.proofs.read.counter_in.Reads as counter-in-reads
 use Rattle.image.proofs.read.faults_in.Reads as faults-in-reads
 use Rattle.wire.proofs.number_at.Reads as number-at-reads
 
@@ -32,22 +33,24 @@ shared-slice-read-t14 c = search needs
 faults-in-requires : tie.Need-faults-in-requires
 faults-in-requires c κs = search needs
 
+counter-in-requires : tie.Need-counter-in-requires
+counter-in-requires c κs = search needs
+
+shared-slice-read-t5-2 : tie.Need-shared-slice-read-t5-2
+shared-slice-read-t5-2 c = search needs
+
 number-at-requires : tie.Need-number-at-requires
 number-at-requires c κs = search needs
 
 number-at-requires-2 : tie.Need-number-at-requires-2
 number-at-requires-2 c κs = search needs
 
-number-at-requires-3 : tie.Need-number-at-requires-3
-number-at-requires-3 c κs = search needs
-
 returns : tie.Need-returns
 unfolding stateIn
 returns c =
-    let after-number-at2 = c .before in
-    let after-number-at = after-number-at2 .before in
-    let after-faults-in = after-number-at .before in
-    rw (after-faults-in .faults-in .ensures, after-number-at .number-at .ensures, after-number-at2 .number-at2 .ensures, c .number-at3 .ensures)
+    let after-counter-in = c .before .before .before in
+    let after-faults-in = after-counter-in .before in
+    rw (after-faults-in .faults-in .ensures, after-counter-in .counter-in .ensures, c .before .number-at .ensures, c .number-at2 .ensures)
 
 pub state-in-spec : {M : Type 1} → statement M
 state-in-spec =
@@ -61,7 +64,8 @@ state-in-spec =
     add-t12
     shared-slice-read-t14
     faults-in-requires
+    counter-in-requires
+    shared-slice-read-t5-2
     number-at-requires
     number-at-requires-2
-    number-at-requires-3
     returns)

@@ -22,7 +22,7 @@ returns c =
     let after-put-frame = c .before .before in
     let after-put-state = after-put-frame .before .before .before .before in
     let start = after-put-state .before .before .before in
-    puts-board _ _ _ (start .pre) (after-put-state .put-state .ensures) (after-put-frame .put-frame .ensures)
+    puts-board _ _ _ (start .pre .1) (after-put-state .put-state .ensures) (after-put-frame .put-frame .ensures)
 
 pub put-board-spec : {M : Type 1} → statement M
 put-board-spec = tie.close (tie.spec put-state-requires put-frame-requires same-length returns)

@@ -4,7 +4,7 @@ use denote.Ref.{now}
 use Rattle.state.proofs.Ways.{placed-code}
 use Rattle.image.specs.Image.{stateIn}
 use Rattle.image.specs.Writes.{counterSet}
-use Rattle.image.proofs.Placing.{with-code, put-nothing, put-code, put-counter, put-offset, put-overflow, put-oldest, put-emptied, still-holds}
+use Rattle.image.proofs.Placing.{with-code, with-address, put-nothing, put-code, put-counter, put-address, put-offset, put-overflow, put-oldest, put-emptied, still-holds}
 use borrow.Author.Needs.{needs}
 use Rattle.image.proofs.write.put_effect.Statement.{statement}
 use Rattle.image.proofs.write.put_effect.Tie as tie
@@ -34,10 +34,19 @@ enum-known-effect-2 : tie.Need-enum-known-effect-2
 enum-known-effect-2 c = search needs
 
 put-counter-requires : tie.Need-put-counter-requires
-put-counter-requires c κs = search needs
+put-counter-requires c κs =
+    let after-effect2 = c .before .before in
+    let start = after-effect2 .before .before .before in
+    (rw (after-effect2 .effect2 .given .1) at (start .pre .0), start .pre .1)
 
 enum-known-effect-3 : tie.Need-enum-known-effect-3
 enum-known-effect-3 c = search needs
+
+slice-write-core-2 : tie.Need-slice-write-core-2
+slice-write-core-2 c = search needs
+
+enum-known-effect-4 : tie.Need-enum-known-effect-4
+enum-known-effect-4 c = search needs
 
 put-offset-requires : tie.Need-put-offset-requires
 put-offset-requires c κs = search needs
@@ -114,15 +123,25 @@ same-length-3 c = search needs
 
 returns-4 : tie.Need-returns-4
 returns-4 c =
-    let after-put-offset = c .before .before in
-    let after-effect3 = after-put-offset .before .before .before in
-    put-offset (after-effect3 .effect3 .given .1) (after-put-offset .put-offset .ensures)
+    let after-effect3 = c .before in
+    let after-slice-known = after-effect3 .before .before in
+    let start = after-slice-known .before in
+    put-address (after-effect3 .effect3 .given .1) (with-address (now (start .args .core)) (start .pre .1) (λ i. (after-slice-known .slice-known .given i) .fits) _)
 
 same-length-4 : tie.Need-same-length-4
 same-length-4 c = search needs
 
 returns-5 : tie.Need-returns-5
 returns-5 c =
+    let after-put-offset = c .before .before in
+    let after-effect4 = after-put-offset .before .before .before in
+    put-offset (after-effect4 .effect4 .given .1) (after-put-offset .put-offset .ensures)
+
+same-length-5 : tie.Need-same-length-5
+same-length-5 c = search needs
+
+returns-6 : tie.Need-returns-6
+returns-6 c =
     let after-put-faults = c .before .before in
     let after-put-counter2 = after-put-faults .before .before .before .before in
     let after-queued = after-put-counter2 .before .before in
@@ -130,22 +149,22 @@ returns-5 c =
     let after-enum-told2 = after-faults-in .before .before in
     put-overflow (after-faults-in .faults-in .ensures) (after-enum-told2 .enum-told2 .given .1) (after-queued .queued .ensures) (after-put-counter2 .put-counter2 .ensures) (after-put-faults .put-faults .ensures)
 
-same-length-5 : tie.Need-same-length-5
-same-length-5 c = search needs
+same-length-6 : tie.Need-same-length-6
+same-length-6 c = search needs
 
-returns-6 : tie.Need-returns-6
-returns-6 c =
+returns-7 : tie.Need-returns-7
+returns-7 c =
     let after-put-faults2 = c .before .before in
     let after-read = after-put-faults2 .before .before in
     let after-faults-in2 = after-read .before in
     let after-enum-told3 = after-faults-in2 .before .before in
     put-oldest (after-faults-in2 .faults-in2 .ensures) (after-enum-told3 .enum-told3 .given .1) (after-read .read .ensures) (after-put-faults2 .put-faults2 .ensures)
 
-same-length-6 : tie.Need-same-length-6
-same-length-6 c = search needs
+same-length-7 : tie.Need-same-length-7
+same-length-7 c = search needs
 
-returns-7 : tie.Need-returns-7
-returns-7 c =
+returns-8 : tie.Need-returns-8
+returns-8 c =
     let after-put-faults3 = c .before .before in
     let after-emptied = after-put-faults3 .before .before in
     let after-faults-in3 = after-emptied .before in
@@ -162,6 +181,8 @@ put-effect-spec =
     enum-known-effect-2
     put-counter-requires
     enum-known-effect-3
+    slice-write-core-2
+    enum-known-effect-4
     put-offset-requires
     enum-told-2
     faults-in-requires
@@ -188,4 +209,6 @@ put-effect-spec =
     same-length-5
     returns-6
     same-length-6
-    returns-7)
+    returns-7
+    same-length-7
+    returns-8)

@@ -5,9 +5,9 @@ use Rattle.image.proofs.write.put_state.Statement.{statement}
 use Rattle.image.proofs.write.put_state.Tie as tie
 use Rattle.image.proofs.write.put_state.Reads as reads
 use Rattle.image.proofs.write.put_state.Lts as lts
-use Rattle.wire.proofs.fill.Reads as fill-reads
 use Rattle.image.proofs.write.flag_byte.Reads as flag-byte-reads
 use Rattle.image.proofs.write.state_row.Reads as state-row-reads
+use Rattle.wire.proofs.fill.Reads as fill-reads
 
 flag-byte-requires : tie.Need-flag-byte-requires
 flag-byte-requires c κs = search needs

@@ -61,9 +61,6 @@ array-read-t50 c = search needs
 array-read-t53 : tie.Need-array-read-t53
 array-read-t53 c = search needs
 
-array-read-t56 : tie.Need-array-read-t56
-array-read-t56 c = search needs
-
 returns : tie.Need-returns
 returns c =
     let after-bytes-of = c .before .before in
@@ -92,5 +89,4 @@ state-row-spec =
     array-read-t47
     array-read-t50
     array-read-t53
-    array-read-t56
     returns)
