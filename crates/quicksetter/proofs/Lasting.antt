@@ -39,13 +39,13 @@ unfolding coreOf stateBytes
 other-places s places others = refl
 
 -- an image that is written anew, with codes, counter and offset of another one of bytes, has its lasting bytes
-written-lasts : (img : List ℕ) → isImage img ≡ true → ((i : ℕ) → arg img i < 256) → (off : List ℕ) → length off ≡ 171 → (s′ : meaning.State) (m m′ places : List ℕ)
+written-lasts : (img : List ℕ) → isImage img ≡ true → ((i : ℕ) → arg img i < 256) → (off : List ℕ) → length off ≡ 212 → (s′ : meaning.State) (m m′ places : List ℕ)
     → Keeps (stateHeld img) m s′ m′ → lastingOf (headIn off ++ coreOf s′ places) ≡ lastingOf img
 unfolding isImage
 written-lasts img e small off all s′ m m′ places k =
     let s : meaning.State = stateHeld img in
     let before : headIn img ++ coreOf s (keptIn (coreIn img)) ≡ img = whole-as-it-was img e small in
-    let long : length img ≡ 171 = ours-length img (both-left (isOurs img) (isCore (coreIn img)) e) in
+    let long : length img ≡ 212 = ours-length img (both-left (isOurs img) (isCore (coreIn img)) e) in
     let y : lastingIn (coreOf s (keptIn (coreIn img))) ≡ lastingOf img = sym (ap lastingIn (core-of-whole img (coreOf s (keptIn (coreIn img))) long)) ∙ ap lastingOf before in
     ap lastingIn (core-of-whole off (coreOf s′ places) all) ∙ same-bytes s s′ m m′ places k ∙ other-places s places (keptIn (coreIn img)) ∙ y
 
@@ -78,7 +78,7 @@ module _ (img m w : List ℕ) (g : Call) (r : ℕ) (img′ m′ w′ : List ℕ)
         let k = keeps-step p s m g (tells free) in
         let places : List ℕ = keptIn (coreIn img) in
         let s′ : meaning.State = (step p s m g) .state in
-        let all : length img ≡ 171 = ours-length img (both-left (isOurs img) (isCore (coreIn img)) e) in
+        let all : length img ≡ 212 = ours-length img (both-left (isOurs img) (isCore (coreIn img)) e) in
         let after : img′ ≡ headIn img ++ coreOf s′ places = c .image ∙ rw (on-image img m w g e, o .unrefused, o .after) in
         record { lasting = ap lastingOf after ∙ written-lasts img e small img all s′ m ((step p s m g) .memory) places k; memory = t .kept ∙ k .memory }
 
@@ -156,7 +156,7 @@ module _ (p : Plate) (img m old off : List ℕ) (n r : ℕ) (img′ : List ℕ) 
       let w : List ℕ = zeros 134 in
       let free : T (eqb (refusedBy (plateHeld off) (stateHeld off) m (length w) (measured n)) 0) = rw (free-so p off m w (measured n) on enough) tt in
       let o = served-otherwise (plateHeld off) (stateHeld off) m w (measured n) free in
-      let all : length off ≡ 171 = ours-length off (both-left (isOurs off) (isCore (coreIn off)) (on .image)) in
+      let all : length off ≡ 212 = ours-length off (both-left (isOurs off) (isCore (coreIn off)) (on .image)) in
       let after : img′ ≡ headIn off ++ coreOf (withMeasured (stateHeld off) n) (keptIn (coreIn off)) = c m w .image ∙ rw (on-image off m w (measured n) (on .image), o .unrefused, o .after) in
       ap lastingOf after ∙ written-lasts img (h .image) small off all (withMeasured (stateHeld off) n) m m (keptIn (coreIn off)) same-numbers
 

@@ -58,22 +58,22 @@ core-made core {s} {f} {after} {core′} all a c d =
     d .bytes none ∙ ap (λ (v : List ℕ). stateBytes (stateWith s none) ++ (frameBytes f ++ v)) x ∙ rw (c, nothing-open, nothing-kept)
 
 -- head and core are written
-pub made : (p : Plate) (s : meaning.State) (img : List ℕ) {mid core′ : List ℕ} → length img ≡ 171 → mid ≡ put img 0 (headOf p) → core′ ≡ coreOf s (zeros 135)
-    → take 6 mid ++ (core′ ++ drop 165 (drop 6 mid)) ≡ imageOf p s (zeros 135)
+pub made : (p : Plate) (s : meaning.State) (img : List ℕ) {mid core′ : List ℕ} → length img ≡ 212 → mid ≡ put img 0 (headOf p) → core′ ≡ coreOf s (zeros 135)
+    → take 47 mid ++ (core′ ++ drop 165 (drop 47 mid)) ≡ imageOf p s (zeros 135)
 unfolding imageOf put headOf
 made p s img {mid} {core′} all a b =
-    let long : length mid ≡ 171 = ap length a ∙ length-put img 0 (headOf p) (omega arith) ∙ all in
+    let long : length mid ≡ 212 = ap length a ∙ length-put img 0 (headOf p) (omega arith) ∙ all in
     core-back mid core′ long ∙ rw (a, b)
 
 module _ (p : Plate) (s : meaning.State) (img : List ℕ) where
   refused-start : startOk p s img ≡ false → Makes p s img 257 img
   refused-start e = record { answer = rw e; image = rw e }
 
-  pub no-length : (length img ≡ 171 → ⊥) → Makes p s img 257 img
+  pub no-length : (length img ≡ 212 → ⊥) → Makes p s img 257 img
   unfolding startOk
-  no-length n = let z : eqb (length img) 171 ≡ false = ne-eqb _ _ n in refused-start (rw z (both-false (plateOk p)))
+  no-length n = let z : eqb (length img) 212 ≡ false = ne-eqb _ _ n in refused-start (rw z (both-false (plateOk p)))
 
-  module _ (all : length img ≡ 171) where
+  module _ (all : length img ≡ 212) where
     pub no-plate : plateOk p ≡ false → Makes p s img 257 img
     unfolding startOk
     no-plate e = record { answer = rw e; image = rw e }
@@ -81,11 +81,11 @@ module _ (p : Plate) (s : meaning.State) (img : List ℕ) where
     module _ (e : plateOk p ≡ true) where
       pub no-state : stateOk p s ≡ false → Makes p s img 257 img
       unfolding startOk
-      no-state n = let z : eqb (length img) 171 ≡ true = eq-eqb _ _ all in record { answer = rw (e, z, n); image = rw (e, z, n) }
+      no-state n = let z : eqb (length img) 212 ≡ true = eq-eqb _ _ all in record { answer = rw (e, z, n); image = rw (e, z, n) }
 
       pub started : {img′ : List ℕ} → stateOk p s ≡ true → img′ ≡ imageOf p s (zeros 135) → Makes p s img 0 img′
       unfolding startOk
-      started n a = let z : eqb (length img) 171 ≡ true = eq-eqb _ _ all in record { answer = rw (e, z, n); image = rw (e, z, n) a }
+      started n a = let z : eqb (length img) 212 ≡ true = eq-eqb _ _ all in record { answer = rw (e, z, n); image = rw (e, z, n) a }
 
 pub fresh-fine : (p : Plate) → stateOk p (fresh p) ≡ true
 fresh-fine p = told-true (stateOk p (fresh p)) (fresh-within p)

@@ -81,10 +81,10 @@ made p s old img m f again few l =
     let e : img ≡ imageOf p s (zeros 135) = f .image ∙ ap (λ (b : Bool). pick b (imageOf p s (zeros 135)) old) k in
     let h : stateHeld img ≡ s = ap stateHeld e ∙ ap heldIn (core-again p s (zeros 135)) ∙ again in
     record {
-      plate = both-left (plateOk p) (both (eqb (length old) 171) (stateOk p s)) k;
+      plate = both-left (plateOk p) (both (eqb (length old) 212) (stateOk p s)) k;
       told = ap plateHeld e ∙ plate-again p s (zeros 135);
       image = rw e (whole-image p s few);
-      state = rw h (both-right (eqb (length old) 171) (stateOk p s) (both-right (plateOk p) (both (eqb (length old) 171) (stateOk p s)) k));
+      state = rw h (both-right (eqb (length old) 212) (stateOk p s) (both-right (plateOk p) (both (eqb (length old) 212) (stateOk p s)) k));
       size = l;
     }
 
@@ -125,7 +125,7 @@ module _ (p : Plate) (lasting old img : List ℕ) (f : Restarts p lasting old 0 
 
   good-state : stateOk p (rested lasting) ≡ true
   unfolding startOk
-  good-state = both-right (eqb (length old) 171) (stateOk p (rested lasting)) (both-right (plateOk p) _ begun)
+  good-state = both-right (eqb (length old) 212) (stateOk p (rested lasting)) (both-right (plateOk p) _ begun)
 
   again : heldIn (coreOf (rested lasting) (zeros 135)) ≡ rested lasting
   again = made-holds (restedIn lasting) (typed p lasting good-plate good-state)
@@ -159,7 +159,7 @@ goes-on p img m w g r img′ m′ w′ h wide c =
     let k : List ℕ = keptIn (coreIn img) in
     let after : img′ ≡ headIn img ++ coreOf x k = c .image ∙ rw (on-image img m w g (h .image), o .unrefused, o .after) in
     let y : isCore (coreOf x k) ≡ true = core-of-state x k (kept-length (coreIn img) (good (coreIn img) core .all)) (to-lim P x within .keeps) in
-    let all : length img ≡ 171 = ours-length img ours in
+    let all : length img ≡ 212 = ours-length img ours in
     let told : plateHeld img′ ≡ p = ap plateHeld after ∙ ap plateOf (plate-stays img (coreOf x k) all) ∙ h .told in
     let v : stateOk P (stateHeld img′) ≡ true = rw (t .after) (told-true (stateOk P x) within) in
     let u : length m′ ≡ memoryLength (P .total) = rw (t .kept) (keeps-size P s m g (subst (λ (q : Plate). length m ≡ memoryLength (q .total)) (sym (h .told)) (h .size))) in

@@ -13,7 +13,7 @@ use Rattle.meaning.specs.Fields.{memoryLength}
 use Rattle.meaning.specs.Run.{Call, character, poll, lends}
 use Rattle.line.specs.declared.plate.Plate as line
 use Rattle.line.specs.Line.{plateOf, lineOf}
-use Rattle.image.specs.Image.{isOurs, isCore, headIn, coreIn, plateOfHead, frameIn, keptIn, heldIn}
+use Rattle.image.specs.Image.{isOurs, isCore, headIn, coreIn, plateOfHead, labelIn, frameIn, keptIn, heldIn}
 use Rattle.image.specs.Writes.{Takes}
 use Rattle.image.proofs.Round.{good}
 use Rattle.quicksetter.specs.Calls.{plateHeld, stateHeld, Called}
@@ -26,42 +26,42 @@ pub some-refusal : {n : ℕ} → suc n ≡ 0 → ⊥
 some-refusal e = omega (arith, e)
 
 joined : (img : List ℕ) → img ≡ headIn img ++ coreIn img
-joined img = sym (take-append-drop 6 img)
+joined img = sym (take-append-drop 47 img)
 
 -- of an image with our head, whose plate was read and whose core was lent
 module _ (img m w : List ℕ) (e : isOurs img ≡ true) {p : line.Plate} (q : p ≡ plateOfHead img) where
-  all : length img ≡ 171
+  all : length img ≡ 212
   all = ours-length img e
 
-  pub refused-whole : (g : Call) → lends g ≡ true → {n : ℕ} → n ≡ refusalIn (plateOf p) (take 165 (drop 6 img)) (length m) (length w) → (n ≡ 0 → ⊥)
+  pub refused-whole : (g : Call) → lends g ≡ true → {n : ℕ} → n ≡ refusalIn (plateOf p (labelIn img)) (take 165 (drop 47 img)) (length m) (length w) → (n ≡ 0 → ⊥)
       → Called img m w g (256 + n) img m w
   refused-whole g l {n} r some =
       let k : n ≡ refusalIn (plateHeld img) (coreIn img) (length m) (length w) = rw (q, lent-core img all) at r in
       called-of img m w g e (refused-as (plateHeld img) (coreIn img) m w g l k some) (joined img)
 
-  pub alone-whole : (g : Call) → lends g ≡ false → {n : ℕ} → n ≡ refusalIn (plateOf p) (take 165 (drop 6 img)) (memoryLength (p .total)) 134 → (n ≡ 0 → ⊥)
+  pub alone-whole : (g : Call) → lends g ≡ false → {n : ℕ} → n ≡ refusalIn (plateOf p (labelIn img)) (take 165 (drop 47 img)) (memoryLength (p .total)) 134 → (n ≡ 0 → ⊥)
       → Called img m w g (256 + n) img m w
   alone-whole g l {n} r some =
       let k : n ≡ refusalIn (plateHeld img) (coreIn img) (memoryLength (plateHeld img .total)) 134 = rw (q, lent-core img all) at r in
       called-of img m w g e (refused-alone (plateHeld img) (coreIn img) m w g l k some) (joined img)
 
-  pub workable : 0 ≡ refusalIn (plateOf p) (take 165 (drop 6 img)) (length m) (length w) → ImageUnrefused img (length m) (length w)
+  pub workable : 0 ≡ refusalIn (plateOf p (labelIn img)) (take 165 (drop 47 img)) (length m) (length w) → ImageUnrefused img (length m) (length w)
   workable r =
       let k : 0 ≡ refusalIn (plateHeld img) (coreIn img) (length m) (length w) = rw (q, lent-core img all) at r in
       record { ours = e; core = unrefused (plateHeld img) (coreIn img) (length m) (length w) k }
 
-  pub over-so : (tick : ℕ) {r : Bool} → r ≡ over (plateOf p) (heldIn (take 165 (drop 6 img))) tick → r ≡ over (plateHeld img) (stateHeld img) tick
+  pub over-so : (tick : ℕ) {r : Bool} → r ≡ over (plateOf p (labelIn img)) (heldIn (take 165 (drop 47 img))) tick → r ≡ over (plateHeld img) (stateHeld img) tick
   over-so tick r = rw (q, lent-core img all) at r
 
-  pub core-workable : {n k : ℕ} → Unrefused (plateHeld img) (coreIn img) n k → Unrefused (plateOf p) (take 165 (drop 6 img)) n k
+  pub core-workable : {n k : ℕ} → Unrefused (plateHeld img) (coreIn img) n k → Unrefused (plateOf p (labelIn img)) (take 165 (drop 47 img)) n k
   core-workable u = rw (q, lent-core img all) u
 
   -- the frame is closed in the core
-  pub shuts : {r : ℕ} {core′ m′ w′ : List ℕ} → ShutIn (plateOf p) (take 165 (drop 6 img)) m w r core′ m′ w′ → ImageShuts img m w r (take 6 img ++ (core′ ++ drop 165 (drop 6 img))) m′ w′
+  pub shuts : {r : ℕ} {core′ m′ w′ : List ℕ} → ShutIn (plateOf p (labelIn img)) (take 165 (drop 47 img)) m w r core′ m′ w′ → ImageShuts img m w r (take 47 img ++ (core′ ++ drop 165 (drop 47 img))) m′ w′
   shuts {r} {core′} {m′} {w′} s =
       let k : ShutIn (plateHeld img) (coreIn img) m w r core′ m′ w′ = rw (q, lent-core img all) at s in
-      let i : take 6 img ++ (core′ ++ drop 165 (drop 6 img)) ≡ headIn img ++ core′ = core-back img core′ all in
-      let d : coreIn (take 6 img ++ (core′ ++ drop 165 (drop 6 img))) ≡ core′ = ap coreIn i ∙ core-of-whole img core′ all in
+      let i : take 47 img ++ (core′ ++ drop 165 (drop 47 img)) ≡ headIn img ++ core′ = core-back img core′ all in
+      let d : coreIn (take 47 img ++ (core′ ++ drop 165 (drop 47 img))) ≡ core′ = ap coreIn i ∙ core-of-whole img core′ all in
       record { core = rw d k; head = rw d i }
 
 -- of an image that is not refused
@@ -71,7 +71,7 @@ module _ (img m w : List ℕ) (u : ImageUnrefused img (length m) (length w)) (ti
 
   pub polled-early : ((i : ℕ) → arg img i < 256) → over (plateHeld img) (stateHeld img) tick ≡ false → ImagePolls img m w tick 0 img m w
   polled-early small o =
-      let low : (i : ℕ) → arg (coreIn img) i < 256 = λ i. rw (getD-drop 6 img i 0) (small (6 + i)) in
+      let low : (i : ℕ) → arg (coreIn img) i < 256 = λ i. rw (getD-drop 47 img i 0) (small (47 + i)) in
       record { core = nothing-over (plateHeld img) (coreIn img) m w (u .core) tick low o; head = joined img }
 
   module _ {r : ℕ} {img′ m′ w′ : List ℕ} (a : ImagePolls img m w tick r img′ m′ w′) where
@@ -81,22 +81,22 @@ module _ (img m w : List ℕ) (u : ImageUnrefused img (length m) (length w)) (ti
     pub core-still : isCore (coreIn img′) ≡ true
     core-still = core-again (plateHeld img) (coreIn img) m w (u .core) tick (a .core)
 
-    pub as-long : length img′ ≡ 171
+    pub as-long : length img′ ≡ 212
     as-long =
         ap length (a .head) ∙ length-append (headIn img) (coreIn img′) ∙ rw (head-length img (ours-length img (u .ours)), good (coreIn img′) core-still .all)
 
-    pub lent-still : isCore (take 165 (drop 6 img′)) ≡ true
+    pub lent-still : isCore (take 165 (drop 47 img′)) ≡ true
     lent-still = rw (lent-core img′ as-long) core-still
 
     head-kept : headIn img′ ≡ headIn img
-    head-kept = ap headIn (a .head) ∙ take-at (headIn img) (coreIn img′) 6 (head-length img (ours-length img (u .ours)))
+    head-kept = ap headIn (a .head) ∙ take-at (headIn img) (coreIn img′) 47 (head-length img (ours-length img (u .ours)))
 
     -- .. a character
     pub character-whole : (v : ℕ) {bad worse : Bool} {core″ : List ℕ} → bad ≡ worse → ((i : ℕ) → arg img′ i < 256)
-        → Takes (more (pick (frameIn (take 165 (drop 6 img′)) .begun) (lineOf (frameIn (take 165 (drop 6 img′))) (keptIn (take 165 (drop 6 img′)))) none) tick v bad) (take 165 (drop 6 img′)) core″
-        → Called img m w (character tick v worse) r (take 6 img′ ++ (core″ ++ drop 165 (drop 6 img′))) m′ w′
+        → Takes (more (pick (frameIn (take 165 (drop 47 img′)) .begun) (lineOf (frameIn (take 165 (drop 47 img′))) (keptIn (take 165 (drop 47 img′)))) none) tick v bad) (take 165 (drop 47 img′)) core″
+        → Called img m w (character tick v worse) r (take 47 img′ ++ (core″ ++ drop 165 (drop 47 img′))) m′ w′
     character-whole v {bad} {worse} {core″} b small t =
-        let low : (i : ℕ) → arg (coreIn img′) i < 256 = λ i. rw (getD-drop 6 img′ i 0) (small (6 + i)) in
+        let low : (i : ℕ) → arg (coreIn img′) i < 256 = λ i. rw (getD-drop 47 img′ i 0) (small (47 + i)) in
         let k : Takes (more (pick (frameIn (coreIn img′) .begun) (lineOf (frameIn (coreIn img′)) (keptIn (coreIn img′))) none) tick v bad) (coreIn img′) core″ = rw (lent-core img′ as-long) at t in
         called-of img m w (character tick v worse) (u .ours) (then-taken (plateHeld img) (coreIn img) m w (u .core) tick (a .core) v b low k)
         (core-back img′ core″ as-long ∙ ap (λ (x : List ℕ). x ++ core″) head-kept)

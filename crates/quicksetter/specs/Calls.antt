@@ -11,7 +11,7 @@ use Rattle.meaning.specs.Run.{Call, Held, called}
 use Rattle.line.specs.declared.plate.Plate.{Plate}
 use Rattle.line.specs.Line.{plateOf}
 use Rattle.state.specs.State.{stateWith}
-use Rattle.image.specs.Image.{imageLength, lastingLength, isOurs, isCore, headIn, coreIn, plateOfHead, heldIn, lastingIn, restedIn, keptIn, headOf, coreOf}
+use Rattle.image.specs.Image.{imageLength, lastingLength, isOurs, isCore, headIn, coreIn, plateOfHead, labelIn, heldIn, lastingIn, restedIn, keptIn, headOf, coreOf}
 
 -- the plate by its numbers, in the order of document 01
 abbrev pub plateFrom : ℕ → ℕ → ℕ → ℕ → ℕ → Plate
@@ -23,12 +23,12 @@ isImage img = both (isOurs img) (isCore (coreIn img))
 
 -- the plate and the state that it holds
 abbrev pub plateHeld : List ℕ → meaning.Plate
-plateHeld img = plateOf (plateOfHead img)
+plateHeld img = plateOf (plateOfHead img) (labelIn img)
 
 abbrev pub stateHeld : List ℕ → meaning.State
 stateHeld img = heldIn (coreIn img)
 
--- its bytes that must last when the supply is off: codes, counter, offset
+-- its bytes that must last when the supply is off: codes, counter, address, offset
 abbrev pub lastingOf : List ℕ → List ℕ
 lastingOf img = lastingIn (coreIn img)
 

@@ -5,7 +5,7 @@ use mathlib.Core.Bool.{Bool, true, not}
 use mathlib.Core.List.{List, _++_}
 use lib.Dec.{eqb, leb, ltb}
 use lib.ListN.{take, drop}
-use Rattle.meaning.specs.Bytes.{pick, both, either, longestReply}
+use Rattle.meaning.specs.Bytes.{pick, both, either, longestReply, arg}
 use Rattle.meaning.specs.State as meaning
 use Rattle.meaning.specs.Fields.{memoryLength}
 use Rattle.meaning.specs.Characters.{over}
@@ -13,7 +13,7 @@ use Rattle.meaning.specs.Frames.{dataOf}
 use Rattle.meaning.specs.Run.{Call, poll, Held, called}
 use Rattle.line.specs.declared.plate.Plate.{Plate}
 use Rattle.board.specs.Work.{Workable, Serves, Closes}
-use Rattle.image.specs.Image.{keptAt, coreLength, numberAt, isOurs, isCore, headIn, coreIn, stateIn, frameIn, heldIn, keptIn, coreOf}
+use Rattle.image.specs.Image.{keptAt, coreLength, numberAt, countAt, isOurs, isCore, headIn, coreIn, plateOfHead, labelIn, stateIn, frameIn, heldIn, keptIn, coreOf}
 use Rattle.image.specs.Writes.{PutsState}
 use Rattle.quicksetter.specs.Calls.{plateHeld, callNumber}
 
@@ -35,7 +35,8 @@ pub record CoreCalled (p : meaning.Plate) (core m w : List ℕ) (g : Call) (r : 
 
 -- R1 does not apply to plate and core, whatever codes wait
 unfoldable pub possible : meaning.Plate → List ℕ → Bool
-possible p core = both (isCore core) (both (leb (numberAt core 4) meaning.lastCount) (both (meaning.plateOk p) (ltb (numberAt core 8) (2 ^ p .bits))))
+possible p core =
+    both (isCore core) (both (leb (countAt core) meaning.lastCount) (both (leb (arg core 7) meaning.lastAddress) (both (meaning.plateOk p) (ltb (numberAt core 8) (2 ^ p .bits)))))
 
 -- R1 to R3 of a call that can close a frame, 0 for none; memory and room by their lengths
 unfoldable pub refusalIn : meaning.Plate → List ℕ → ℕ → ℕ → ℕ
@@ -57,11 +58,11 @@ abbrev pub dataTo : ℕ → List ℕ → List ℕ
 dataTo end core = dataOf (take (end - keptAt) (drop keptAt core))
 
 -- a request that the core's board may work
-pub record Servable (p : Plate) (c end : ℕ) (core m w : List ℕ) : Type 0 where
+pub record Servable (p : Plate) (label : List ℕ) (c end : ℕ) (core m w : List ℕ) : Type 0 where
   pub bytes : isCore core ≡ true
   pub starts : keptAt + 3 ≤ end
   pub ends : end ≤ coreLength
-  pub works : Workable p (stateIn core) c (dataTo end core) m w
+  pub works : Workable p label (stateIn core) c (dataTo end core) m w
 
 -- the request c with the data d is worked and answered, and the core holds the state after it; but for the state's bytes it is as it was
 pub record ServedIn (p : meaning.Plate) (c : ℕ) (d core m w : List ℕ) (r : ℕ) (core′ m′ w′ : List ℕ) : Type 0 where
@@ -86,6 +87,24 @@ ShutIn p core m w r core′ m′ w′ = (tick : ℕ) → over p (heldIn core) ti
 pub record ImageUnrefused (img : List ℕ) (memory room : ℕ) : Type 0 where
   pub ours : isOurs img ≡ true
   pub core : Unrefused (plateHeld img) (coreIn img) memory room
+
+-- .. and its plate was read
+pub record ImageAnswerable (p : Plate) (img : List ℕ) (memory room : ℕ) : Type 0 where
+  pub plate : p ≡ plateOfHead img
+  pub image : ImageUnrefused img memory room
+
+pub record ImageServable (p : Plate) (c end : ℕ) (img m w : List ℕ) : Type 0 where
+  pub plate : p ≡ plateOfHead img
+  pub ours : isOurs img ≡ true
+  pub core : Servable p (labelIn img) c end (coreIn img) m w
+
+pub record ImageServed (c end : ℕ) (img m w : List ℕ) (r : ℕ) (img′ m′ w′ : List ℕ) : Type 0 where
+  pub core : ServedIn (plateHeld img) c (dataTo end (coreIn img)) (coreIn img) m w r (coreIn img′) m′ w′
+  pub head : img′ ≡ headIn img ++ coreIn img′
+
+pub record ImageAnswered (img m w : List ℕ) (r : ℕ) (img′ m′ w′ : List ℕ) : Type 0 where
+  pub core : ClosedIn (plateHeld img) (coreIn img) m w r (coreIn img′) m′ w′
+  pub head : img′ ≡ headIn img ++ coreIn img′
 
 pub record ImageShuts (img m w : List ℕ) (r : ℕ) (img′ m′ w′ : List ℕ) : Type 0 where
   pub core : ShutIn (plateHeld img) (coreIn img) m w r (coreIn img′) m′ w′

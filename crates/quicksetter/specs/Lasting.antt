@@ -12,9 +12,9 @@ use Rattle.image.specs.Image.{imageLength}
 use Rattle.quicksetter.specs.Calls.{plateHeld, stateHeld, lastingOf, Called, Freshens, Restarts}
 use Rattle.quicksetter.specs.Promises.{Reached, Ran}
 
--- 01, "The commands": those that store: 43h the offset, 47h and 49h the counter, 4Bh and 4Dh memory, 4Fh a code; by the command byte of the reply
+-- 01, "The commands": those that store: 43h the offset, 47h and 49h the counter, 4Bh and 4Dh memory, 4Fh a code; 02, Req 01: 55h the address; by the command byte of the reply
 unfoldable pub mayChange : ℕ → Bool
-mayChange c = among (c % 128) (0x43 ∷ 0x47 ∷ 0x49 ∷ 0x4B ∷ 0x4D ∷ 0x4F ∷ [])
+mayChange c = among (c % 128) (0x43 ∷ 0x47 ∷ 0x49 ∷ 0x4B ∷ 0x4D ∷ 0x4F ∷ 0x55 ∷ [])
 
 -- a call's number tells a reply, and that is one of those
 unfoldable pub storesBy : ℕ → List ℕ → Bool
@@ -72,5 +72,7 @@ pub record StoringBytes : Type 0 where
   pub plain : mayChange 0x4B ≡ true
   pub error : mayChange 0x50 ≡ false
   pub marked-error : mayChange 0xD0 ≡ false
+  pub address : mayChange 0xD5 ≡ true
   pub reading : mayChange 0x4A ≡ false
+  pub label : mayChange 0x52 ≡ false
   pub position : mayChange 0x42 ≡ false

@@ -1,17 +1,19 @@
-// A character and a poll (01, "Characters become frames"): of a core with its plate, then of an image.
+// A character and a poll of an image (01, "Characters become frames").
 ghost use mathlib.Core.Path.{_≡_};
-ghost use Prim.Native.Nat.{_≤_};
+ghost use Prim.Native.Nat.{ℕ, _≤_};
 ghost use lib.ListN.{length};
 ghost use Rattle.meaning.specs.Bytes.{differ};
-ghost use Rattle.meaning.specs.State.{apart};
+ghost use mathlib.Core.List.{List};
+ghost use Rattle.meaning.specs.State.{labelLength, lastAddress, apart, none, ownByte};
 ghost use Rattle.meaning.specs.Characters.{over};
 ghost use Rattle.meaning.specs.Demands.{waits};
 ghost use Rattle.meaning.specs.Run as run;
 ghost use Rattle.line.specs.Line.{plateOf};
 ghost use Rattle.state.specs.Queue.{queueOf};
+ghost use Rattle.state.specs.State.{stateWith};
 ghost use Rattle.image.specs.Image.{coreLength, stateIn, heldIn};
 ghost use Rattle.quicksetter.specs.Calls.{Called};
-ghost use Rattle.quicksetter.specs.Cores.{possible, dataTo, Unrefused, Servable, ServedIn, ClosedIn, ShutIn, ImageUnrefused, ImageShuts, ImagePolls};
+ghost use Rattle.quicksetter.specs.Cores.{possible, ImageUnrefused, ImageServable, ImageServed, ImageAnswerable, ImageAnswered, ImageShuts, ImagePolls};
 use crate::given::REFUSED;
 use image::ADDRESS;
 use image::CODES;
@@ -27,9 +29,9 @@ use line::OpenFrame;
 use line::Plate;
 use wire::codes::LONGEST_REPLY;
 
-// R1 of the plate and of the core, but for the waiting codes. What a host may get wrong comes first.
+// R1 of the plate and of the core, but for the waiting codes. What a host may get wrong comes first. A counter of three bytes is never too large.
 pub(crate) fn is_possible(core: &[u8], plate: Plate) -> bool
-    ensures { λ r. ⌜ r ≡ possible (plateOf plate) (now (core .entry)) ⌝ }
+    ensures { λ r. ⌜ ((l : List ℕ) → length l ≡ labelLength → r ≡ possible (plateOf plate l) (now (core .entry))) ⌝ }
 {
     if !plate.is_ok() {
         return false;
@@ -69,7 +71,7 @@ fn waits(core: &[u8]) -> bool
 // Whether the core's open frame is over at that tick.
 fn is_over(core: &[u8], tick: u32, plate: Plate) -> bool
     requires { ⌜ coreLength ≤ length (now core) ⌝ }
-    ensures { λ r. ⌜ r ≡ over (plateOf plate) (heldIn (now (core .entry))) tick ⌝ }
+    ensures { λ r. ⌜ ((l : List ℕ) → r ≡ over (plateOf plate l) (heldIn (now (core .entry))) tick) ⌝ }
 {
     let frame = image::frame_in(core);
     frame.is_over(plate, tick)

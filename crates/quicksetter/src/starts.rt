@@ -1,9 +1,10 @@
 // The image of a fresh board, and that of a board that was off (01, "Fresh state", "Power-on").
 ghost use mathlib.Core.Path.{_≡_};
+ghost use Prim.Native.Nat.{_≤_};
 ghost use lib.ListN.{length};
 ghost use Rattle.meaning.specs.Bytes.{longestRequest, zeros};
 ghost use mathlib.Core.Bool.{true};
-ghost use Rattle.meaning.specs.State.{none, plateOk};
+ghost use Rattle.meaning.specs.State.{lastCount, none, plateOk};
 ghost use Rattle.line.specs.Line.{plateOf};
 ghost use Rattle.state.specs.State.{stateWith};
 ghost use Rattle.image.specs.Image.{imageLength, coreLength, coreOf};
@@ -23,6 +24,7 @@ use wire::codes::LONGEST_REQUEST;
 
 // Every byte of the core is written, so what stood there before does not matter.
 fn put_core(state: State, core: &mut [u8])
+    requires { ⌜ state .counter ≤ lastCount ⌝ }
     requires { ⌜ length (now core) ≡ coreLength ⌝ }
     ensures { λ _. ⌜ now (core .exit) ≡ coreOf (stateWith state none) (zeros longestRequest) ⌝ }
 {
@@ -34,6 +36,7 @@ fn put_core(state: State, core: &mut [u8])
 // A possible plate and state are written as an image.
 fn make(plate: Plate, label: &[u8], state: State, image: &mut [u8])
     requires { ⌜ plateOk (plateOf plate (now label)) ≡ true ⌝ }
+    requires { ⌜ state .counter ≤ lastCount ⌝ }
     requires { ⌜ length (now image) ≡ imageLength ⌝ }
     ensures { λ _. ⌜ now (image .exit) ≡ imageOf (plateOf plate (now (label .entry))) (stateWith state none) (zeros longestRequest) ⌝ }
 {
