@@ -40,7 +40,7 @@ use Rattle.passes.proofs.Closings.{no-text}
 use Rattle.passes.proofs.Holding.{held-parts, held-full, held-more, held-bad, held-good, held-enough}
 use Rattle.passes.proofs.Playing.{pass-full, pass-more, pass-turn}
 use Rattle.meaning.proofs.Puts.{put-front}
-use Rattle.meaning.proofs.Choices.{told-true}
+use Rattle.meaning.proofs.Choices.{told-true, true-told}
 
 -- ---- the front of the lent memory
 
@@ -230,7 +230,7 @@ module _ (s : Session) (window kept m w out : List ℕ) (used : ℕ) (ready : Re
       sound = record {
         within = record {
           plate = begins .good;
-          state = rw (fresh-board kept) (told-true (stateOk (tapePlate p) (fresh (tapePlate p))) (fresh-within (tapePlate p)));
+          state = rw (fresh-board kept) (told-true (stateOk (tapePlate p) (fresh (tapePlate p))) (fresh-within (tapePlate p) (true-told (plateOk (tapePlate p)) (begins .good))));
           few = few;
           places = ready .lent;
           size = length-take-le (memoryLength (p .total)) m (front-fits p m (begins .good) (ready .size));
