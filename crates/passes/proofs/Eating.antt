@@ -13,7 +13,6 @@ use Rattle.meaning.specs.State.{plateOk, stateOk, fresh}
 use Rattle.meaning.specs.Fields.{memoryLength}
 use Rattle.meaning.proofs.Limits.{fresh-within}
 use Rattle.line.specs.declared.plate.Plate.{Plate}
-use Rattle.line.specs.Line.{plateOf}
 use Rattle.line.proofs.Limits.{total-fits}
 use Rattle.board.specs.declared.limits.Board.{Board}
 use Rattle.board.specs.Board.{stateOf}
@@ -29,7 +28,7 @@ use Rattle.turns.specs.Turns.{stageKept, isEnded, lastOf}
 use Rattle.passes.specs.Beginnings.{Working, goes-on, begins, Idle}
 use Rattle.passes.specs.Holding.{LentState, lentState, lentAfter, lentBy}
 use Rattle.passes.specs.Sessions.{largestMemory, stageOf, stopTold, phaseAfter, eatenBy, Plays, Steady, ReadyForPass, passOver, lentOver, Stands, Eats, Lends, passFrom, lentFrom, GoesOn, EndsBad}
-use Rattle.turns.specs.Openings.{Begins, Fails}
+use Rattle.turns.specs.Openings.{tapePlate, Begins, Fails}
 use Rattle.passes.specs.declared.session.Phase.{Phase}
 use Rattle.passes.specs.declared.session.Phase.the-variants.{Opening, Running, Ended}
 use Rattle.passes.specs.declared.session.Session.{Session}
@@ -41,12 +40,12 @@ use Rattle.passes.proofs.Closings.{no-text}
 use Rattle.passes.proofs.Holding.{held-parts, held-full, held-more, held-bad, held-good, held-enough}
 use Rattle.passes.proofs.Playing.{pass-full, pass-more, pass-turn}
 use Rattle.meaning.proofs.Puts.{put-front}
-use Rattle.meaning.proofs.Choices.{told-true}
+use Rattle.meaning.proofs.Choices.{told-true, true-told}
 
 -- ---- the front of the lent memory
 
-pub front-fits : (p : Plate) (m : List ℕ) → plateOk (plateOf p) ≡ true → length m ≡ largestMemory → memoryLength (p .total) ≤ length m
-front-fits p m ok e = omega (arith, total-fits (plateOf p) ok)
+pub front-fits : (p : Plate) (m : List ℕ) → plateOk (tapePlate p) ≡ true → length m ≡ largestMemory → memoryLength (p .total) ≤ length m
+front-fits p m ok e = omega (arith, total-fits (tapePlate p) ok)
 
 module _ (p : Plate) (b : Board) (place : ℕ) (window : List ℕ) (from : ℕ) (kept m w out : List ℕ) (used : ℕ)
     (n : ℕ) (here : n ≡ memoryLength (p .total)) (ready : Lends p b place window from kept m w out used) where
@@ -54,8 +53,8 @@ module _ (p : Plate) (b : Board) (place : ℕ) (window : List ℕ) (from : ℕ) 
   in-front = rw here (front-fits p m (ready .playable .sound .within .plate) (ready .size))
 
   module _ (r : Played) (kept′ mp w′ out′ : List ℕ)
-      (played : Plays p (pass (suc (length window)) (length out - used) (running (plateOf p) (stateOf b kept) (take n m)) (place + from) (drop from window))
-      (lentBy (suc (length window)) (length out - used) (place + from) (drop from window) (lentState (running (plateOf p) (stateOf b kept) (take n m)) kept w))
+      (played : Plays p (pass (suc (length window)) (length out - used) (running (tapePlate p) (stateOf b kept) (take n m)) (place + from) (drop from window))
+      (lentBy (suc (length window)) (length out - used) (place + from) (drop from window) (lentState (running (tapePlate p) (stateOf b kept) (take n m)) kept w))
       from window out used r kept′ mp w′ out′) where
     plays : Plays p (passFrom p b place window from kept m out used) (lentFrom p b place window from kept m w out used) from window out used r kept′ mp w′ out′
     plays = rw here at played
@@ -213,11 +212,11 @@ abbrev ahead : ℕ → Pass → Pass
 ahead n q = record { stage = q .stage; read = n + q .read; printed = q .printed; stop = q .stop }
 
 module _ (s : Session) (window kept m w out : List ℕ) (used : ℕ) (ready : ReadyForPass s window kept m w out used) (first : s .phase ≡ Opening)
-    (p : Plate) (next : ℕ) (x : Said) (begins : Begins window p next x) (b : Board) (fresh-board : (k : List ℕ) → stateOf b k ≡ fresh (plateOf p)) where
+    (p : Plate) (next : ℕ) (x : Said) (begins : Begins window p next x) (b : Board) (fresh-board : (k : List ℕ) → stateOf b k ≡ fresh (tapePlate p)) where
   blank : take (memoryLength (p .total)) m ≡ zeros (memoryLength (p .total))
   blank =
       let z : m ≡ zeros largestMemory = rw first at (ready .steady) in
-      rw z (take-zeros (memoryLength (p .total)) largestMemory (omega (arith, total-fits (plateOf p) (begins .good))))
+      rw z (take-zeros (memoryLength (p .total)) largestMemory (omega (arith, total-fits (tapePlate p) (begins .good))))
 
   few : b .frame .len ≤ 135
   unfolding fresh meaning.none
@@ -231,7 +230,7 @@ module _ (s : Session) (window kept m w out : List ℕ) (used : ℕ) (ready : Re
       sound = record {
         within = record {
           plate = begins .good;
-          state = rw (fresh-board kept) (told-true (stateOk (plateOf p) (fresh (plateOf p))) (fresh-within (plateOf p)));
+          state = rw (fresh-board kept) (told-true (stateOk (tapePlate p) (fresh (tapePlate p))) (fresh-within (tapePlate p) (true-told (plateOk (tapePlate p)) (begins .good))));
           few = few;
           places = ready .lent;
           size = length-take-le (memoryLength (p .total)) m (front-fits p m (begins .good) (ready .size));
@@ -248,7 +247,7 @@ module _ (s : Session) (window kept m w out : List ℕ) (used : ℕ) (ready : Re
   -- the first record is the plate, and the board's pass begins behind it
   module _ (space : longestLine ≤ length out - used) where
     abbrev began : Stage
-    began = running (plateOf p) (fresh (plateOf p)) (zeros (memoryLength (p .total)))
+    began = running (tapePlate p) (fresh (tapePlate p)) (zeros (memoryLength (p .total)))
 
     shorter : length (drop (wholeLength window) window) < length window
     shorter = rw (length-drop (wholeLength window) window) (omega (arith, begins .whole, begins .inside))

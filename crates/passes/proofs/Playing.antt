@@ -11,7 +11,6 @@ use borrow.Author.Tests.{lt-ltb, le-ltb}
 use Rattle.meaning.specs.Bytes.{put}
 use Rattle.meaning.specs.State as meaning
 use Rattle.line.specs.declared.plate.Plate.{Plate}
-use Rattle.line.specs.Line.{plateOf}
 use Rattle.board.specs.declared.limits.Board.{Board}
 use Rattle.board.specs.Board.{stateOf, fitsIn}
 use Rattle.board.proofs.Quickening.{told-fits}
@@ -24,6 +23,7 @@ use Rattle.tape.specs.Reader.{Printed}
 use Rattle.tape.proofs.Outputs.{put-nil}
 use Rattle.tape.proofs.Texts.{same-size, joined}
 use Rattle.turns.specs.Hearing.{Past}
+use Rattle.turns.specs.Openings.{tapePlate}
 use Rattle.turns.specs.Turns.{Sound, runs, stageKept, isEnded, lastOf, quickly, Quiet, Turns}
 use Rattle.turns.proofs.Tight.{not-both}
 use Rattle.passes.specs.Holding.{LentState, lentState, lentAfter, lentBy}
@@ -74,7 +74,7 @@ last-goes w ended e = absurd (not-both e)
 
 -- a quick record fits
 quiet-fits : {p : Plate} {b b′ : Board} {kept kept′ : List ℕ} {x : Said} → Quiet p b kept x b′ kept′ → x ≡ unfit → ⊥
-quiet-fits {p} {b} {kept = kept} q u = not-both (sym (q .quick) ∙ ap (quickly (plateOf p) (stateOf b kept)) u)
+quiet-fits {p} {b} {kept = kept} q u = not-both (sym (q .quick) ∙ ap (quickly (tapePlate p) (stateOf b kept)) u)
 
 -- ---- the loop's invariant
 
@@ -206,7 +206,7 @@ module _ {p : Plate} {place : ℕ} {window : List ℕ} {from : ℕ} {kept₀ m�
             g .whole
             ∙ ap (before (g .read) (g .text)) (pass-turn (g .fuel) (length out - used) here (place + at) t x h e)
             ∙ rw z
-            (after-running ((done x) .stage) (plateOf p) (stateOf b′ kept′) m′ (g .read) (wholeLength t) (g .text) ((done x) .printed) _ k
+            (after-running ((done x) .stage) (tapePlate p) (stateOf b′ kept′) m′ (g .read) (wholeLength t) (g .text) ((done x) .printed) _ k
             ∙ ap (before (g .read + wholeLength t) (g .text ++ (done x) .printed)) q);
         held = g .held ∙ held-good (g .fuel) (length out - used) (place + at) t now x h e (ap isEnded k) ∙ rw (z, a, b, c, ← l);
       }

@@ -4,16 +4,15 @@ use mathlib.Core.Path.{_≡_, refl, sym, ap, _∙_}
 use mathlib.Core.List.{List, []}
 use native.Mathlib.Omega.{arith}
 use lib.ListN.{take}
-use Rattle.meaning.specs.State as meaning
 use Rattle.meaning.specs.Fields.{memoryLength}
 use Rattle.line.specs.declared.plate.Plate.{Plate}
-use Rattle.line.specs.Line.{plateOf}
 use Rattle.board.specs.declared.limits.Board.{Board}
 use Rattle.board.proofs.Promises.{same-state-same-board, fresh-tight}
 use Rattle.tape.specs.Answers.{Stage, opening, running, ended}
 use Rattle.tape.specs.Passes.{closing}
 use Rattle.tape.specs.Reader.{Printed}
 use Rattle.tape.proofs.Tight.{printed-tight}
+use Rattle.turns.specs.Openings.{tapePlate, numbersOf}
 use Rattle.passes.specs.Sessions.{stageFrom, stageOf, noPlate, AtTapeStart, lentOver, Stands, Eats}
 use Rattle.passes.specs.declared.session.Phase.{Phase}
 use Rattle.passes.specs.declared.session.Phase.the-variants.{Opening, Running, Ended}
@@ -27,7 +26,7 @@ sessions i j k l = rw (i, j, k, l)
 
 pub start-tight : (a b : Session) → AtTapeStart a → AtTapeStart b → a ≡ b
 start-tight a b i j =
-    sessions (i .phase ∙ sym (j .phase)) (i .plate ∙ sym (j .plate)) (fresh-tight (plateOf noPlate) (a .board) (b .board) (i .board) (j .board)) (i .place ∙ sym (j .place))
+    sessions (i .phase ∙ sym (j .phase)) (i .plate ∙ sym (j .plate)) (fresh-tight (tapePlate noPlate) (a .board) (b .board) (i .board) (j .board)) (i .place ∙ sym (j .place))
 
 pub finish-tight : (s : Session) (rest out : List ℕ) (used r t : ℕ) (out′ out″ : List ℕ)
     → ((kept m : List ℕ) → Printed (closing (stageOf s kept m) (s .place) rest) out used r out′)
@@ -48,12 +47,8 @@ phase-back Ended p b kept m = refl
 phase-of : (s : Session) (kept m : List ℕ) → phaseIn (stageOf s kept m) ≡ s .phase
 phase-of s kept m = phase-back (s .phase) (s .plate) (s .board) kept (take (memoryLength (s .plate .total)) m)
 
--- the code's plate has the meaning's numbers
-abbrev plateBack : meaning.Plate → Plate
-plateBack p = record { total = p .total; bits = p .bits; address = p .address; ticks = p .ticks; pause = p .pause }
-
-same-plate : (a b : Plate) → plateOf a ≡ plateOf b → a ≡ b
-same-plate a b e = ap plateBack e
+same-plate : (a b : Plate) → tapePlate a ≡ tapePlate b → a ≡ b
+same-plate a b e = ap numbersOf e
 
 -- the numbers of a session and the memory
 record Same (a b : Session) (m′ m″ : List ℕ) : Type 0 where

@@ -4,12 +4,11 @@ use mathlib.Core.Path.{_≡_}
 use mathlib.Core.List.{List}
 use Rattle.meaning.specs.State.{fresh}
 use Rattle.line.specs.declared.plate.Plate.{Plate}
-use Rattle.line.specs.Line.{plateOf}
 use Rattle.board.specs.declared.limits.Board.{Board}
 use Rattle.board.specs.Board.{stateOf}
 use Rattle.tape.specs.Kinds.{Said}
 use Rattle.tape.specs.Passes.{nextRecord, incomplete, longestLine}
-use Rattle.turns.specs.Openings.{Begins, Fails}
+use Rattle.turns.specs.Openings.{tapePlate, Begins, Fails}
 use Rattle.passes.specs.declared.session.Phase.the-variants.{Opening}
 use Rattle.passes.specs.declared.session.Session.{Session}
 use Rattle.passes.specs.declared.session.Stop.{Stop}
@@ -21,7 +20,7 @@ use Rattle.passes.specs.declared.beginning.Begun.{Begun}
 -- a board at work goes on, or the plate comes first
 pub data Working (s : Session) (window : List ℕ) (space : ℕ) (p : Plate) (b : Board) (from : ℕ) : Type 0 where
   goes-on : (s .phase ≡ Opening → ⊥) → p ≡ s .plate → b ≡ s .board → from ≡ 0 → Working s window space p b from
-  begins : s .phase ≡ Opening → longestLine ≤ space → (x : Said) → Begins window p from x → ((kept : List ℕ) → stateOf b kept ≡ fresh (plateOf p)) → Working s window space p b from
+  begins : s .phase ≡ Opening → longestLine ≤ space → (x : Said) → Begins window p from x → ((kept : List ℕ) → stateOf b kept ≡ fresh (tapePlate p)) → Working s window space p b from
 
 -- before the plate: no space for a line, no whole record
 abbrev pub Idle : List ℕ → ℕ → Stop → Type 0

@@ -9,7 +9,6 @@ use Rattle.meaning.specs.State as meaning
 use Rattle.meaning.specs.State.{fresh}
 use Rattle.meaning.specs.Fields.{memoryLength}
 use Rattle.line.specs.declared.plate.Plate.{Plate}
-use Rattle.line.specs.Line.{plateOf}
 use Rattle.board.specs.declared.limits.Board.{Board}
 use Rattle.board.specs.Board.{stateOf, fitsIn, KeepsFew}
 use Rattle.tape.specs.Answers.{Stage, opening, running, ended}
@@ -18,6 +17,7 @@ use Rattle.tape.specs.Passes.{Pass, pass}
 use Rattle.tape.specs.Text.{badLine}
 use Rattle.tape.specs.Reader.{Printed}
 use Rattle.tape.specs.Kinds.{Said}
+use Rattle.turns.specs.Openings.{tapePlate}
 use Rattle.turns.specs.Turns.{Sound, quickly}
 use Rattle.passes.specs.Holding.{LentState, lentState, lentBy}
 use Rattle.passes.specs.declared.session.Phase.{Phase}
@@ -34,7 +34,7 @@ largestMemory = memoryLength 112
 
 abbrev pub stageFrom : Phase → Plate → Board → List ℕ → List ℕ → Stage
 stageFrom Opening p b kept m = opening
-stageFrom Running p b kept m = running (plateOf p) (stateOf b kept) m
+stageFrom Running p b kept m = running (tapePlate p) (stateOf b kept) m
 stageFrom Ended p b kept m = ended
 
 abbrev pub stageOf : Session → List ℕ → List ℕ → Stage
@@ -42,7 +42,7 @@ stageOf s kept m = stageFrom (s .phase) (s .plate) (s .board) kept (take (memory
 
 -- a record that closes no frame of a board whose kept bytes are within their places
 pub record TakesQuickly (p : Plate) (b : Board) (x : Said) (kept : List ℕ) : Type 0 where
-  pub quick : quickly (plateOf p) (stateOf b kept) x ≡ true
+  pub quick : quickly (tapePlate p) (stateOf b kept) x ≡ true
   pub fits : fitsIn b kept ≡ true
 
 -- why a pass stopped, and whether it goes on
@@ -72,7 +72,7 @@ noPlate = record { total = 0; bits = 0; address = 0; ticks = 0; pause = 0 }
 pub record AtTapeStart (s : Session) : Type 0 where
   pub phase : s .phase ≡ Opening
   pub plate : s .plate ≡ noPlate
-  pub board : (kept : List ℕ) → stateOf (s .board) kept ≡ fresh (plateOf noPlate)
+  pub board : (kept : List ℕ) → stateOf (s .board) kept ≡ fresh (tapePlate noPlate)
   pub place : s .place ≡ 0
 
 -- what a pass of a running board leaves; h is what the lent bytes hold
@@ -82,7 +82,7 @@ pub record Plays (p : Plate) (q : Pass) (h : LentState) (from : ℕ) (window out
   pub stop : r .stop ≡ stopTold (q .stop)
   pub printed : Printed (q .printed) out used (r .used) out′
   pub stage : stageFrom (phaseAfter (r .stop)) p (r .board) kept′ m′ ≡ q .stage
-  pub held : lentState (running (plateOf p) (stateOf (r .board) kept′) m′) kept′ w′ ≡ h
+  pub held : lentState (running (tapePlate p) (stateOf (r .board) kept′) m′) kept′ w′ ≡ h
   pub sound : Sound p (r .board) kept′ m′ w′
 
 -- what each phase asks of the lent bytes: blank memory before the plate, then a board within its limits; after the end nothing is read
@@ -114,7 +114,7 @@ pub record Unbegun (s : Session) (m : List ℕ) (s′ : Session) (m′ : List �
 
 -- where a board is at work, or was until a record was bad: its plate, its state, and memory, of which the rest is untouched
 pub record AtWork (p : meaning.Plate) (t : meaning.State) (front m : List ℕ) (s′ : Session) (kept′ m′ : List ℕ) : Type 0 where
-  pub plate : plateOf (s′ .plate) ≡ p
+  pub plate : tapePlate (s′ .plate) ≡ p
   pub state : stateOf (s′ .board) kept′ ≡ t
   pub memory : m′ ≡ put m 0 front
   pub few : KeepsFew (s′ .board)
@@ -153,11 +153,11 @@ pub record Lends (p : Plate) (b : Board) (place : ℕ) (window : List ℕ) (from
 -- the pass of a board at work over the window from a place on, and what it leaves of the lent bytes
 abbrev pub passAt : Plate → Board → ℕ → List ℕ → ℕ → List ℕ → List ℕ → List ℕ → ℕ → Pass
 passAt p b place window from kept m out used =
-    pass (suc (length window)) (length out - used) (running (plateOf p) (stateOf b kept) m) (place + from) (drop from window)
+    pass (suc (length window)) (length out - used) (running (tapePlate p) (stateOf b kept) m) (place + from) (drop from window)
 
 abbrev pub lentAt : Plate → Board → ℕ → List ℕ → ℕ → List ℕ → List ℕ → List ℕ → List ℕ → ℕ → LentState
 lentAt p b place window from kept m w out used =
-    lentBy (suc (length window)) (length out - used) (place + from) (drop from window) (lentState (running (plateOf p) (stateOf b kept) m) kept w)
+    lentBy (suc (length window)) (length out - used) (place + from) (drop from window) (lentState (running (tapePlate p) (stateOf b kept) m) kept w)
 
 -- .. that uses the front of the lent memory
 abbrev pub passFrom : Plate → Board → ℕ → List ℕ → ℕ → List ℕ → List ℕ → List ℕ → ℕ → Pass

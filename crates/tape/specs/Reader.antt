@@ -1,13 +1,13 @@
 -- What the reader answers, and how the code's events say what the records say. Assumes nothing.
 use Prim.Native.Nat.{ℕ, _+_, _-_, _≤_}
 use mathlib.Core.Path.{_≡_}
-use mathlib.Core.List.{List}
+use mathlib.Core.List.{List, [], _∷_}
 use lib.ListN.{length}
 use lib.Dec.{ltb}
 use Rattle.meaning.specs.Bytes.{pick, part, put, little}
 use Rattle.meaning.specs.Run.{character, poll, measured, fault, power-on}
 use Rattle.tape.specs.Records.{lengthAt, wholeLength}
-use Rattle.tape.specs.Kinds.{Said, plate, call, unfit}
+use Rattle.tape.specs.Kinds.{Said, plate, call, unfit, plateIn}
 use Rattle.tape.specs.declared.record.Read.{Read}
 use Rattle.tape.specs.declared.record.Read.the-variants.{Record, More, Bad}
 use Rattle.tape.specs.declared.kinds.Event.{Event}
@@ -24,7 +24,7 @@ readAt longest at t =
     (Record (little (part t 2 2)) (at + 4) (lengthAt t - 2) (record { at = at + wholeLength t })))))
 
 abbrev pub saidOf : Event → Said
-saidOf (event.Plate t p a b u) = plate (record { total = t; bits = p; address = a; ticks = b; pause = u })
+saidOf (event.Plate t p a b u) = plate (plateIn (t ∷ p ∷ a ∷ b ∷ u ∷ []))
 saidOf (event.Character t v f) = call (character t v f)
 saidOf (event.Poll t) = call (poll t)
 saidOf (event.Measured n) = call (measured n)

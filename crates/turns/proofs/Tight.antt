@@ -9,7 +9,6 @@ use Rattle.meaning.specs.State as meaning
 use Rattle.meaning.specs.State.{fresh}
 use Rattle.wire.proofs.Tight.{one-outcome}
 use Rattle.line.specs.declared.plate.Plate.{Plate}
-use Rattle.line.specs.Line.{plateOf}
 use Rattle.board.specs.declared.limits.Board.{Board}
 use Rattle.board.specs.Board.{stateOf}
 use Rattle.board.proofs.Promises.{same-state-same-board}
@@ -17,7 +16,7 @@ use Rattle.tape.specs.Kinds.{Said}
 use Rattle.tape.specs.Answers.{Stage, opening, running, ended}
 use Rattle.tape.proofs.Tight.{eventBack, event-back, printed-tight}
 use Rattle.turns.specs.Hearing.{Readout, not-yet, tells, readoutOf, readoutAt}
-use Rattle.turns.specs.Openings.{openedBy}
+use Rattle.turns.specs.Openings.{tapePlate, openedBy}
 use Rattle.turns.specs.Turns.{quickly, Turns}
 use Rattle.turns.specs.declared.reading.Heard.{Heard}
 use Rattle.turns.specs.declared.reading.Heard.the-variants.{Nothing, Said as Tells}
@@ -48,8 +47,8 @@ stateIn s ended = s
 pub not-both : true ≡ false → ⊥
 not-both e = subst (λ (b : Bool). T b) e tt
 
-pub closes-none-tight : (p : Plate) (b : Board) (x : Said) (a c : Bool) → ((kept : List ℕ) → a ≡ quickly (plateOf p) (stateOf b kept) x)
-    → ((kept : List ℕ) → c ≡ quickly (plateOf p) (stateOf b kept) x) → a ≡ c
+pub closes-none-tight : (p : Plate) (b : Board) (x : Said) (a c : Bool) → ((kept : List ℕ) → a ≡ quickly (tapePlate p) (stateOf b kept) x)
+    → ((kept : List ℕ) → c ≡ quickly (tapePlate p) (stateOf b kept) x) → a ≡ c
 closes-none-tight p b x a c h i = h [] ∙ sym (i [])
 
 -- what a record's outcome is made of
@@ -73,7 +72,7 @@ pub turn-tight : (p : Plate) (v : Stage) (place : ℕ) (x : Said) (kept w out : 
 turn-tight p v place x kept w out used {r} {t} {kept′} {kept″} a b =
     let stage = a .stage ∙ sym (b .stage) in
     let same : kept′ ≡ kept″ = a .bytes ∙ sym (b .bytes) in
-    let state : stateOf (r .board) kept′ ≡ stateOf (t .board) kept″ = ap (stateIn (fresh (plateOf p))) stage in
+    let state : stateOf (r .board) kept′ ≡ stateOf (t .board) kept″ = ap (stateIn (fresh (tapePlate p))) stage in
     let line = printed-tight (a .printed) (b .printed) in
     record {
       turned = parts (same-state-same-board (r .board) (t .board) kept′ (a .sound .within .few) (b .sound .within .few) (omega (arith, a .sound .within .places)) (state ∙ ap (stateOf (t .board)) (sym same)))

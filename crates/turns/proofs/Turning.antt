@@ -17,7 +17,6 @@ use Rattle.meaning.specs.Run.{Call, character, poll, measured, fault, power-on,
 use Rattle.meaning.proofs.Limits.{replies-fit}
 use Rattle.meaning.proofs.Puts.{length-put, put-front}
 use Rattle.line.specs.declared.plate.Plate.{Plate}
-use Rattle.line.specs.Line.{plateOf}
 use Rattle.board.specs.declared.limits.Board.{Board}
 use Rattle.board.specs.declared.limits.Outcome.the-variants.{Over, Still}
 use Rattle.board.specs.declared.limits.Stepped.{Stepped}
@@ -39,6 +38,7 @@ use Rattle.tape.specs.Reader.{saidOf, Printed}
 use Rattle.tape.specs.Passes.{longestLine}
 use Rattle.tape.proofs.Outputs.{put-nil}
 use Rattle.tape.proofs.kinds.Event.{the-type}
+use Rattle.turns.specs.Openings.{tapePlate}
 use Rattle.turns.specs.Turns.{Sound, runs, quickly, Quiet, CallsBoard, NotCalled, Turns, Fitting, Answered}
 use Rattle.turns.specs.declared.answering.Turned.{Turned}
 
@@ -52,23 +52,23 @@ silent-still p s m g e = ap (λ (o : Outcome). o .reply) (quiet-step p s m g e)
 
 -- ---- the quick way
 
-module _ (p : Plate) (b : Board) (kept : List ℕ) (g : Call) (told : quickly (plateOf p) (stateOf b kept) (call g) ≡ not (closes (plateOf p) (stateOf b kept) g)) where
-  quiet-turn : {b′ : Board} {kept′ : List ℕ} → ClosesNone (plateOf p) b kept g b′ kept′ → (m : List ℕ) (place : ℕ)
+module _ (p : Plate) (b : Board) (kept : List ℕ) (g : Call) (told : quickly (tapePlate p) (stateOf b kept) (call g) ≡ not (closes (tapePlate p) (stateOf b kept) g)) where
+  quiet-turn : {b′ : Board} {kept′ : List ℕ} → ClosesNone (tapePlate p) b kept g b′ kept′ → (m : List ℕ) (place : ℕ)
       → turn (runs p b kept m) place (call g) ≡ record { stage = runs p b′ kept′ m; printed = [] }
   unfolding turn stepped printedOf still
-  quiet-turn q m place = rw (quiet-step (plateOf p) (stateOf b kept) m g (q .none), ← q .state m)
+  quiet-turn q m place = rw (quiet-step (tapePlate p) (stateOf b kept) m g (q .none), ← q .state m)
 
-  went-quiet : {b′ : Board} {kept′ : List ℕ} → ClosesNone (plateOf p) b kept g b′ kept′ → Quiet p b kept (call g) b′ kept′
+  went-quiet : {b′ : Board} {kept′ : List ℕ} → ClosesNone (tapePlate p) b kept g b′ kept′ → Quiet p b kept (call g) b′ kept′
   went-quiet q = record {
     quick = told ∙ ap not (q .none);
     turned = quiet-turn q;
-    silent = λ m. silent-still (plateOf p) (stateOf b kept) m g (q .none);
+    silent = λ m. silent-still (tapePlate p) (stateOf b kept) m g (q .none);
     bytes = q .bytes;
     fits = q .fits;
     within = λ m h.
         let wide : 134 ≤ length (zeros 134) = omega (arith, length-replicate {A = ℕ} 134 0) in
-        stays-within (plateOf p) b kept m (zeros 134) g h wide
-        (quick-steps (plateOf p) b kept m (zeros 134) g (unrefused (plateOf p) b kept m (length (zeros 134)) g h wide) q);
+        stays-within (tapePlate p) b kept m (zeros 134) g h wide
+        (quick-steps (tapePlate p) b kept m (zeros 134) g (unrefused (tapePlate p) b kept m (length (zeros 134)) g h wide) q);
   }
 
 -- what is quick closes nothing
@@ -77,20 +77,20 @@ quick-open true e = absurd (not-both (sym e))
 quick-open false e = refl
 
 pub quiet-character : (p : Plate) (b : Board) (kept : List ℕ) (e : Event) (t v : ℕ) (bad : Bool) {b′ : Board} {kept′ : List ℕ}
-    → quickly (plateOf p) (stateOf b kept) (saidOf e) ≡ true → e ≡ event.Character t v bad → TakesIn b kept t v bad b′ kept′ → Quiet p b kept (saidOf e) b′ kept′
+    → quickly (tapePlate p) (stateOf b kept) (saidOf e) ≡ true → e ≡ event.Character t v bad → TakesIn b kept t v bad b′ kept′ → Quiet p b kept (saidOf e) b′ kept′
 unfolding closes
 quiet-character p b kept e t v bad q k x =
-    let o : over (plateOf p) (stateOf b kept) t ≡ false = quick-open (over (plateOf p) (stateOf b kept) t) (rw k at q) in
-    rw k (went-quiet p b kept (character t v bad) refl (taken-quickly (plateOf p) b kept t o x))
+    let o : over (tapePlate p) (stateOf b kept) t ≡ false = quick-open (over (tapePlate p) (stateOf b kept) t) (rw k at q) in
+    rw k (went-quiet p b kept (character t v bad) refl (taken-quickly (tapePlate p) b kept t o x))
 
 -- a quick record that is no character is a poll, and changes nothing
-pub quiet-poll : (p : Plate) (b : Board) (kept : List ℕ) (e : Event) → quickly (plateOf p) (stateOf b kept) (saidOf e) ≡ true
+pub quiet-poll : (p : Plate) (b : Board) (kept : List ℕ) (e : Event) → quickly (tapePlate p) (stateOf b kept) (saidOf e) ≡ true
     → OneOf (0 ∷ 2 ∷ 3 ∷ 4 ∷ 5 ∷ 6 ∷ []) (tagOf the-type e) → fitsIn b kept ≡ true → Quiet p b kept (saidOf e) b kept
 unfolding closes
 quiet-poll p b kept (event.Plate t q a u w) k i f = absurd (not-both (sym k))
 quiet-poll p b kept (event.Character t v bad) k i f = absurd (miss (0 ∷ 2 ∷ 3 ∷ 4 ∷ 5 ∷ 6 ∷ []) 1 tt i)
 quiet-poll p b kept (event.Poll t) k i f =
-    went-quiet p b kept (poll t) refl (polled-quickly (plateOf p) b kept t (quick-open (over (plateOf p) (stateOf b kept) t) k) f)
+    went-quiet p b kept (poll t) refl (polled-quickly (tapePlate p) b kept t (quick-open (over (tapePlate p) (stateOf b kept) t) k) f)
 quiet-poll p b kept (event.Measured n) k i f = absurd (not-both (sym k))
 quiet-poll p b kept (event.Fault c) k i f = absurd (not-both (sym k))
 quiet-poll p b kept event.PowerOn k i f = absurd (not-both (sym k))
@@ -147,25 +147,25 @@ as-poll tick v bad (b ∷ l) = refl
 -- ---- the board's call for each kind
 
 module _ {p : Plate} {b : Board} {kept m w : List ℕ} {r : Stepped} {kept′ m′ w′ : List ℕ} where
-  pub character-called : (t v : ℕ) (f : Bool) → board.Steps (plateOf p) b kept m w (character t v f) r kept′ m′ w′
+  pub character-called : (t v : ℕ) (f : Bool) → board.Steps (tapePlate p) b kept m w (character t v f) r kept′ m′ w′
       → CallsBoard p b (saidOf (event.Character t v f)) kept m w t r kept′ m′ w′
   character-called t v f s = record { asked = character t v f; said = refl; stepped = s; line = as-poll t v f _ }
 
-  pub poll-called : (t : ℕ) → board.Steps (plateOf p) b kept m w (poll t) r kept′ m′ w′ → CallsBoard p b (saidOf (event.Poll t)) kept m w t r kept′ m′ w′
+  pub poll-called : (t : ℕ) → board.Steps (tapePlate p) b kept m w (poll t) r kept′ m′ w′ → CallsBoard p b (saidOf (event.Poll t)) kept m w t r kept′ m′ w′
   poll-called t s = record { asked = poll t; said = refl; stepped = s; line = refl }
 
-  unasked-called : (g : Call) → closes (plateOf p) (stateOf b kept) g ≡ false → board.Steps (plateOf p) b kept m w g r kept′ m′ w′ → CallsBoard p b (call g) kept m w 0 r kept′ m′ w′
-  unasked-called g e s = record { asked = g; said = refl; stepped = s; line = unheard (plateOf p) (stateOf b kept) m g e }
+  unasked-called : (g : Call) → closes (tapePlate p) (stateOf b kept) g ≡ false → board.Steps (tapePlate p) b kept m w g r kept′ m′ w′ → CallsBoard p b (call g) kept m w 0 r kept′ m′ w′
+  unasked-called g e s = record { asked = g; said = refl; stepped = s; line = unheard (tapePlate p) (stateOf b kept) m g e }
 
-  pub measured-called : (n : ℕ) → board.Steps (plateOf p) b kept m w (measured n) r kept′ m′ w′ → CallsBoard p b (saidOf (event.Measured n)) kept m w 0 r kept′ m′ w′
+  pub measured-called : (n : ℕ) → board.Steps (tapePlate p) b kept m w (measured n) r kept′ m′ w′ → CallsBoard p b (saidOf (event.Measured n)) kept m w 0 r kept′ m′ w′
   unfolding closes
   measured-called n s = unasked-called (measured n) refl s
 
-  pub fault-called : (c : ℕ) → board.Steps (plateOf p) b kept m w (fault c) r kept′ m′ w′ → CallsBoard p b (saidOf (event.Fault c)) kept m w 0 r kept′ m′ w′
+  pub fault-called : (c : ℕ) → board.Steps (tapePlate p) b kept m w (fault c) r kept′ m′ w′ → CallsBoard p b (saidOf (event.Fault c)) kept m w 0 r kept′ m′ w′
   unfolding closes
   fault-called c s = unasked-called (fault c) refl s
 
-  pub power-on-called : board.Steps (plateOf p) b kept m w power-on r kept′ m′ w′ → CallsBoard p b (saidOf event.PowerOn) kept m w 0 r kept′ m′ w′
+  pub power-on-called : board.Steps (tapePlate p) b kept m w power-on r kept′ m′ w′ → CallsBoard p b (saidOf event.PowerOn) kept m w 0 r kept′ m′ w′
   unfolding closes
   power-on-called s = unasked-called power-on refl s
 
@@ -190,34 +190,34 @@ module _ (p : Plate) (b : Board) (x : Said) (kept m w : List ℕ) (tick : ℕ) (
   g = steps .asked
 
   abbrev reply : List ℕ
-  reply = (step (plateOf p) (stateOf b kept) m g) .reply
+  reply = (step (tapePlate p) (stateOf b kept) m g) .reply
 
-  willing : refusalOn (plateOf p) b kept m (length w) g ≡ 0
-  willing = unrefused (plateOf p) b kept m (length w) g (sound .within) (sound .room)
+  willing : refusalOn (tapePlate p) b kept m (length w) g ≡ 0
+  willing = unrefused (tapePlate p) b kept m (length w) g (sound .within) (sound .room)
 
-  done : DoesStep (plateOf p) b kept m w g r kept′ m′ w′
-  done = does-step (plateOf p) b kept m w g willing (steps .stepped)
+  done : DoesStep (tapePlate p) b kept m w g r kept′ m′ w′
+  done = does-step (tapePlate p) b kept m w g willing (steps .stepped)
 
   short : length reply ≤ 134
-  short = replies-fit (plateOf p) (stateOf b kept) m g
+  short = replies-fit (tapePlate p) (stateOf b kept) m g
 
   same-length : length w′ ≡ length w
   same-length = ap length (done .room) ∙ length-put w 0 reply (omega (arith, short, sound .room))
 
   -- the reply stands at the front of its room
-  front : (c : Bool) → closes (plateOf p) (stateOf b kept) g ≡ c → replyLength (pick c (Over (length reply)) Still) ≡ length reply
+  front : (c : Bool) → closes (tapePlate p) (stateOf b kept) g ≡ c → replyLength (pick c (Over (length reply)) Still) ≡ length reply
   front true e = refl
-  front false e = ap length (sym (silent-still (plateOf p) (stateOf b kept) m g e))
+  front false e = ap length (sym (silent-still (tapePlate p) (stateOf b kept) m g e))
 
   sent-is : replyLength (r .outcome) ≡ length reply
-  sent-is = ap replyLength (done .outcome) ∙ front (closes (plateOf p) (stateOf b kept) g) refl
+  sent-is = ap replyLength (done .outcome) ∙ front (closes (tapePlate p) (stateOf b kept) g) refl
 
   heard-reply : take (replyLength (r .outcome)) w′ ≡ reply
   heard-reply = ap (λ (n : ℕ). take n w′) sent-is ∙ ap (take (length reply)) (done .room ∙ put-front w reply) ∙ take-append-seam reply (drop (length reply) w)
 
   still-sound : Sound p (r .board) kept′ m′ w′
   still-sound = record {
-    within = stays-within (plateOf p) b kept m w g (sound .within) (sound .room) (steps .stepped);
+    within = stays-within (tapePlate p) b kept m w g (sound .within) (sound .room) (steps .stepped);
     room = omega (arith, same-length, sound .room);
   }
 
@@ -229,19 +229,19 @@ module _ (p : Plate) (b : Board) (x : Said) (kept m w : List ℕ) (tick : ℕ) (
   }
 
   -- what is kept of the frame stands in front of its places, the rest is untouched
-  kept-is : kept′ ≡ put kept 0 ((step (plateOf p) (stateOf b kept) m g) .state .line .kept)
-  kept-is = rw (held-on (plateOf p) b kept m w g willing) at (steps .stepped .bytes)
+  kept-is : kept′ ≡ put kept 0 ((step (tapePlate p) (stateOf b kept) m g) .state .line .kept)
+  kept-is = rw (held-on (tapePlate p) b kept m w g willing) at (steps .stepped .bytes)
 
   -- a reply is printed, silence is not
   pub turns-answered : {q : Turned} {out out′ : List ℕ} {used : ℕ} (place : ℕ) → Answered tick r w′ out used q out′
-      → Turns p (running (plateOf p) (stateOf b kept) m) place x kept w out used q kept′ m′ w′ out′
+      → Turns p (running (tapePlate p) (stateOf b kept) m) place x kept w out used q kept′ m′ w′ out′
   unfolding turn stepped
   turns-answered place a =
       rw (steps .said)
       (record {
         printed = rw (heard-reply, steps .line) at (a .printed);
         over = a .over;
-        stage = ap (λ (y : Board). running (plateOf p) (stateOf y kept′) m′) (a .board) ∙ ap (λ (y : meaning.State). running (plateOf p) y m′) (done .state) ∙ ap (running (plateOf p) ((step (plateOf p) (stateOf b kept) m g) .state)) (done .memory);
+        stage = ap (λ (y : Board). running (tapePlate p) (stateOf y kept′) m′) (a .board) ∙ ap (λ (y : meaning.State). running (tapePlate p) y m′) (done .state) ∙ ap (running (tapePlate p) ((step (tapePlate p) (stateOf b kept) m g) .state)) (done .memory);
         bytes = kept-is;
         room = done .room;
         sound = rw (a .board) still-sound;
@@ -250,7 +250,7 @@ module _ (p : Plate) (b : Board) (x : Said) (kept m w : List ℕ) (tick : ℕ) (
 -- a bad record changes nothing
 pub turns-bad : (p : Plate) (b : Board) (x : Said) (kept m w kept′ m′ w′ out out′ : List ℕ) (used end place : ℕ) (q : Turned) → Sound p b kept m w → NotCalled x kept m w kept′ m′ w′
     → Printed (badLine place) out used end out′ → q ≡ record { board = b; used = end; over = true }
-    → Turns p (running (plateOf p) (stateOf b kept) m) place x kept w out used q kept′ m′ w′ out′
+    → Turns p (running (tapePlate p) (stateOf b kept) m) place x kept w out used q kept′ m′ w′ out′
 unfolding answers.badRecord
 turns-bad p b x kept m w kept′ m′ w′ out out′ used end place q sound none printed d =
     let t = none .bad p (stateOf b kept) m place in

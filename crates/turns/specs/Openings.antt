@@ -6,7 +6,7 @@ use mathlib.Core.List.{List, []}
 use lib.ListN.{length}
 use Rattle.meaning.specs.Bytes.{pick, zeros}
 use Rattle.meaning.specs.State as meaning
-use Rattle.meaning.specs.State.{plateOk, fresh}
+use Rattle.meaning.specs.State.{labelLength, plateOk, fresh}
 use Rattle.meaning.specs.Fields.{memoryLength}
 use Rattle.line.specs.declared.plate.Plate.{Plate}
 use Rattle.line.specs.Line.{plateOf}
@@ -18,9 +18,16 @@ use Rattle.turns.specs.Hearing.{Readout, not-yet, tells}
 use Rattle.turns.specs.declared.opening.Opened.{Opened}
 use Rattle.turns.specs.declared.opening.Opened.the-variants as opened
 
+-- a plate of the tape; 02, Req 01, of the label bytes: "on the tape they are all zero"
+abbrev pub tapePlate : Plate → meaning.Plate
+tapePlate p = plateOf p (zeros labelLength)
+
+-- the code's plate has the meaning's numbers
+abbrev pub numbersOf : meaning.Plate → Plate
+numbersOf p = record { total = p .total; bits = p .bits; address = p .address; ticks = p .ticks; pause = p .pause }
+
 unfoldable pub checked : meaning.Plate → ℕ → Opened
-checked p next =
-    pick (plateOk p) (opened.Plate (record { total = p .total; bits = p .bits; address = p .address; ticks = p .ticks; pause = p .pause }) next) opened.Bad
+checked p next = pick (plateOk p) (opened.Plate (numbersOf p) next) opened.Bad
 
 abbrev pub begunBy : Said → ℕ → Opened
 begunBy (plate p) next = checked p next
@@ -33,9 +40,9 @@ openedBy (tells x next) = begunBy x next
 
 -- the window begins with a good plate
 pub record Begins (window : List ℕ) (p : Plate) (next : ℕ) (x : Said) : Type 0 where
-  pub good : plateOk (plateOf p) ≡ true
+  pub good : plateOk (tapePlate p) ≡ true
   pub heard : passes.nextRecord window ≡ passes.says x
-  pub turned : (place : ℕ) → turn opening place x ≡ record { stage = running (plateOf p) (fresh (plateOf p)) (zeros (memoryLength (p .total))); printed = [] }
+  pub turned : (place : ℕ) → turn opening place x ≡ record { stage = running (tapePlate p) (fresh (tapePlate p)) (zeros (memoryLength (p .total))); printed = [] }
   pub whole : next ≡ wholeLength window
   pub inside : next ≤ length window
 

@@ -9,7 +9,6 @@ use Rattle.meaning.specs.State as meaning
 use Rattle.meaning.specs.Characters.{over}
 use Rattle.meaning.specs.Run.{Call, character, poll, measured, fault, power-on, step}
 use Rattle.line.specs.declared.plate.Plate.{Plate}
-use Rattle.line.specs.Line.{plateOf}
 use Rattle.board.specs.declared.limits.Board.{Board}
 use Rattle.board.specs.declared.limits.Stepped.{Stepped}
 use Rattle.board.specs.Board as board
@@ -20,17 +19,18 @@ use Rattle.tape.specs.Answers as answers
 use Rattle.tape.specs.Answers.{Stage, opening, running, ended, turn, printedOf}
 use Rattle.tape.specs.Reader.{Printed}
 use Rattle.tape.specs.Passes.{longestLine}
+use Rattle.turns.specs.Openings.{tapePlate}
 use Rattle.turns.specs.declared.answering.Called.{Called}
 use Rattle.turns.specs.declared.answering.Turned.{Turned}
 
 -- R1 to R3 do not apply
 pub record Sound (p : Plate) (b : Board) (kept m w : List ℕ) : Type 0 where
-  pub within : Within (plateOf p) b kept m
+  pub within : Within (tapePlate p) b kept m
   pub room : longestReply ≤ length w
 
 -- a stage of a running board
 abbrev pub runs : Plate → Board → List ℕ → List ℕ → Stage
-runs p b kept m = running (plateOf p) (stateOf b kept) m
+runs p b kept m = running (tapePlate p) (stateOf b kept) m
 
 -- the reply that a record brings, and the bytes that a stage keeps of an open frame
 abbrev pub replyTo : Stage → Said → List ℕ
@@ -68,18 +68,18 @@ quickly p s unfit = false
 
 -- a record that closes no frame: whatever memory and place, the turn prints nothing and leaves the board b′. Places past the kept bytes are untouched
 pub record Quiet (p : Plate) (b : Board) (kept : List ℕ) (x : Said) (b′ : Board) (kept′ : List ℕ) : Type 0 where
-  pub quick : quickly (plateOf p) (stateOf b kept) x ≡ true
+  pub quick : quickly (tapePlate p) (stateOf b kept) x ≡ true
   pub turned : (m : List ℕ) (place : ℕ) → turn (runs p b kept m) place x ≡ record { stage = runs p b′ kept′ m; printed = [] }
   pub silent : (m : List ℕ) → replyTo (runs p b kept m) x ≡ []
   pub bytes : kept′ ≡ put kept 0 ((stateOf b′ kept′) .line .kept)
   pub fits : fitsIn b′ kept′ ≡ true
-  pub within : (m : List ℕ) → Within (plateOf p) b kept m → Within (plateOf p) b′ kept′ m
+  pub within : (m : List ℕ) → Within (tapePlate p) b kept m → Within (tapePlate p) b′ kept′ m
 
 -- what a record leaves of a board in the stage v, of the lent bytes and of the reply room, and what it prints
 pub record Turns (p : Plate) (v : Stage) (place : ℕ) (x : Said) (kept w out : List ℕ) (used : ℕ) (r : Turned) (kept′ m′ w′ out′ : List ℕ) : Type 0 where
   pub printed : Printed ((turn v place x) .printed) out used (r .used) out′
   pub over : r .over ≡ isEnded ((turn v place x) .stage)
-  pub stage : running (plateOf p) (stateOf (r .board) kept′) m′ ≡ lastOf v ((turn v place x) .stage)
+  pub stage : running (tapePlate p) (stateOf (r .board) kept′) m′ ≡ lastOf v ((turn v place x) .stage)
   pub bytes : kept′ ≡ put kept 0 (stageKept ((turn v place x) .stage))
   pub room : w′ ≡ put w 0 (replyTo v x)
   pub sound : Sound p (r .board) kept′ m′ w′
@@ -88,13 +88,13 @@ pub record Turns (p : Plate) (v : Stage) (place : ℕ) (x : Said) (kept w out : 
 pub record CallsBoard (p : Plate) (b : Board) (x : Said) (kept m w : List ℕ) (tick : ℕ) (r : Stepped) (kept′ m′ w′ : List ℕ) : Type 0 where
   pub asked : Call
   pub said : x ≡ call asked
-  pub stepped : board.Steps (plateOf p) b kept m w asked r kept′ m′ w′
-  pub line : printedOf (poll tick) ((step (plateOf p) (stateOf b kept) m asked) .reply) ≡ printedOf asked ((step (plateOf p) (stateOf b kept) m asked) .reply)
+  pub stepped : board.Steps (tapePlate p) b kept m w asked r kept′ m′ w′
+  pub line : printedOf (poll tick) ((step (tapePlate p) (stateOf b kept) m asked) .reply) ≡ printedOf asked ((step (tapePlate p) (stateOf b kept) m asked) .reply)
 
 -- no call: the record is bad
 pub record NotCalled (x : Said) (kept m w kept′ m′ w′ : List ℕ) : Type 0 where
-  pub bad : (v : Plate) (s : meaning.State) (n : List ℕ) (place : ℕ) → turn (running (plateOf v) s n) place x ≡ answers.badRecord place
-  pub silent : (v : Plate) (s : meaning.State) (n : List ℕ) → replyTo (running (plateOf v) s n) x ≡ []
+  pub bad : (v : Plate) (s : meaning.State) (n : List ℕ) (place : ℕ) → turn (running (tapePlate v) s n) place x ≡ answers.badRecord place
+  pub silent : (v : Plate) (s : meaning.State) (n : List ℕ) → replyTo (running (tapePlate v) s n) x ≡ []
   pub bytes : kept′ ≡ kept
   pub memory : m′ ≡ m
   pub room : w′ ≡ w

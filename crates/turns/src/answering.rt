@@ -4,11 +4,11 @@ ghost use mathlib.Core.Bool.{true, false};
 ghost use mathlib.Core.List.{List};
 ghost use Prim.Native.Nat.{ℕ, _+_, _≤_};
 ghost use lib.ListN.{length};
-ghost use Rattle.line.specs.Line.{plateOf};
 ghost use Rattle.board.specs.Board.{stateOf, replyLength};
 ghost use Rattle.tape.specs.Answers.{running};
 ghost use Rattle.tape.specs.Reader.{saidOf};
 ghost use Rattle.tape.specs.Passes.{longestLine};
+ghost use Rattle.turns.specs.Openings.{tapePlate};
 ghost use Rattle.turns.specs.Turns.{Sound, quickly, Calls, Turns, Fitting, Answered};
 use board::Board;
 use board::Outcome;
@@ -33,7 +33,7 @@ struct Called {
 
 // Most records are characters inside a frame, or polls: what closes no frame need not be turned here, since it prints nothing.
 pub fn closes_none(plate: Plate, board: Board, event: Event) -> bool
-    ensures { λ r. ⌜ ((kept : List ℕ) → r ≡ quickly (plateOf plate) (stateOf board kept) (saidOf event)) ⌝ }
+    ensures { λ r. ⌜ ((kept : List ℕ) → r ≡ quickly (tapePlate plate) (stateOf board kept) (saidOf event)) ⌝ }
 {
     match event {
         Event::Character {
@@ -91,7 +91,7 @@ fn not_called(board: Board) -> Called
     }
 }
 
-// The board's call for what a record says; a second plate and an unfit record are none. On the tape the label bytes are all zero (02, Req 01). Only a character and a poll bring a line.
+// The board's call for what a record says; a second plate and an unfit record are none. Only a character and a poll bring a line.
 fn ask(
     plate: Plate,
     board: Board,
@@ -103,35 +103,24 @@ fn ask(
     requires { ⌜ Sound plate board (now kept) (now memory) (now reply) ⌝ }
     ensures { λ r. ⌜ Calls plate board (saidOf event) (now (kept .entry)) (now (memory .entry)) (now (reply .entry)) r (now (kept .exit)) (now (memory .exit)) (now (reply .exit)) ⌝ }
 {
+    // 02, Req 01: the label bytes, "on the tape they are all zero".
+    let none = &NO_LABEL;
     match event {
         Event::Character {
             tick,
             value,
             parity,
-        } => {
-            let stepped = board::character(
-                plate,
-                &NO_LABEL,
-                board,
-                tick,
-                value,
-                parity,
-                kept,
-                memory,
-                reply,
-            );
-            brought(stepped, tick)
-        }
-        Event::Poll { tick } => {
-            let stepped = board::poll(plate, &NO_LABEL, board, tick, kept, memory, reply);
-            brought(stepped, tick)
-        }
-        Event::Measured { position } => brought(
-            board::measured(plate, &NO_LABEL, board, position),
-            0,
+        } => brought(
+            board::character(plate, none, board, tick, value, parity, kept, memory, reply),
+            tick,
         ),
-        Event::Fault { code } => brought(board::fault(plate, &NO_LABEL, board, code), 0),
-        Event::PowerOn => brought(board::power_on(plate, &NO_LABEL, board), 0),
+        Event::Poll { tick } => brought(
+            board::poll(plate, none, board, tick, kept, memory, reply),
+            tick,
+        ),
+        Event::Measured { position } => brought(board::measured(plate, none, board, position), 0),
+        Event::Fault { code } => brought(board::fault(plate, none, board, code), 0),
+        Event::PowerOn => brought(board::power_on(plate, none, board), 0),
         _ => not_called(board),
     }
 }
@@ -150,7 +139,7 @@ pub fn turn(
 ) -> Turned
     requires { ⌜ Sound plate board (now kept) (now memory) (now reply) ⌝ }
     requires { ⌜ used + longestLine ≤ length (now out) ⌝ }
-    ensures { λ r. ⌜ Turns plate (running (plateOf plate) (stateOf board (now (kept .entry))) (now (memory .entry))) place (saidOf event) (now (kept .entry)) (now (reply .entry)) (now (out .entry)) used r (now (kept .exit)) (now (memory .exit)) (now (reply .exit)) (now (out .exit)) ⌝ }
+    ensures { λ r. ⌜ Turns plate (running (tapePlate plate) (stateOf board (now (kept .entry))) (now (memory .entry))) place (saidOf event) (now (kept .entry)) (now (reply .entry)) (now (out .entry)) used r (now (kept .exit)) (now (memory .exit)) (now (reply .exit)) (now (out .exit)) ⌝ }
 {
     let call = ask(plate, board, event, kept, memory, reply);
     if call.bad {

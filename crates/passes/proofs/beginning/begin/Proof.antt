@@ -3,6 +3,7 @@ use mathlib.Core.Path.{_≡_, refl}
 use mathlib.Core.List.{[], _∷_}
 use types.Run.{OneOf, miss}
 use denote.Enum.Declared.{tagOf}
+use Rattle.line.proofs.Limits.{low-address}
 use Rattle.turns.proofs.Beginning.{opens-as}
 use Rattle.passes.specs.Beginnings.{goes-on, begins}
 use Rattle.passes.specs.declared.session.Phase.{Phase}
@@ -58,7 +59,10 @@ enum-known-first : tie.Need-enum-known-first
 enum-known-first c = search needs
 
 fresh-requires : tie.Need-fresh-requires
-fresh-requires c κs = search needs
+fresh-requires c κs =
+    let after-first = c .before in
+    let after-open = after-first .before .before in
+    low-address _ (opens-as _ _ _ (after-open .open .ensures) (after-first .first .given .1) .1 .good)
 
 with-board-requires-5 : tie.Need-with-board-requires-5
 with-board-requires-5 c κs = search needs
@@ -83,7 +87,8 @@ returns-5 c =
     let after-open = after-first .before .before in
     let after-else1 = after-open .before in
     let after-enum-told = after-else1 .before in
-    let o = opens-as _ _ _ (after-open .open .ensures) (after-first .first .given .1) in rw (c .with-board5 .ensures) (begins (after-enum-told .enum-told .given .1) (after-else1 .if1 .left) (o .0) (o .1) (c .before .fresh .ensures))
+    let o = opens-as _ _ _ (after-open .open .ensures) (after-first .first .given .1) in
+    rw (c .with-board5 .ensures) (begins (after-enum-told .enum-told .given .1) (after-else1 .if1 .left) (o .0) (o .1) (λ kept. c .before .fresh .ensures kept _))
 
 pub begin-spec : {M : Type 1} → statement M
 begin-spec =

@@ -64,66 +64,66 @@ not-called-requires c κs = search needs
 same-length : tie.Need-same-length
 same-length c =
     let after-character = c .before .before .before .before .before .before .before in
-    after-character .character .kept .1 .1 .1 .1 .1 .0
+    after-character .character .kept .1 .1 .1 .1 .1 .1 .0
 
 same-length-2 : tie.Need-same-length-2
 same-length-2 c =
     let after-character = c .before .before .before .before .before .before .before in
-    after-character .character .kept .1 .1 .1 .1 .1 .1 .0
+    after-character .character .kept .1 .1 .1 .1 .1 .1 .1 .0
 
 same-length-3 : tie.Need-same-length-3
 same-length-3 c =
     let after-character = c .before .before .before .before .before .before .before in
-    after-character .character .kept .1 .1 .1 .1 .1 .1 .1 .0
+    after-character .character .kept .1 .1 .1 .1 .1 .1 .1 .1 .0
 
 returns : tie.Need-returns
 returns c =
     let after-character = c .before .before .before .before .before .before .before in
-    let after-event = after-character .before .before .before .before .before in
+    let after-event = after-character .before .before .before .before .before .before in
     rw (c .brought .ensures, after-event .event .given .1) (character-called _ _ _ (after-character .character .ensures))
 
 same-length-4 : tie.Need-same-length-4
 same-length-4 c =
     let after-poll = c .before .before .before .before .before .before .before in
-    after-poll .poll .kept .1 .1 .1 .0
+    after-poll .poll .kept .1 .1 .1 .1 .0
 
 same-length-5 : tie.Need-same-length-5
 same-length-5 c =
     let after-poll = c .before .before .before .before .before .before .before in
-    after-poll .poll .kept .1 .1 .1 .1 .0
+    after-poll .poll .kept .1 .1 .1 .1 .1 .0
 
 same-length-6 : tie.Need-same-length-6
 same-length-6 c =
     let after-poll = c .before .before .before .before .before .before .before in
-    after-poll .poll .kept .1 .1 .1 .1 .1 .0
+    after-poll .poll .kept .1 .1 .1 .1 .1 .1 .0
 
 returns-2 : tie.Need-returns-2
 returns-2 c =
     let after-poll = c .before .before .before .before .before .before .before in
-    let after-event2 = after-poll .before .before .before .before .before in
+    let after-event2 = after-poll .before .before .before .before .before .before in
     rw (c .brought2 .ensures, after-event2 .event2 .given .1) (poll-called _ (after-poll .poll .ensures))
 
 returns-3 : tie.Need-returns-3
 returns-3 c =
-    let after-event3 = c .before .before .before in
-    let start = after-event3 .before .before .before .before .before in
+    let after-event3 = c .before .before .before .before in
+    let start = after-event3 .before .before .before .before .before .before in
     rw (c .brought3 .ensures, after-event3 .event3 .given .1) (measured-called _ (c .before .measured .ensures _ _ _ (start .pre .within .places)))
 
 returns-4 : tie.Need-returns-4
 returns-4 c =
-    let after-event4 = c .before .before .before in
-    let start = after-event4 .before .before .before .before .before in
+    let after-event4 = c .before .before .before .before in
+    let start = after-event4 .before .before .before .before .before .before in
     rw (c .brought4 .ensures, after-event4 .event4 .given .1) (fault-called _ (c .before .fault .ensures _ _ _ (start .pre .within .places)))
 
 returns-5 : tie.Need-returns-5
 returns-5 c =
-    let after-enum-told = c .before .before in
-    let start = after-enum-told .before .before .before .before .before in
+    let after-enum-told = c .before .before .before in
+    let start = after-enum-told .before .before .before .before .before .before in
     rw (c .brought5 .ensures, after-enum-told .enum-told .given .1) (power-on-called (c .before .power-on .ensures _ _ _ (start .pre .within .places)))
 
 returns-6 : tie.Need-returns-6
 returns-6 c =
-    let start = c .before .before .before .before .before in
+    let start = c .before .before .before .before .before .before in
     rw (c .not-called .ensures) (none-called (start .args .event) _ _ _ (c .before .match .keys6))
 
 pub ask-spec : {M : Type 1} → statement M

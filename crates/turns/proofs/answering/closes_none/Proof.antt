@@ -22,10 +22,10 @@ is-over-requires-2 : tie.Need-is-over-requires-2
 is-over-requires-2 c κs = search needs
 
 returns : tie.Need-returns
-returns c = λ kept. rw (c .before .before .event .given .1) (ap not (c .is-over .ensures kept))
+returns c = λ kept. rw (c .before .before .event .given .1) (ap not (c .is-over .ensures kept _))
 
 returns-2 : tie.Need-returns-2
-returns-2 c = λ kept. rw (c .before .before .event2 .given .1) (ap not (c .is-over2 .ensures kept))
+returns-2 c = λ kept. rw (c .before .before .event2 .given .1) (ap not (c .is-over2 .ensures kept _))
 
 returns-3 : tie.Need-returns-3
 returns-3 c = λ kept. sym (other-kind (c .before .args .event) _ _ (c .match .keys3))

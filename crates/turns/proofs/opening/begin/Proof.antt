@@ -1,7 +1,9 @@
 -- `turns::opening::begin` meets its contract. Assumes nothing.
 use borrow.Author.Tests.{not-true, not-false}
 use Rattle.turns.specs.Openings.{checked}
-use mathlib.Core.Path.{sym, _∙_}
+use mathlib.Core.Path.{refl, sym, _∙_}
+use Rattle.meaning.specs.Bytes.{zeros}
+use Rattle.meaning.specs.State.{labelLength}
 use Rattle.turns.proofs.Beginning.{not-plate}
 use borrow.Author.Needs.{needs}
 use Rattle.turns.proofs.opening.begin.Statement.{statement}
@@ -38,13 +40,13 @@ returns-2 : tie.Need-returns-2
 unfolding checked
 returns-2 c =
     let after-event = c .before .before .before in
-    rw (after-event .event .given .1, sym (c .before .is-ok .ensures) ∙ not-true _ (c .if1 .taken))
+    rw (after-event .event .given .1, sym (c .before .is-ok .ensures (zeros labelLength) refl) ∙ not-true _ (c .if1 .taken))
 
 returns-3 : tie.Need-returns-3
 unfolding checked
 returns-3 c =
     let after-event = c .before .before .before in
-    rw (after-event .event .given .1, sym (c .before .is-ok .ensures) ∙ not-false _ (c .if1 .left))
+    rw (after-event .event .given .1, sym (c .before .is-ok .ensures (zeros labelLength) refl) ∙ not-false _ (c .if1 .left))
 
 pub begin-spec : {M : Type 1} → statement M
 begin-spec =
