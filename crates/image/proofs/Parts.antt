@@ -19,7 +19,8 @@ use Rattle.image.proofs.Numbers.{lowest, three-lowest, four-lowest, the
 use Rattle.image.proofs.Standing.{places, flag-back, line-row, frame-again}
 
 -- the state is read from the front alone
-front-part : (k i n : ℕ) (s : List ℕ) → i + n ≤ k → part (take k s) i n ≡ part s i n
+-- a part of the front
+pub front-part : (k i n : ℕ) (s : List ℕ) → i + n ≤ k → part (take k s) i n ≡ part s i n
 unfolding part
 front-part k zero n s h = take-take n k s (omega arith)
 front-part zero (suc i) n s h = absurd (omega arith)

@@ -16,7 +16,8 @@ use Rattle.meaning.specs.Commands.{commandOf}
 use Rattle.meaning.specs.Frames as frames
 use Rattle.meaning.specs.Frames.{Outcome, dataOf, still, upTo, work, resting}
 use Rattle.meaning.specs.Run.{Call, character, poll, Held, step, called, lends, refusedBy}
-use Rattle.meaning.proofs.Choices.{both-left, pick-same}
+use Rattle.meaning.proofs.Choices.{true-told, pick-same}
+use Rattle.meaning.proofs.Limits.{to-lim}
 use Rattle.meaning.proofs.Puts.{length-put}
 use Rattle.line.specs.declared.plate.Plate as line
 use Rattle.line.specs.declared.characters.OpenFrame.{OpenFrame}
@@ -33,7 +34,7 @@ use Rattle.state.proofs.Answering.{put-nothing}
 use Rattle.board.specs.declared.closing.Closed.{Closed}
 use Rattle.board.specs.Work.{Ready, Answerable, WorksOn, Sends, Refused, Serves, Closes}
 use Rattle.board.proofs.Stepping.{no-line}
-use Rattle.board.proofs.Endings.{own-known, answerable, long, workable, refused, requested, worked-served}
+use Rattle.board.proofs.Endings.{long, workable, refused, requested, worked-served}
 use Rattle.image.specs.Image.{isCore, stateIn, frameIn, keptIn, heldIn, stateBytes, lineBytes, coreOf}
 use Rattle.image.specs.Writes.{PutsState, PutsEffect, PutsFrame, PutsBoard, Takes}
 use Rattle.image.proofs.Parts.{kept-length, front-length, state-as-it-was, same-front, state-length, puts-board}
@@ -179,7 +180,7 @@ module _ (p : Plate) (c : ℕ) (d core m w : List ℕ) {r : ℕ} {w′ : List �
   asked-in e small h = record { serves = h; state = state-said core e small }
 
   pub ordered-in : {e : Effect} {x : Answer} {core′ v : List ℕ} → longestReply ≤ length w → WorksOn (commandOf c) p (stateIn core) d m w (record { effect = e; answer = x }) m v
-      → PutsEffect e core core′ → Sends p (stateIn core′) c x v r w′ → ServedIn p c d core m w r core′ m w′
+      → PutsEffect e core core′ → Sends (stateIn core′) c x v r w′ → ServedIn p c d core m w r core′ m w′
   ordered-in {core′ = core′} wide h q y = record { serves = worked-served p (stateIn core) c d m w wide (stateIn core′) h (q .holds none) y; state = q .bytes }
 
 -- a frame whose close leaves the state
@@ -192,27 +193,28 @@ pub kept-of : (core : List ℕ) (n : ℕ) → n ≤ longestRequest → take (30 
 kept-of core n few = let i : 30 + n - 30 ≡ n = omega arith in rw i (sym (take-take n 135 (drop 30 core) few))
 
 -- what `close` asks
-pub ready : (p : line.Plate) (core m w : List ℕ) → Unrefused (plateOf p) core (length m) (length w) → Ready p (stateIn core) (frameIn core) (keptIn core) m w
-unfolding stateOk
-ready p core m w u =
+pub ready : (p : line.Plate) (label core m w : List ℕ) → Unrefused (plateOf p label) core (length m) (length w) → Ready p label (stateIn core) (frameIn core) (keptIn core) m w
+ready p label core m w u =
+    let l = to-lim (plateOf p label) (heldIn core) (true-told (stateOk (plateOf p label) (heldIn core)) (u .state)) in
     record {
       plate = u .plate;
-      counter = leb-true (stateIn core .counter) 0xFFFFFF (both-left (leb (stateIn core .counter) 0xFFFFFF) (both (ltb (stateIn core .offset) (2 ^ p .bits)) _) (u .state));
-      fits = fits (plateOf p) core m w u;
+      counter = l .counts;
+      address = l .placed;
+      fits = fits (plateOf p label) core m w u;
       size = u .size;
       room = u .wide;
     }
 
-module _ (p : line.Plate) (core m w : List ℕ) (u : Unrefused (plateOf p) core (length m) (length w)) where
-  pub low-own : p .address ≤ 31
-  low-own = own-known p (stateIn core) (frameIn core) (keptIn core) m w (ready p core m w u)
+module _ (p : line.Plate) (label core m w : List ℕ) (u : Unrefused (plateOf p label) core (length m) (length w)) where
+  pub low-own : stateIn core .address ≤ 31
+  low-own = ready p label core m w u .address
 
-  pub may-answer : Answerable p w
-  may-answer = answerable p (stateIn core) (frameIn core) (keptIn core) m w (ready p core m w u)
+  pub may-answer : Answerable (stateIn core) w
+  may-answer = record { address = low-own; room = u .wide }
 
   module _ {f : OpenFrame} (e : f ≡ frameIn core) where
-    ready-now : Ready p (stateIn core) f (keptIn core) m w
-    ready-now = rw e (ready p core m w u)
+    ready-now : Ready p label (stateIn core) f (keptIn core) m w
+    ready-now = rw e (ready p label core m w u)
 
     pub at-most : f .len ≤ longestRequest
     at-most = ready-now .fits .few
@@ -221,33 +223,33 @@ module _ (p : line.Plate) (core m w : List ℕ) (u : Unrefused (plateOf p) core 
     lent = kept-of core (f .len) at-most
 
     -- no request: the state stays
-    pub refused-in : (j : Judgement) (own : ℕ) {r : ℕ} {w′ : List ℕ} → ((i : ℕ) → arg core i < 256) → own ≡ ownByte (plateOf p) (stateWith (stateIn core) none)
-        → judgementOf own (frameOf f (take (30 + f .len - 30) (drop 30 core))) ≡ j → asking j ≡ false → Refused (plateOf p) (stateIn core) (codeToAnswer j) w r w′
-        → ClosedIn (plateOf p) core m w r core m w′
-    refused-in j own small o q n h = still-in (plateOf p) core m w e (u .bytes) small (refused (plateOf p) (stateIn core) f (keptIn core) m w o j (rw lent at q) n h)
+    pub refused-in : (j : Judgement) (own : ℕ) {r : ℕ} {w′ : List ℕ} → ((i : ℕ) → arg core i < 256) → own ≡ ownByte (stateWith (stateIn core) none)
+        → judgementOf own (frameOf f (take (30 + f .len - 30) (drop 30 core))) ≡ j → asking j ≡ false → Refused (stateIn core) (codeToAnswer j) w r w′
+        → ClosedIn (plateOf p label) core m w r core m w′
+    refused-in j own small o q n h = still-in (plateOf p label) core m w e (u .bytes) small (refused (plateOf p label) (stateIn core) f (keptIn core) m w o j (rw lent at q) n h)
 
     module _ (own : ℕ) {c : ℕ} (j : judgementOf own (frameOf f (take (30 + f .len - 30) (drop 30 core))) ≡ Request c) where
       pub three : 3 ≤ f .len
       three =
           omega (
             arith,
-            long p (stateIn core) f (keptIn core) m w ready-now own (take (30 + f .len - 30) (drop 30 core)) j,
+            long p label (stateIn core) f (keptIn core) m w ready-now own (take (30 + f .len - 30) (drop 30 core)) j,
             length-take (30 + f .len - 30) (drop 30 core),
           )
 
-      pub servable : Servable p c (30 + f .len) core m w
+      pub servable : Servable p label c (30 + f .len) core m w
       servable =
           record {
             bytes = u .bytes;
             starts = omega (arith, three);
             ends = omega (arith, at-most);
-            works = workable p (stateIn core) f (keptIn core) m w ready-now own (take (30 + f .len - 30) (drop 30 core)) j refl;
+            works = workable p label (stateIn core) f (keptIn core) m w ready-now own (take (30 + f .len - 30) (drop 30 core)) j refl;
           }
 
-      pub request-in : {r : ℕ} {core′ m′ w′ : List ℕ} → own ≡ ownByte (plateOf p) (stateWith (stateIn core) none)
-          → ServedIn (plateOf p) c (dataTo (30 + f .len) core) core m w r core′ m′ w′ → ClosedIn (plateOf p) core m w r core′ m′ w′
+      pub request-in : {r : ℕ} {core′ m′ w′ : List ℕ} → own ≡ ownByte (stateWith (stateIn core) none)
+          → ServedIn (plateOf p label) c (dataTo (30 + f .len) core) core m w r core′ m′ w′ → ClosedIn (plateOf p label) core m w r core′ m′ w′
       request-in {r} {core′} {m′} {w′} o s =
           let t : Closed = record { state = stateIn core′; sent = r } in
-          let y : Serves (plateOf p) (stateIn core) c (dataOf (take (f .len) (keptIn core))) m w (t .state) (t .sent) m′ w′ = rw lent at (s .serves) in
-          let x : Closes (plateOf p) (stateIn core) f (keptIn core) m w t m′ w′ = requested (plateOf p) (stateIn core) f (keptIn core) m w o (rw lent at j) y in
+          let y : Serves (plateOf p label) (stateIn core) c (dataOf (take (f .len) (keptIn core))) m w (t .state) (t .sent) m′ w′ = rw lent at (s .serves) in
+          let x : Closes (plateOf p label) (stateIn core) f (keptIn core) m w t m′ w′ = requested (plateOf p label) (stateIn core) f (keptIn core) m w o (rw lent at j) y in
           record { closes = rw e at x; state = s .state }

@@ -74,7 +74,7 @@ unfolding isOurs
 still-ours img core e n =
     let all : length img ≡ 212 = ours-length img e in
     let k : length (headIn img ++ core) ≡ 212 = length-append (headIn img) core ∙ rw (head-length img all, n) in
-    let l : eqb (arg img 0) 1 ≡ true = both-right (eqb (length img) 212) (eqb (arg img 0) 1) e in
+    let l : eqb (arg img 0) 2 ≡ true = both-right (eqb (length img) 212) (eqb (arg img 0) 2) e in
     rw (k, layout-stays img core all, l)
 
 pub lent-small : (img : List ℕ) → isOurs img ≡ true → ((i : ℕ) → arg img i < 256) → (i : ℕ) → arg (take 165 (drop 47 img)) i < 256

@@ -10,7 +10,7 @@ use lib.ListN.{length, take}
 use lib.Seq.{getD-take, length-take-le}
 use Rattle.meaning.specs.Bytes.{pick, zeros, among, arg}
 use Rattle.meaning.specs.State as meaning
-use Rattle.meaning.specs.State.{Plate, stateOk, poweredOn, withMeasured, withQueue, withLock, withLine}
+use Rattle.meaning.specs.State.{Plate, plateOk, stateOk, poweredOn, withMeasured, withQueue, withLock, withLine}
 use Rattle.meaning.specs.Frames.{still}
 use Rattle.meaning.specs.Run.{Call, measured, power-on, step, refusedBy, Heard}
 use Rattle.meaning.proofs.Calls.{served-otherwise}
@@ -29,16 +29,16 @@ use Rattle.quicksetter.proofs.Theorems.{on-image, qs-steps, qs-refused-
 use Rattle.quicksetter.proofs.Staying.{Holds, free-so, was-made, starts-so, starts-again, restart-holds, reached}
 use Rattle.quicksetter.proofs.Running.{enough, stays}
 
--- the lasting bytes of a core are those of codes, counter and offset
+-- the lasting bytes of a core are those of codes, counter, address and offset
 same-bytes : (s s′ : meaning.State) (m m′ places : List ℕ) → Keeps s m s′ m′ → lastingIn (coreOf s′ places) ≡ lastingIn (coreOf s places)
 unfolding coreOf stateBytes
-same-bytes s s′ m m′ places k = rw (k .codes, k .counter, k .offset)
+same-bytes s s′ m m′ places k = rw (k .codes, k .counter, k .address, k .offset)
 
 other-places : (s : meaning.State) (places others : List ℕ) → lastingIn (coreOf s places) ≡ lastingIn (coreOf s others)
 unfolding coreOf stateBytes
 other-places s places others = refl
 
--- an image that is written anew, with codes, counter and offset of another one of bytes, has its lasting bytes
+-- an image that is written anew, with codes, counter, address and offset of another one of bytes, has its lasting bytes
 written-lasts : (img : List ℕ) → isImage img ≡ true → ((i : ℕ) → arg img i < 256) → (off : List ℕ) → length off ≡ 212 → (s′ : meaning.State) (m m′ places : List ℕ)
     → Keeps (stateHeld img) m s′ m′ → lastingOf (headIn off ++ coreOf s′ places) ≡ lastingOf img
 unfolding isImage
@@ -97,13 +97,15 @@ qs-lasts img m w g r img′ m′ w′ c small idle = by (isImage img) refl
     by false e = untouched img m w g r img′ m′ w′ c (qs-no-image-untouched img m w g r img′ m′ w′ c e)
 
 pub qs-restart-is-power-on : QsRestartIsPowerOn
+unfolding startOk
 qs-restart-is-power-on img old img′ f =
     let p = plateHeld img in
     let l = lastingOf img in
     let t = starts-so p l old img′ f in
     let k : startOk p (rested l) old ≡ true = was-made (startOk p (rested l) old) (t .answer) in
+    let ok : plateOk p ≡ true = both-left (plateOk p) _ k in
     let e : img′ ≡ imageOf p (rested l) (zeros 135) = t .image ∙ ap (λ (b : Bool). pick b (imageOf p (rested l) (zeros 135)) old) k in
-    record { plate = ap plateHeld e ∙ plate-again p (rested l) (zeros 135); state = restart-holds p l old img′ f ∙ rested-as img }
+    record { plate = ap plateHeld e ∙ plate-again p (rested l) (zeros 135) ok; state = restart-holds p l old img′ f ∙ rested-as img }
 
 -- power-on and a measured position stay within the limits
 off-within : (p : Plate) (s : meaning.State) → stateOk p s ≡ true → stateOk p (withMeasured (poweredOn s) 0) ≡ true
@@ -133,7 +135,7 @@ kept-by : (b : Bool) (img m img′ m′ kept cells : List ℕ) → (b ≡ false 
 kept-by true img m img′ m′ kept cells l f = record { lasting = refl; memory = refl }
 kept-by false img m img′ m′ kept cells l f = record { lasting = f .lasting ∙ sym (l refl .lasting); memory = f .memory ∙ sym (l refl .memory) }
 
--- after a restart: codes, counter and offset are those that the flash had
+-- after a restart: codes, counter, address and offset are those that the flash had
 module _ (p : Plate) (img m old off : List ℕ) (n r : ℕ) (img′ : List ℕ) (h : Holds p img m) (small : (i : ℕ) → arg img i < 256) (f : Restarts p (lastingOf img) old 0 off)
     (c : (y w : List ℕ) → Called off y w (measured n) r img′ y w) where
   on : Holds p off m
@@ -146,6 +148,7 @@ module _ (p : Plate) (img m old off : List ℕ) (n r : ℕ) (img′ : List ℕ) 
       record {
         codes = ap (λ (s : meaning.State). s .codes) k;
         counter = ap (λ (s : meaning.State). s .counter) k;
+        address = ap (λ (s : meaning.State). s .address) k;
         offset = ap (λ (s : meaning.State). s .offset) k;
         memory = refl;
       }
@@ -187,4 +190,4 @@ qs-flash-runs p gs t img m kept cells h = let s = stands p gs t img m kept cells
 
 pub storing-bytes : StoringBytes
 unfolding mayChange among
-storing-bytes = record { marked = refl; plain = refl; error = refl; marked-error = refl; reading = refl; position = refl }
+storing-bytes = record { marked = refl; plain = refl; error = refl; marked-error = refl; address = refl; reading = refl; label = refl; position = refl }

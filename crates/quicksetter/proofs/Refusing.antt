@@ -19,7 +19,7 @@ use Rattle.line.specs.Line.{lineOf}
 use Rattle.state.specs.Queue.{waiting, queueOf}
 use Rattle.state.proofs.Places.{no-codes, sound-some}
 use Rattle.state.proofs.States.{within}
-use Rattle.image.specs.Image.{numberAt, isCore, stateIn, frameIn, keptIn, heldIn}
+use Rattle.image.specs.Image.{numberAt, countAt, isCore, stateIn, frameIn, keptIn, heldIn}
 use Rattle.image.proofs.Standing.{places}
 use Rattle.image.proofs.Parts.{kept-length}
 use Rattle.image.proofs.Round.{good}
@@ -108,22 +108,33 @@ pub lends-power-on : lends power-on ≡ false
 unfolding lends
 lends-power-on = refl
 
--- counter, plate, offset, waiting codes
-lost : (c q o a : Bool) → both c (both q o) ≡ false → either (not q) (not (both c (both o a))) ≡ true
-lost c false o a e = refl
-lost false true o a e = refl
-lost true true false a e = refl
-lost true true true a e = absurd (false≢true (sym e))
+-- counter, address, plate, offset, waiting codes
+lost : (c b q o a : Bool) → both c (both b (both q o)) ≡ false → either (not q) (not (both c (both b (both o a)))) ≡ true
+lost c b false o a e = refl
+lost false b true o a e = refl
+lost true false true o a e = refl
+lost true true true false a e = refl
+lost true true true true a e = absurd (false≢true (sym e))
 
-mixed : (c q o : Bool) → either (not q) (not (both c (both o false))) ≡ true
-mixed c false o = refl
-mixed false true o = refl
-mixed true true false = refl
-mixed true true true = refl
+mixed : (c b q o : Bool) → either (not q) (not (both c (both b (both o false)))) ≡ true
+mixed c b false o = refl
+mixed false b true o = refl
+mixed true false true o = refl
+mixed true true true false = refl
+mixed true true true true = refl
 
 -- what is told of the state's numbers
+abbrev counter-fits : List ℕ → Bool
+counter-fits core = leb (countAt core) 0xFFFFFF
+
+abbrev address-fits : List ℕ → Bool
+address-fits core = leb (arg core 7) 31
+
+abbrev offset-fits : Plate → List ℕ → Bool
+offset-fits p core = ltb (numberAt core 8) (2 ^ p .bits)
+
 state-told : (p : Plate) (core : List ℕ) → isCore core ≡ true
-    → both (leb (numberAt core 4) 0xFFFFFF) (both (ltb (numberAt core 8) (2 ^ p .bits)) (apart (queueOf (stateIn core .faults)))) ≡ stateOk p (heldIn core)
+    → both (counter-fits core) (both (address-fits core) (both (offset-fits p core) (apart (queueOf (stateIn core .faults))))) ≡ stateOk p (heldIn core)
 unfolding stateIn frameIn
 state-told p core e =
     let few : length (take (arg core 29) (keptIn core)) ≤ 135 = rw length-take (omega (arith, kept-length core ((good core e) .all))) in
@@ -139,32 +150,36 @@ module _ (p : Plate) (core : List ℕ) (m w : ℕ) where
   unfolding possible refusalIn
   impossible h = go (isCore core) refl h
     where
-      go : (t : Bool) → isCore core ≡ t → both t (both (leb (numberAt core 4) 0xFFFFFF) (both (plateOk p) (ltb (numberAt core 8) (2 ^ p .bits)))) ≡ false
+      go : (t : Bool) → isCore core ≡ t → both t (both (counter-fits core) (both (address-fits core) (both (plateOk p) (offset-fits p core)))) ≡ false
           → 1 ≡ refusalIn p core m w
       go false e k = rw e
-      go true e k = lost-state e (rw (← state-told p core e) (lost (leb (numberAt core 4) 0xFFFFFF) (plateOk p) (ltb (numberAt core 8) (2 ^ p .bits)) (apart (queueOf (stateIn core .faults))) k))
+      go true e k = lost-state e (rw (← state-told p core e) (lost (counter-fits core) (address-fits core) (plateOk p) (offset-fits p core) (apart (queueOf (stateIn core .faults))) k))
 
   module _ (h : possible p core ≡ true) where
     pub a-core : isCore core ≡ true
     unfolding possible
     a-core = both-left (isCore core) _ h
 
-    numbers : both (leb (numberAt core 4) 0xFFFFFF) (both (plateOk p) (ltb (numberAt core 8) (2 ^ p .bits))) ≡ true
+    numbers : both (counter-fits core) (both (address-fits core) (both (plateOk p) (offset-fits p core))) ≡ true
     unfolding possible
     numbers = both-right (isCore core) _ h
 
     pub unsound : apart (queueOf (stateIn core .faults)) ≡ false → 1 ≡ refusalIn p core m w
-    unsound a = lost-state a-core (rw (← state-told p core a-core, a) (mixed (leb (numberAt core 4) 0xFFFFFF) (plateOk p) (ltb (numberAt core 8) (2 ^ p .bits))))
+    unsound a = lost-state a-core (rw (← state-told p core a-core, a) (mixed (counter-fits core) (address-fits core) (plateOk p) (offset-fits p core)))
 
     module _ (a : apart (queueOf (stateIn core .faults)) ≡ true) where
+      rest : both (plateOk p) (offset-fits p core) ≡ true
+      rest = both-right (address-fits core) _ (both-right (counter-fits core) _ numbers)
+
       good-plate : plateOk p ≡ true
-      good-plate = both-left (plateOk p) _ (both-right (leb (numberAt core 4) 0xFFFFFF) _ numbers)
+      good-plate = both-left (plateOk p) _ rest
 
       good-state : stateOk p (heldIn core) ≡ true
       good-state =
-          let c : leb (numberAt core 4) 0xFFFFFF ≡ true = both-left (leb (numberAt core 4) 0xFFFFFF) _ numbers in
-          let o : ltb (numberAt core 8) (2 ^ p .bits) ≡ true = both-right (plateOk p) _ (both-right (leb (numberAt core 4) 0xFFFFFF) _ numbers) in
-          sym (state-told p core a-core) ∙ rw (c, o, a)
+          let c : counter-fits core ≡ true = both-left (counter-fits core) _ numbers in
+          let b : address-fits core ≡ true = both-left (address-fits core) _ (both-right (counter-fits core) _ numbers) in
+          let o : offset-fits p core ≡ true = both-right (plateOk p) _ rest in
+          sym (state-told p core a-core) ∙ rw (c, b, o, a)
 
       pub other-size : (m ≡ memoryLength (p .total) → ⊥) → 2 ≡ refusalIn p core m w
       unfolding refusalIn

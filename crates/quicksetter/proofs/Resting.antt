@@ -8,8 +8,8 @@ use Rattle.meaning.specs.Bytes.{arg}
 use Rattle.meaning.specs.State as meaning
 use Rattle.meaning.specs.State.{poweredOn, withMeasured, withQueue, withLock, withLine}
 use Rattle.state.specs.Queue.{queueOf, waiting}
-use Rattle.wire.proofs.Numbers.{little-at}
 use Rattle.image.specs.Image.{coreIn, stateIn, restedIn}
+use Rattle.image.proofs.Parts.{front-part}
 use Rattle.quicksetter.specs.Calls.{stateHeld, lastingOf, rested}
 
 pub measured-again : (s : meaning.State) (a b : ℕ) → withMeasured (withMeasured s a) b ≡ withMeasured s b
@@ -25,20 +25,11 @@ module _ (img : List ℕ) where
   unfolding restedIn stateIn queueOf waiting withMeasured poweredOn withQueue withLock withLine
   rested-as =
       rw (
-        little-at (lastingOf img) 4,
-        little-at (lastingOf img) 8,
-        little-at (coreIn img) 4,
-        little-at (coreIn img) 8,
+        front-part 12 4 3 (coreIn img) (omega arith),
+        front-part 12 8 4 (coreIn img) (omega arith),
         front 0 (omega arith),
         front 1 (omega arith),
         front 2 (omega arith),
         front 3 (omega arith),
-        front 4 (omega arith),
-        front 5 (omega arith),
-        front 6 (omega arith),
         front 7 (omega arith),
-        front 8 (omega arith),
-        front 9 (omega arith),
-        front 10 (omega arith),
-        front 11 (omega arith),
       )

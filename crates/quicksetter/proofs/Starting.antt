@@ -11,11 +11,12 @@ use lib.Seq.{take-at, drop-at, length-take-le}
 use Rattle.meaning.specs.Bytes.{part, put, zeros, little}
 use Rattle.meaning.specs.State as meaning
 use Rattle.meaning.specs.State.{Plate, none, plateOk, stateOk, fresh}
-use Rattle.meaning.proofs.Puts.{length-put}
+use Rattle.meaning.proofs.Puts.{length-put, part-put}
 use Rattle.meaning.proofs.Limits.{fresh-within}
-use Rattle.meaning.proofs.Choices.{both-false, told-true}
+use Rattle.meaning.proofs.Choices.{both-false, told-true, true-told}
 use Rattle.line.specs.declared.characters.OpenFrame.{OpenFrame}
-use Rattle.line.specs.Line.{lineOf, noFrame, Fits}
+use Rattle.line.specs.Line.{plateOf, lineOf, noFrame, Fits}
+use Rattle.line.proofs.Limits.{whole-label}
 use Rattle.state.specs.declared.state.State.{State}
 use Rattle.state.specs.State.{stateWith}
 use Rattle.state.specs.Queue.{queueOf, waiting}
@@ -25,7 +26,7 @@ use Rattle.image.specs.Writes.{frameRow, frameBytes, PutsBoard}
 use Rattle.image.proofs.Standing.{put-whole, Typed}
 use Rattle.image.proofs.Parts.{kept-length}
 use Rattle.image.proofs.Round.{state-round-trip, frame-round-trip, kept-round-trip}
-use Rattle.quicksetter.proofs.Heads.{core-back}
+use Rattle.quicksetter.proofs.Heads.{core-back, label-in-head}
 use Rattle.quicksetter.specs.Calls.{plateHeld, imageOf, startOk, Makes, rested, restartOk, Restarts}
 
 nothing-open : frameBytes noFrame ≡ lineBytes none
@@ -57,13 +58,20 @@ core-made core {s} {f} {after} {core′} all a c d =
     let x : keptIn (take 30 core ++ (after ++ drop 135 (drop 30 core))) ≡ zeros 135 = rw w y in
     d .bytes none ∙ ap (λ (v : List ℕ). stateBytes (stateWith s none) ++ (frameBytes f ++ v)) x ∙ rw (c, nothing-open, nothing-kept)
 
+-- a possible plate's head
+pub head-whole : (p : Plate) → plateOk p ≡ true → length (headOf p) ≡ 47
+unfolding headOf
+head-whole p ok = rw (whole-label p ok)
+
 -- head and core are written
-pub made : (p : Plate) (s : meaning.State) (img : List ℕ) {mid core′ : List ℕ} → length img ≡ 212 → mid ≡ put img 0 (headOf p) → core′ ≡ coreOf s (zeros 135)
+pub made : (p : Plate) (s : meaning.State) (img : List ℕ) {mid core′ : List ℕ} → plateOk p ≡ true → length img ≡ 212 → mid ≡ put img 0 (headOf p) → core′ ≡ coreOf s (zeros 135)
     → take 47 mid ++ (core′ ++ drop 165 (drop 47 mid)) ≡ imageOf p s (zeros 135)
-unfolding imageOf put headOf
-made p s img {mid} {core′} all a b =
+unfolding imageOf part
+made p s img {mid} {core′} ok all a b =
+    let n : length (headOf p) ≡ 47 = head-whole p ok in
     let long : length mid ≡ 212 = ap length a ∙ length-put img 0 (headOf p) (omega arith) ∙ all in
-    core-back mid core′ long ∙ rw (a, b)
+    let head : take 47 mid ≡ headOf p = ap (take 47) a ∙ part-put img 0 (headOf p) 47 (omega arith) n in
+    core-back mid core′ long ∙ rw (head, b)
 
 module _ (p : Plate) (s : meaning.State) (img : List ℕ) where
   refused-start : startOk p s img ≡ false → Makes p s img 257 img
@@ -87,8 +95,8 @@ module _ (p : Plate) (s : meaning.State) (img : List ℕ) where
       unfolding startOk
       started n a = let z : eqb (length img) 212 ≡ true = eq-eqb _ _ all in record { answer = rw (e, z, n); image = rw (e, z, n) a }
 
-pub fresh-fine : (p : Plate) → stateOk p (fresh p) ≡ true
-fresh-fine p = told-true (stateOk p (fresh p)) (fresh-within p)
+pub fresh-fine : (p : Plate) → plateOk p ≡ true → stateOk p (fresh p) ≡ true
+fresh-fine p ok = told-true (stateOk p (fresh p)) (fresh-within p (true-told (plateOk p) ok))
 
 -- another number of lasting bytes; else it starts from them
 pub no-lasting : (p : Plate) (lasting img : List ℕ) → (length lasting ≡ 12 → ⊥) → Restarts p lasting img 257 img
@@ -104,13 +112,14 @@ pub fresh-holds : (p : Plate) → heldIn (coreOf (fresh p) (zeros 135)) ≡ fres
 unfolding coreOf stateBytes lineBytes fresh none flagByte put stateIn frameIn part little queueOf waiting
 fresh-holds p = refl
 
-pub plate-again : (p : Plate) (s : meaning.State) (places : List ℕ) → plateHeld (imageOf p s places) ≡ p
-unfolding imageOf headOf plateOfHead
-plate-again p s places = refl
+module _ (p : Plate) (s : meaning.State) (places : List ℕ) (ok : plateOk p ≡ true) where
+  pub plate-again : plateHeld (imageOf p s places) ≡ p
+  unfolding imageOf headOf plateOfHead
+  plate-again = ap (plateOf (plateOfHead (imageOf p s places))) (label-in-head (headOf p) (coreOf s places) (head-whole p ok))
 
-pub core-again : (p : Plate) (s : meaning.State) (places : List ℕ) → coreIn (imageOf p s places) ≡ coreOf s places
-unfolding imageOf headOf
-core-again p s places = refl
+  pub core-again : coreIn (imageOf p s places) ≡ coreOf s places
+  unfolding imageOf
+  core-again = drop-at (headOf p) (coreOf s places) 47 (head-whole p ok)
 
 -- a state of the code's types, with no frame open
 pub made-holds : (s : State) → Typed s → heldIn (coreOf (stateWith s none) (zeros 135)) ≡ stateWith s none

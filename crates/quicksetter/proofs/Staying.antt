@@ -2,12 +2,12 @@
 use Prim.Native.Nat.{ℕ, _≤_, _^_}
 use native.Mathlib.Omega.{arith}
 use native.Mathlib.Nat.{pow-le-pow-right, zero-lt-suc}
-use mathlib.Core.Path.{_≡_, refl, sym, ap, subst, _∙_}
+use mathlib.Core.Path.{_≡_, refl, sym, ap, ap₂, subst, _∙_}
 use mathlib.Core.Bool.{Bool, true, false, false≢true}
 use mathlib.Core.List.{List, _++_}
 use borrow.Author.Tests.{eq-eqb, le-leb, le-ltb, leb-true, ltb-true}
 use lib.Dec.{T, eqb, leb, ltb}
-use lib.ListN.{length}
+use lib.ListN.{length, length-append}
 use Rattle.meaning.specs.Bytes.{pick, both, put, zeros}
 use Rattle.meaning.specs.State as meaning
 use Rattle.meaning.specs.State.{Plate, plateOk, stateOk, fresh, none}
@@ -28,7 +28,7 @@ use Rattle.image.proofs.Round.{good}
 use Rattle.quicksetter.specs.Calls.{isImage, plateHeld, stateHeld, lastingOf, imageAfter, imageOf, startOk, rested, restartOk, Called, Makes, Freshens, Restarts}
 use Rattle.quicksetter.specs.Promises.{Reached, start, next, off, QsNeverRefused}
 use Rattle.quicksetter.proofs.Heads.{ours-length, core-of-whole, plate-stays, still-ours}
-use Rattle.quicksetter.proofs.Starting.{nothing-long, fresh-holds, made-holds, plate-again, core-again}
+use Rattle.quicksetter.proofs.Starting.{nothing-long, head-whole, fresh-holds, made-holds, plate-again, core-again}
 use Rattle.quicksetter.proofs.Theorems.{on-image, qs-steps}
 
 flag-small : (b : Bool) → leb (flagByte b) 1 ≡ true
@@ -65,12 +65,13 @@ was-made true e = refl
 was-made false e = absurd (false≢true (ap (λ (n : ℕ). eqb n 257) e))
 
 -- the head of a plate before a core
-whole-image : (p : Plate) (s : meaning.State) → length (s .line .kept) ≤ 135 → isImage (imageOf p s (zeros 135)) ≡ true
+whole-image : (p : Plate) (s : meaning.State) → plateOk p ≡ true → length (s .line .kept) ≤ 135 → isImage (imageOf p s (zeros 135)) ≡ true
 unfolding isImage isOurs imageOf headOf
-whole-image p s few =
+whole-image p s ok few =
     let c : isCore (coreOf s (zeros 135)) ≡ true = core-of-state s (zeros 135) nothing-long few in
     let n : length (coreOf s (zeros 135)) ≡ 165 = good (coreOf s (zeros 135)) c .all in
-    rw (n, c)
+    let l : length (headOf p ++ coreOf s (zeros 135)) ≡ 212 = length-append (headOf p) (coreOf s (zeros 135)) ∙ rw (head-whole p ok, n) in
+    ap₂ both (eq-eqb _ _ l) (ap isCore (core-again p s (zeros 135) ok) ∙ c)
 
 -- a made image holds what it was made of
 made : (p : Plate) (s : meaning.State) (old img m : List ℕ) → Makes p s old 0 img → heldIn (coreOf s (zeros 135)) ≡ s → length (s .line .kept) ≤ 135
@@ -78,12 +79,13 @@ made : (p : Plate) (s : meaning.State) (old img m : List ℕ) → Makes p s old 
 unfolding startOk
 made p s old img m f again few l =
     let k : startOk p s old ≡ true = was-made (startOk p s old) (f .answer) in
+    let ok : plateOk p ≡ true = both-left (plateOk p) (both (eqb (length old) 212) (stateOk p s)) k in
     let e : img ≡ imageOf p s (zeros 135) = f .image ∙ ap (λ (b : Bool). pick b (imageOf p s (zeros 135)) old) k in
-    let h : stateHeld img ≡ s = ap stateHeld e ∙ ap heldIn (core-again p s (zeros 135)) ∙ again in
+    let h : stateHeld img ≡ s = ap stateHeld e ∙ ap heldIn (core-again p s (zeros 135) ok) ∙ again in
     record {
-      plate = both-left (plateOk p) (both (eqb (length old) 212) (stateOk p s)) k;
-      told = ap plateHeld e ∙ plate-again p s (zeros 135);
-      image = rw e (whole-image p s few);
+      plate = ok;
+      told = ap plateHeld e ∙ plate-again p s (zeros 135) ok;
+      image = rw e (whole-image p s ok few);
       state = rw h (both-right (eqb (length old) 212) (stateOk p s) (both-right (plateOk p) (both (eqb (length old) 212) (stateOk p s)) k));
       size = l;
     }
@@ -135,7 +137,7 @@ module _ (p : Plate) (lasting old img : List ℕ) (f : Restarts p lasting old 0 
   restart-holds =
       let s = starts-so p lasting old img f in
       let e : img ≡ imageOf p (rested lasting) (zeros 135) = s .image ∙ ap (λ (b : Bool). pick b (imageOf p (rested lasting) (zeros 135)) old) begun in
-      ap stateHeld e ∙ ap heldIn (core-again p (rested lasting) (zeros 135)) ∙ again
+      ap stateHeld e ∙ ap heldIn (core-again p (rested lasting) (zeros 135) good-plate) ∙ again
 
   pub starts-again : (m : List ℕ) → length m ≡ memoryLength (p .total) → Holds p img m
   unfolding none
@@ -160,7 +162,7 @@ goes-on p img m w g r img′ m′ w′ h wide c =
     let after : img′ ≡ headIn img ++ coreOf x k = c .image ∙ rw (on-image img m w g (h .image), o .unrefused, o .after) in
     let y : isCore (coreOf x k) ≡ true = core-of-state x k (kept-length (coreIn img) (good (coreIn img) core .all)) (to-lim P x within .keeps) in
     let all : length img ≡ 212 = ours-length img ours in
-    let told : plateHeld img′ ≡ p = ap plateHeld after ∙ ap plateOf (plate-stays img (coreOf x k) all) ∙ h .told in
+    let told : plateHeld img′ ≡ p = ap plateHeld after ∙ plate-stays img (coreOf x k) all ∙ h .told in
     let v : stateOk P (stateHeld img′) ≡ true = rw (t .after) (told-true (stateOk P x) within) in
     let u : length m′ ≡ memoryLength (P .total) = rw (t .kept) (keeps-size P s m g (subst (λ (q : Plate). length m ≡ memoryLength (q .total)) (sym (h .told)) (h .size))) in
     record {
