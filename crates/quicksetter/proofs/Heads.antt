@@ -35,9 +35,9 @@ pub core-back : (img core : List ℕ) → length img ≡ 212 → take 47 img ++ 
 core-back img core all =
     ap (λ (x : List ℕ). take 47 img ++ (core ++ x)) (drop-drop 165 47 img ∙ drop-of-length-le img {i = 212} (omega arith)) ∙ ap (λ (x : List ℕ). take 47 img ++ x) (append-nil core)
 
-pub label-length : (img : List ℕ) → length img ≡ 212 → length (labelIn img) ≡ 41
+pub ours-label : (img : List ℕ) → isOurs img ≡ true → length (labelIn img) ≡ 41
 unfolding part
-label-length img all = length-take-le 41 (drop 6 img) (rw length-drop (omega arith))
+ours-label img e = length-take-le 41 (drop 6 img) (rw (length-drop, ours-length img e) (omega arith))
 
 -- plate and layout number are read from the head alone
 numbers-front : (img : List ℕ) → plateOfHead (headIn img) ≡ plateOfHead img

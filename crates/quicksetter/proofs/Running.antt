@@ -8,7 +8,7 @@ use lib.Dec.{T, lit<}
 use lib.ListN.{length, length-replicate, getD, take, drop}
 use Rattle.meaning.specs.Bytes.{pick, arg, zeros}
 use Rattle.meaning.specs.State as meaning
-use Rattle.meaning.specs.State.{Plate, fresh, ownByte, poweredOn, withMeasured}
+use Rattle.meaning.specs.State.{Plate, plateOk, stateOk, fresh, ownByte, poweredOn, withLine, withMeasured}
 use Rattle.meaning.specs.Fields.{memoryLength}
 use Rattle.meaning.specs.Characters.{over, closed}
 use Rattle.meaning.specs.Commands.{commandOf, Answer, refuse, accept, quiet, freeByte, readField, memoryStatus, worked}
@@ -17,7 +17,8 @@ use Rattle.meaning.specs.Run.{Call, character, poll, measured, fault, power-on,
 use Rattle.meaning.specs.Bench.{bare}
 use Rattle.meaning.specs.Ledger.{fieldsOf, granted, back, byteOf, Agrees, Honest, Wanted, roomReply, BringsTold}
 use Rattle.meaning.specs.Demands.{Sent, meant}
-use Rattle.meaning.proofs.Choices.{pick-true}
+use Rattle.meaning.proofs.Choices.{pick-true, both-left, true-told}
+use Rattle.meaning.proofs.Limits.{to-lim}
 use Rattle.meaning.proofs.Replies.{reply-command}
 use Rattle.meaning.proofs.Wire.{data-sealed, work-request}
 use Rattle.meaning.proofs.Whole.{memory-by-traffic}
@@ -25,7 +26,7 @@ use Rattle.meaning.proofs.Alone.{traffic-alone}
 use Rattle.meaning.proofs.Honest.{carried-the-code}
 use Rattle.meaning.proofs.Room.{refused-for-want-of-room, free-by-traffic}
 use Rattle.meaning.proofs.Told.{reads-by-traffic}
-use Rattle.line.proofs.Limits.{low-address}
+use Rattle.line.proofs.Limits.{whole-label}
 use Rattle.image.specs.Image.{heldIn}
 use Rattle.quicksetter.specs.Calls.{stateHeld, lastingOf, imageOf, startOk, rested, Called}
 use Rattle.quicksetter.specs.Promises.{Ran, began, called, restarted, QsRuns, QsMemoryByTraffic, QsTrafficAlone, QsCarriedTheCode, ClosesNext, closes-next, QsRefusedForRoom, QsRepliesAsMeant, QsFreeByTraffic, QsReadsByTraffic}
@@ -53,11 +54,12 @@ off-state : (img₀ : List ℕ) (n : ℕ) → withMeasured (rested (lastingOf im
 off-state img₀ n = ap (λ (s : meaning.State). withMeasured s n) (rested-as img₀) ∙ measured-again (poweredOn (stateHeld img₀)) 0 n
 
 pub qs-runs : QsRuns
-unfolding run runFrom still traffic step heard closes
+unfolding run runFrom still traffic step heard closes startOk
 qs-runs p _ _ img _ _ (began old _ f) =
     let k : startOk p (fresh p) old ≡ true = was-made (startOk p (fresh p) old) (f .answer) in
+    let ok : plateOk p ≡ true = both-left (plateOk p) _ k in
     let e : img ≡ imageOf p (fresh p) (zeros 135) = f .image ∙ ap (λ (b : Bool). pick b (imageOf p (fresh p) (zeros 135)) old) k in
-    record { state = ap stateHeld e ∙ ap heldIn (core-again p (fresh p) (zeros 135)) ∙ fresh-holds p; memory = refl; reply = refl; wire = refl }
+    record { state = ap stateHeld e ∙ ap heldIn (core-again p (fresh p) (zeros 135) ok) ∙ fresh-holds p; memory = refl; reply = refl; wire = refl }
 qs-runs p _ _ img m _ (called gs t img₀ m₀ x w g r _ _ w′ h wide c) =
     let k = stays p gs t img₀ m₀ x h in
     let s = steps-so p img₀ m₀ w g r img m w′ k wide c in
@@ -124,12 +126,12 @@ qs-refused-for-room p t img m _ (closes-next gs x w g r img′ m′ w′ h wide 
     (refused-for-want-of-room p gs (z .0)) (z .1 .0) W
 
 pub qs-replies-as-meant : QsRepliesAsMeant
-unfolding upTo close meant ownByte
+unfolding upTo close meant ownByte resting withLine
 qs-replies-as-meant p t img m _ a c d (closes-next gs x w g r img′ m′ w′ h wide q o) A =
     let s = stateHeld img in
     let k = stays p gs t img m x h in
     let z = closing p s m g o in
-    let sent : Sent p (resting s) m a c d = record { address = low-address p (k .plate); size = k .size; ours = A .ours; may = A .may } in
+    let sent : Sent p (resting s) m a c d = record { address = to-lim p s (true-told (stateOk p s) (k .state)) .placed; label = whole-label p (k .plate); size = k .size; ours = A .ours; may = A .may } in
     replies p img m w g r img′ m′ w′ k wide q ∙ z .1 .1
     ∙ ap (λ (u : Outcome). u .reply) (pick-true (over p s (z .0)) (close p s m (z .0)) _ (z .1 .0)
     ∙ ap (work p (resting s) m) (A .frame) ∙ work-request p (resting s) m a c d sent)
@@ -154,7 +156,7 @@ module _ (p : Plate) (s : meaning.State) (m : List ℕ) (t : List Heard) (d : Li
       → (i : ℕ) → i < arg d 2 → getD (drop 3 (dataOf ((outcome s m 0x4A b) .reply))) i 0 ≡ byteOf t (arg d 0) (arg d 1 + i)
   unfolding outcome bare message
   brought (refuse e) h k i l =
-      let c : getD (message s 0x50 (e ∷ [])) 1 0 % 128 ≡ 0x50 = reply-command p s 0x50 (e ∷ []) (lit< tt) in
+      let c : getD (message s 0x50 (e ∷ [])) 1 0 % 128 ≡ 0x50 = reply-command s 0x50 (e ∷ []) (lit< tt) in
       absurd (omega (arith, c))
   brought (accept r s′ m′) h k i l = rw (data-sealed (ownByte s′) (warned 0x4A (s′ .queue)) r) (h i l)
   brought (quiet s′ m′) h k i l = absurd (omega arith)

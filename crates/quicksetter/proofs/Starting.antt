@@ -12,7 +12,7 @@ use Rattle.meaning.specs.Bytes.{part, put, zeros, little}
 use Rattle.meaning.specs.State as meaning
 use Rattle.meaning.specs.State.{Plate, none, plateOk, stateOk, fresh}
 use Rattle.meaning.proofs.Puts.{length-put, part-put}
-use Rattle.meaning.proofs.Limits.{fresh-within}
+use Rattle.meaning.proofs.Limits.{to-lim, fresh-within}
 use Rattle.meaning.proofs.Choices.{both-false, told-true, true-told}
 use Rattle.line.specs.declared.characters.OpenFrame.{OpenFrame}
 use Rattle.line.specs.Line.{plateOf, lineOf, noFrame, Fits}
@@ -94,6 +94,18 @@ module _ (p : Plate) (s : meaning.State) (img : List ℕ) where
       pub started : {img′ : List ℕ} → stateOk p s ≡ true → img′ ≡ imageOf p s (zeros 135) → Makes p s img 0 img′
       unfolding startOk
       started n a = let z : eqb (length img) 212 ≡ true = eq-eqb _ _ all in record { answer = rw (e, z, n); image = rw (e, z, n) a }
+
+pub no-label : (p : Plate) → (length (p .label) ≡ 41 → ⊥) → plateOk p ≡ false
+unfolding plateOk
+no-label p n = simp (ne-eqb (length (p .label)) 41 n, both-false)
+
+-- a possible state's counter
+pub state-counts : (p : Plate) (s : State) → stateOk p (stateWith s none) ≡ true → s .counter ≤ 0xFFFFFF
+state-counts p s ok = to-lim p (stateWith s none) (true-told (stateOk p (stateWith s none)) ok) .counts
+
+pub fresh-counts : (p : Plate) (s : State) → stateWith s none ≡ fresh p → s .counter ≤ 0xFFFFFF
+unfolding fresh
+fresh-counts p s e = omega (arith, ap (λ (x : meaning.State). x .counter) e)
 
 pub fresh-fine : (p : Plate) → plateOk p ≡ true → stateOk p (fresh p) ≡ true
 fresh-fine p ok = told-true (stateOk p (fresh p)) (fresh-within p (true-told (plateOk p) ok))

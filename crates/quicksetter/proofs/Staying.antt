@@ -71,7 +71,8 @@ whole-image p s ok few =
     let c : isCore (coreOf s (zeros 135)) ≡ true = core-of-state s (zeros 135) nothing-long few in
     let n : length (coreOf s (zeros 135)) ≡ 165 = good (coreOf s (zeros 135)) c .all in
     let l : length (headOf p ++ coreOf s (zeros 135)) ≡ 212 = length-append (headOf p) (coreOf s (zeros 135)) ∙ rw (head-whole p ok, n) in
-    ap₂ both (eq-eqb _ _ l) (ap isCore (core-again p s (zeros 135) ok) ∙ c)
+    let k : coreIn (headOf p ++ coreOf s (zeros 135)) ≡ coreOf s (zeros 135) = core-again p s (zeros 135) ok in
+    rw (k, l, c)
 
 -- a made image holds what it was made of
 made : (p : Plate) (s : meaning.State) (old img m : List ℕ) → Makes p s old 0 img → heldIn (coreOf s (zeros 135)) ≡ s → length (s .line .kept) ≤ 135

@@ -17,7 +17,7 @@ use Rattle.image.specs.Image.{isOurs, isCore, headIn, coreIn, plateOfHead, labe
 use Rattle.image.specs.Writes.{Takes}
 use Rattle.image.proofs.Round.{good}
 use Rattle.quicksetter.specs.Calls.{plateHeld, stateHeld, Called}
-use Rattle.quicksetter.specs.Cores.{refusalIn, Unrefused, ShutIn, ImageUnrefused, ImageShuts, ImagePolls}
+use Rattle.quicksetter.specs.Cores.{refusalIn, Unrefused, ImageUnrefused, ImageShuts, ImagePolls}
 use Rattle.quicksetter.proofs.Heads.{ours-length, head-length, core-of-whole, lent-core, core-back, called-of}
 use Rattle.quicksetter.proofs.Refusing.{refused-as, refused-alone, unrefused}
 use Rattle.quicksetter.proofs.Closing.{nothing-over, core-again, then-taken}
@@ -25,7 +25,7 @@ use Rattle.quicksetter.proofs.Closing.{nothing-over, core-again, then-t
 pub some-refusal : {n : ℕ} → suc n ≡ 0 → ⊥
 some-refusal e = omega (arith, e)
 
-joined : (img : List ℕ) → img ≡ headIn img ++ coreIn img
+pub joined : (img : List ℕ) → img ≡ headIn img ++ coreIn img
 joined img = sym (take-append-drop 47 img)
 
 -- of an image with our head, whose plate was read and whose core was lent
@@ -55,14 +55,6 @@ module _ (img m w : List ℕ) (e : isOurs img ≡ true) {p : line.Plate} (q : p 
 
   pub core-workable : {n k : ℕ} → Unrefused (plateHeld img) (coreIn img) n k → Unrefused (plateOf p (labelIn img)) (take 165 (drop 47 img)) n k
   core-workable u = rw (q, lent-core img all) u
-
-  -- the frame is closed in the core
-  pub shuts : {r : ℕ} {core′ m′ w′ : List ℕ} → ShutIn (plateOf p (labelIn img)) (take 165 (drop 47 img)) m w r core′ m′ w′ → ImageShuts img m w r (take 47 img ++ (core′ ++ drop 165 (drop 47 img))) m′ w′
-  shuts {r} {core′} {m′} {w′} s =
-      let k : ShutIn (plateHeld img) (coreIn img) m w r core′ m′ w′ = rw (q, lent-core img all) at s in
-      let i : take 47 img ++ (core′ ++ drop 165 (drop 47 img)) ≡ headIn img ++ core′ = core-back img core′ all in
-      let d : coreIn (take 47 img ++ (core′ ++ drop 165 (drop 47 img))) ≡ core′ = ap coreIn i ∙ core-of-whole img core′ all in
-      record { core = rw d k; head = rw d i }
 
 -- of an image that is not refused
 module _ (img m w : List ℕ) (u : ImageUnrefused img (length m) (length w)) (tick : ℕ) where

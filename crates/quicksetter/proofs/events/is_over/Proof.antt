@@ -15,7 +15,7 @@ is-over-requires : tie.Need-is-over-requires
 is-over-requires c κs = search needs
 
 returns : tie.Need-returns
-returns c = over-in _ _ _ (c .before .frame-in .ensures) (c .is-over .ensures)
+returns c = λ l. over-in _ _ _ (c .before .frame-in .ensures) (λ s kept e. c .is-over .ensures s kept l e)
 
 pub is-over-spec : {M : Type 1} → statement M
 is-over-spec = tie.close (tie.spec frame-in-requires is-over-requires returns)

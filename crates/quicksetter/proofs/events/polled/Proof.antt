@@ -54,7 +54,7 @@ returns c =
     let after-is-over = after-if1 .before in
     let after-plate-in = after-is-over .before .before .before in
     let start = after-plate-in .before .before .before .before .before in
-    let o = sym (over-so _ (now (start .args .memory)) (now (start .args .room)) (start .pre .ours) (after-plate-in .plate-in .ensures) _ (after-is-over .is-over .ensures)) ∙ after-if1 .if1 .taken in
+    let o = sym (over-so _ (now (start .args .memory)) (now (start .args .room)) (start .pre .ours) (after-plate-in .plate-in .ensures) _ (after-is-over .is-over .ensures _)) ∙ after-if1 .if1 .taken in
     polled-over _ (now (start .args .memory)) (now (start .args .room)) (start .pre) _ o (after-shut .shut .ensures)
 
 same-length-4 : tie.Need-same-length-4
@@ -65,7 +65,7 @@ returns-2 c =
     let after-plate-in = c .before .before .before .before in
     let after-slice-known = after-plate-in .before .before .before .before in
     let start = after-slice-known .before in
-    let o = sym (over-so _ (now (start .args .memory)) (now (start .args .room)) (start .pre .ours) (after-plate-in .plate-in .ensures) _ (c .before .is-over .ensures)) ∙ c .if1 .left in
+    let o = sym (over-so _ (now (start .args .memory)) (now (start .args .room)) (start .pre .ours) (after-plate-in .plate-in .ensures) _ (c .before .is-over .ensures _)) ∙ c .if1 .left in
     polled-early _ (now (start .args .memory)) (now (start .args .room)) (start .pre) _ (λ i. (after-slice-known .slice-known .given i) .fits) o
 
 pub polled-spec : {M : Type 1} → statement M

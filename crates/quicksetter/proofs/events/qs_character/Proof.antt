@@ -7,7 +7,7 @@ use lib.ListN.{length}
 use Rattle.image.specs.Image.{isOurs}
 use Rattle.quicksetter.specs.Cores.{ImageUnrefused}
 use borrow.Author.Tests.{not-true, not-false}
-use Rattle.quicksetter.proofs.Heads.{ours-length, not-ours}
+use Rattle.quicksetter.proofs.Heads.{ours-length, ours-label, not-ours}
 use Rattle.quicksetter.proofs.Refusing.{lends-character, impossible, unsound, other-size, too-narrow, none-applies}
 use Rattle.quicksetter.proofs.Wholes.{some-refusal, refused-whole, workable, as-long, lent-still, character-whole}
 use borrow.Author.Needs.{needs}
@@ -50,7 +50,7 @@ fine c =
     let after-if1 = after-plate-in .before .before in
     let start = after-if1 .before .before .before .before .before .before in
     workable _ (now (start .args .memory)) (now (start .args .room)) (ours (after-if1)) (after-plate-in .plate-in .ensures)
-    (none-applies _ _ _ _ (sym (after-is-possible .is-possible .ensures) ∙ not-false _ (after-if2 .if2 .left)) (sym (after-is-sound .is-sound .ensures) ∙ not-false _ (after-if3 .if3 .left)) (c .before .if4 .left ∙ after-memory-length .memory-length .ensures) (c .if5 .left))
+    (none-applies _ _ _ _ (sym (after-is-possible .is-possible .ensures _ (ours-label _ (ours (after-if1)))) ∙ not-false _ (after-if2 .if2 .left)) (sym (after-is-sound .is-sound .ensures) ∙ not-false _ (after-if3 .if3 .left)) (c .before .if4 .left ∙ after-memory-length .memory-length .ensures) (c .if5 .left))
 
 is-ours-requires : tie.Need-is-ours-requires
 is-ours-requires c κs = search needs
@@ -93,7 +93,7 @@ returns-2 c =
     let after-if1 = after-plate-in .before .before in
     let start = after-if1 .before .before .before .before .before .before in
     refused-whole _ (now (start .args .memory)) (now (start .args .room)) (ours (after-if1)) (after-plate-in .plate-in .ensures) _ (lends-character _ _ _)
-    (impossible _ _ _ _ (sym (c .before .is-possible .ensures) ∙ not-true _ (c .if2 .taken))) some-refusal
+    (impossible _ _ _ _ (sym (c .before .is-possible .ensures _ (ours-label _ (ours (after-if1)))) ∙ not-true _ (c .if2 .taken))) some-refusal
 
 sub-is-sound : tie.Need-sub-is-sound
 sub-is-sound c = search needs
@@ -123,7 +123,7 @@ returns-3 c =
     let after-if1 = after-plate-in .before .before in
     let start = after-if1 .before .before .before .before .before .before in
     refused-whole _ (now (start .args .memory)) (now (start .args .room)) (ours (after-if1)) (after-plate-in .plate-in .ensures) _ (lends-character _ _ _)
-    (unsound _ _ _ _ (sym (after-is-possible .is-possible .ensures) ∙ not-false _ (after-if2 .if2 .left)) (sym (c .before .is-sound .ensures) ∙ not-true _ (c .if3 .taken))) some-refusal
+    (unsound _ _ _ _ (sym (after-is-possible .is-possible .ensures _ (ours-label _ (ours (after-if1)))) ∙ not-false _ (after-if2 .if2 .left)) (sym (c .before .is-sound .ensures) ∙ not-true _ (c .if3 .taken))) some-refusal
 
 memory-length-requires : tie.Need-memory-length-requires
 memory-length-requires c κs = search needs
@@ -144,7 +144,7 @@ returns-4 c =
     let after-if1 = after-plate-in .before .before in
     let start = after-if1 .before .before .before .before .before .before in
     refused-whole _ (now (start .args .memory)) (now (start .args .room)) (ours (after-if1)) (after-plate-in .plate-in .ensures) _ (lends-character _ _ _)
-    (other-size _ _ _ _ (sym (after-is-possible .is-possible .ensures) ∙ not-false _ (after-if2 .if2 .left)) (sym (after-is-sound .is-sound .ensures) ∙ not-false _ (after-if3 .if3 .left))
+    (other-size _ _ _ _ (sym (after-is-possible .is-possible .ensures _ (ours-label _ (ours (after-if1)))) ∙ not-false _ (after-if2 .if2 .left)) (sym (after-is-sound .is-sound .ensures) ∙ not-false _ (after-if3 .if3 .left))
     (λ e. c .if4 .taken (e ∙ sym (c .before .memory-length .ensures)))) some-refusal
 
 add-result-5 : tie.Need-add-result-5
@@ -164,7 +164,7 @@ returns-5 c =
     let after-if1 = after-plate-in .before .before in
     let start = after-if1 .before .before .before .before .before .before in
     refused-whole _ (now (start .args .memory)) (now (start .args .room)) (ours (after-if1)) (after-plate-in .plate-in .ensures) _ (lends-character _ _ _)
-    (too-narrow _ _ _ _ (sym (after-is-possible .is-possible .ensures) ∙ not-false _ (after-if2 .if2 .left)) (sym (after-is-sound .is-sound .ensures) ∙ not-false _ (after-if3 .if3 .left))
+    (too-narrow _ _ _ _ (sym (after-is-possible .is-possible .ensures _ (ours-label _ (ours (after-if1)))) ∙ not-false _ (after-if2 .if2 .left)) (sym (after-is-sound .is-sound .ensures) ∙ not-false _ (after-if3 .if3 .left))
     (c .before .if4 .left ∙ after-memory-length .memory-length .ensures) (c .if5 .taken)) some-refusal
 
 polled-requires : tie.Need-polled-requires

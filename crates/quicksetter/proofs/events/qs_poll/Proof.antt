@@ -7,7 +7,7 @@ use lib.ListN.{length}
 use Rattle.image.specs.Image.{isOurs}
 use Rattle.quicksetter.specs.Cores.{ImageUnrefused}
 use borrow.Author.Tests.{not-true, not-false}
-use Rattle.quicksetter.proofs.Heads.{ours-length, not-ours}
+use Rattle.quicksetter.proofs.Heads.{ours-length, ours-label, not-ours}
 use Rattle.quicksetter.proofs.Refusing.{lends-poll, impossible, unsound, other-size, too-narrow, none-applies}
 use Rattle.quicksetter.proofs.Wholes.{some-refusal, refused-whole, workable, over-so, polled-over, polled-early, poll-whole}
 use borrow.Author.Needs.{needs}
@@ -49,7 +49,7 @@ fine c =
     let after-if1 = after-plate-in .before .before in
     let start = after-if1 .before .before .before .before .before .before in
     workable _ (now (start .args .memory)) (now (start .args .room)) (ours (after-if1)) (after-plate-in .plate-in .ensures)
-    (none-applies _ _ _ _ (sym (after-is-possible .is-possible .ensures) ∙ not-false _ (after-if2 .if2 .left)) (sym (after-is-sound .is-sound .ensures) ∙ not-false _ (after-if3 .if3 .left)) (c .before .if4 .left ∙ after-memory-length .memory-length .ensures) (c .if5 .left))
+    (none-applies _ _ _ _ (sym (after-is-possible .is-possible .ensures _ (ours-label _ (ours (after-if1)))) ∙ not-false _ (after-if2 .if2 .left)) (sym (after-is-sound .is-sound .ensures) ∙ not-false _ (after-if3 .if3 .left)) (c .before .if4 .left ∙ after-memory-length .memory-length .ensures) (c .if5 .left))
 
 is-ours-requires : tie.Need-is-ours-requires
 is-ours-requires c κs = search needs
@@ -92,7 +92,7 @@ returns-2 c =
     let after-if1 = after-plate-in .before .before in
     let start = after-if1 .before .before .before .before .before .before in
     refused-whole _ (now (start .args .memory)) (now (start .args .room)) (ours (after-if1)) (after-plate-in .plate-in .ensures) _ (lends-poll _)
-    (impossible _ _ _ _ (sym (c .before .is-possible .ensures) ∙ not-true _ (c .if2 .taken))) some-refusal
+    (impossible _ _ _ _ (sym (c .before .is-possible .ensures _ (ours-label _ (ours (after-if1)))) ∙ not-true _ (c .if2 .taken))) some-refusal
 
 sub-is-sound : tie.Need-sub-is-sound
 sub-is-sound c = search needs
@@ -122,7 +122,7 @@ returns-3 c =
     let after-if1 = after-plate-in .before .before in
     let start = after-if1 .before .before .before .before .before .before in
     refused-whole _ (now (start .args .memory)) (now (start .args .room)) (ours (after-if1)) (after-plate-in .plate-in .ensures) _ (lends-poll _)
-    (unsound _ _ _ _ (sym (after-is-possible .is-possible .ensures) ∙ not-false _ (after-if2 .if2 .left)) (sym (c .before .is-sound .ensures) ∙ not-true _ (c .if3 .taken))) some-refusal
+    (unsound _ _ _ _ (sym (after-is-possible .is-possible .ensures _ (ours-label _ (ours (after-if1)))) ∙ not-false _ (after-if2 .if2 .left)) (sym (c .before .is-sound .ensures) ∙ not-true _ (c .if3 .taken))) some-refusal
 
 memory-length-requires : tie.Need-memory-length-requires
 memory-length-requires c κs = search needs
@@ -143,7 +143,7 @@ returns-4 c =
     let after-if1 = after-plate-in .before .before in
     let start = after-if1 .before .before .before .before .before .before in
     refused-whole _ (now (start .args .memory)) (now (start .args .room)) (ours (after-if1)) (after-plate-in .plate-in .ensures) _ (lends-poll _)
-    (other-size _ _ _ _ (sym (after-is-possible .is-possible .ensures) ∙ not-false _ (after-if2 .if2 .left)) (sym (after-is-sound .is-sound .ensures) ∙ not-false _ (after-if3 .if3 .left))
+    (other-size _ _ _ _ (sym (after-is-possible .is-possible .ensures _ (ours-label _ (ours (after-if1)))) ∙ not-false _ (after-if2 .if2 .left)) (sym (after-is-sound .is-sound .ensures) ∙ not-false _ (after-if3 .if3 .left))
     (λ e. c .if4 .taken (e ∙ sym (c .before .memory-length .ensures)))) some-refusal
 
 add-result-5 : tie.Need-add-result-5
@@ -163,7 +163,7 @@ returns-5 c =
     let after-if1 = after-plate-in .before .before in
     let start = after-if1 .before .before .before .before .before .before in
     refused-whole _ (now (start .args .memory)) (now (start .args .room)) (ours (after-if1)) (after-plate-in .plate-in .ensures) _ (lends-poll _)
-    (too-narrow _ _ _ _ (sym (after-is-possible .is-possible .ensures) ∙ not-false _ (after-if2 .if2 .left)) (sym (after-is-sound .is-sound .ensures) ∙ not-false _ (after-if3 .if3 .left))
+    (too-narrow _ _ _ _ (sym (after-is-possible .is-possible .ensures _ (ours-label _ (ours (after-if1)))) ∙ not-false _ (after-if2 .if2 .left)) (sym (after-is-sound .is-sound .ensures) ∙ not-false _ (after-if3 .if3 .left))
     (c .before .if4 .left ∙ after-memory-length .memory-length .ensures) (c .if5 .taken)) some-refusal
 
 sub-is-over : tie.Need-sub-is-over
@@ -206,7 +206,7 @@ returns-6 c =
     let after-plate-in = after-if5 .before .before .before .before .before .before .before .before .before .before .before in
     let after-if1 = after-plate-in .before .before in
     let start = after-if1 .before .before .before .before .before .before in
-    let o = sym (over-so _ (now (start .args .memory)) (now (start .args .room)) (ours (after-if1)) (after-plate-in .plate-in .ensures) _ (after-is-over .is-over .ensures)) ∙ after-if6 .if6 .taken in
+    let o = sym (over-so _ (now (start .args .memory)) (now (start .args .room)) (ours (after-if1)) (after-plate-in .plate-in .ensures) _ (after-is-over .is-over .ensures _)) ∙ after-if6 .if6 .taken in
     poll-whole _ _ _ (fine (after-if5)) _ (polled-over _ _ _ (fine (after-if5)) _ o (after-shut .shut .ensures))
 
 same-length-9 : tie.Need-same-length-9
@@ -219,7 +219,7 @@ returns-7 c =
     let after-if1 = after-plate-in .before .before in
     let after-slice-known = after-if1 .before .before .before .before .before in
     let start = after-slice-known .before in
-    let o = sym (over-so _ (now (start .args .memory)) (now (start .args .room)) (ours (after-if1)) (after-plate-in .plate-in .ensures) _ (c .before .is-over .ensures)) ∙ c .if6 .left in
+    let o = sym (over-so _ (now (start .args .memory)) (now (start .args .room)) (ours (after-if1)) (after-plate-in .plate-in .ensures) _ (c .before .is-over .ensures _)) ∙ c .if6 .left in
     poll-whole _ _ _ (fine (after-if5)) _ (polled-early _ _ _ (fine (after-if5)) _ (λ i. (after-slice-known .slice-known .given i) .fits) o)
 
 pub qs-poll-spec : {M : Type 1} → statement M

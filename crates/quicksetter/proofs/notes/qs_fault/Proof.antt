@@ -3,7 +3,7 @@ use mathlib.Core.Path.{sym, _∙_}
 use native.Mathlib.Omega.{arith}
 use denote.Ref.{now}
 use borrow.Author.Tests.{not-true, not-false}
-use Rattle.quicksetter.proofs.Heads.{ours-length, lent-small, not-ours, called-whole}
+use Rattle.quicksetter.proofs.Heads.{ours-length, ours-label, lent-small, not-ours, called-whole}
 use Rattle.quicksetter.proofs.Refusing.{lends-fault, impossible, unsound, free-core}
 use Rattle.quicksetter.proofs.Wholes.{some-refusal, alone-whole}
 use Rattle.quicksetter.proofs.Noting.{state-held, fault-in}
@@ -67,7 +67,7 @@ returns-2 c =
     let after-is-ours = after-if1 .before in
     let start = after-is-ours .before .before .before in
     let ours = sym (after-is-ours .is-ours .ensures) ∙ not-false _ (after-if1 .if1 .left) in
-    λ m w. alone-whole (now (start .args .image)) m w ours (after-plate-in .plate-in .ensures) _ (lends-fault _) (impossible _ _ _ _ (sym (after-is-possible .is-possible .ensures) ∙ not-true _ (c .if2 .taken))) some-refusal
+    λ m w. alone-whole (now (start .args .image)) m w ours (after-plate-in .plate-in .ensures) _ (lends-fault _) (impossible _ _ _ _ (sym (after-is-possible .is-possible .ensures _ (ours-label _ ours)) ∙ not-true _ (c .if2 .taken))) some-refusal
 
 sub-is-sound : tie.Need-sub-is-sound
 sub-is-sound c = search needs
@@ -101,7 +101,7 @@ returns-3 c =
     let start = after-is-ours .before .before .before in
     let ours = sym (after-is-ours .is-ours .ensures) ∙ not-false _ (after-if1 .if1 .left) in
     λ m w. alone-whole (now (start .args .image)) m w ours (after-plate-in .plate-in .ensures) _ (lends-fault _)
-    (unsound _ _ _ _ (sym (after-is-possible .is-possible .ensures) ∙ not-false _ (after-if2 .if2 .left)) (sym (after-is-sound .is-sound .ensures) ∙ not-true _ (c .if3 .taken))) some-refusal
+    (unsound _ _ _ _ (sym (after-is-possible .is-possible .ensures _ (ours-label _ ours)) ∙ not-false _ (after-if2 .if2 .left)) (sym (after-is-sound .is-sound .ensures) ∙ not-true _ (c .if3 .taken))) some-refusal
 
 sub-note : tie.Need-sub-note
 sub-note c = search needs
@@ -121,7 +121,10 @@ note-requires c κs =
     let after-is-sound = after-if3 .before in
     let after-if2 = after-is-sound .before .before .before in
     let after-is-possible = after-if2 .before in
-    state-held _ _ (free-core _ _ (sym (after-is-possible .is-possible .ensures) ∙ not-false _ (after-if2 .if2 .left)) (sym (after-is-sound .is-sound .ensures) ∙ not-false _ (after-if3 .if3 .left)))
+    let after-if1 = after-is-possible .before .before .before .before .before in
+    let after-is-ours = after-if1 .before in
+    let ours = sym (after-is-ours .is-ours .ensures) ∙ not-false _ (after-if1 .if1 .left) in
+    state-held _ _ (free-core _ _ (sym (after-is-possible .is-possible .ensures _ (ours-label _ ours)) ∙ not-false _ (after-if2 .if2 .left)) (sym (after-is-sound .is-sound .ensures) ∙ not-false _ (after-if3 .if3 .left)))
 
 same-length-4 : tie.Need-same-length-4
 same-length-4 c = search needs
@@ -139,7 +142,7 @@ returns-4 c =
     let after-slice-known = after-is-ours .before .before in
     let start = after-slice-known .before in
     let ours = sym (after-is-ours .is-ours .ensures) ∙ not-false _ (after-if1 .if1 .left) in
-    let free = free-core _ _ (sym (after-is-possible .is-possible .ensures) ∙ not-false _ (after-if2 .if2 .left)) (sym (after-is-sound .is-sound .ensures) ∙ not-false _ (after-if3 .if3 .left)) in
+    let free = free-core _ _ (sym (after-is-possible .is-possible .ensures _ (ours-label _ ours)) ∙ not-false _ (after-if2 .if2 .left)) (sym (after-is-sound .is-sound .ensures) ∙ not-false _ (after-if3 .if3 .left)) in
     let small = lent-small _ ours (λ i. (after-slice-known .slice-known .given i) .fits) in
     λ m w. called-whole (now (start .args .image)) m w _ ours (after-plate-in .plate-in .ensures) (fault-in _ _ free small m w _ (after-note .note .ensures))
 

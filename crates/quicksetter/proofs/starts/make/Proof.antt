@@ -31,8 +31,8 @@ returns : tie.Need-returns
 returns c =
     let after-put-core = c .before .before in
     let after-put-head = after-put-core .before .before .before .before in
-    let start = after-put-head .before .before .before in
-    made _ _ (now (start .args .image)) (start .pre .1) (after-put-head .put-head .ensures) (after-put-core .put-core .ensures)
+    let start = after-put-head .before .before .before .before in
+    made _ _ (now (start .args .image)) (start .pre .0) (start .pre .1 .1) (after-put-head .put-head .ensures) (after-put-core .put-core .ensures)
 
 pub make-spec : {M : Type 1} → statement M
 make-spec =

@@ -40,7 +40,7 @@ returns c =
     let after-none = after-put-board .before .before in
     let after-fill = after-none .before .before .before in
     let start = after-fill .before .before .before .before in
-    core-made (now (start .args .core)) (start .pre) (after-fill .fill .ensures) (after-none .none .ensures) (after-put-board .put-board .ensures)
+    core-made (now (start .args .core)) (start .pre .1) (after-fill .fill .ensures) (after-none .none .ensures) (after-put-board .put-board .ensures)
 
 pub put-core-spec : {M : Type 1} → statement M
 put-core-spec =
