@@ -13,7 +13,7 @@ use Rattle.meaning.specs.Commands.{commandOf, freeByte}
 use Rattle.meaning.specs.Frames.{dataOf, message, resting}
 use Rattle.meaning.specs.Run.{Call, poll, measured, power-on, refusedBy, run, closes, Heard, heard, traffic}
 use Rattle.meaning.specs.Bench.{allowed, request, warning, bare}
-use Rattle.meaning.specs.Ledger.{fieldsOf, granted, back, byteOf, Agrees, Honest, Wanted, roomReply}
+use Rattle.meaning.specs.Ledger.{fieldsOf, granted, back, byteOf, addressOf, Agrees, AnswersTo, Honest, Wanted, roomReply}
 use Rattle.meaning.specs.Demands.{waits, meant, Served}
 use Rattle.quicksetter.specs.Calls.{isImage, plateHeld, stateHeld, lastingOf, Called, Freshens, Restarts}
 
@@ -71,7 +71,7 @@ pub record AsRun (p : Plate) (gs : List Call) (t : List Heard) (img m x : List �
 abbrev pub QsRuns : Type 0
 QsRuns = (p : Plate) (gs : List Call) (t : List Heard) (img m x : List ℕ) → Ran p gs t img m x → AsRun p gs t img m x
 
--- Demand 3: so memory, free blocks, field bytes and codes are what the traffic says
+-- Demand 3: so memory, free blocks, field bytes, codes and address are what the traffic says
 abbrev pub QsMemoryByTraffic : Type 0
 QsMemoryByTraffic = (p : Plate) (gs : List Call) (t : List Heard) (img m x : List ℕ) → Ran p gs t img m x → Agrees p (stateHeld img) m t
 
@@ -82,6 +82,10 @@ QsTrafficAlone = (p : Plate) (gs hs : List Call) (t : List Heard) (img m x img�
 -- Demand 3: accepted stores and shapes carried the code in force
 abbrev pub QsCarriedTheCode : Type 0
 QsCarriedTheCode = (p : Plate) (gs : List Call) (t : List Heard) (img m x : List ℕ) → Ran p gs t img m x → Honest t
+
+-- 02, Req 01: its board answers to exactly one address of 0 to 31, the one that the traffic tells, and to FFh
+abbrev pub QsAnswersToOne : Type 0
+QsAnswersToOne = (p : Plate) (gs : List Call) (t : List Heard) (img m x : List ℕ) → Ran p gs t img m x → AnswersTo p (stateHeld img) m (addressOf p t)
 
 -- such a host's next call, a character or a poll, closes the open frame and leaves a reply
 pub data ClosesNext (p : Plate) (t : List Heard) (img m : List ℕ) : List ℕ → Type 0 where

@@ -3,6 +3,7 @@ use mathlib.Core.Path.{sym, _∙_}
 use native.Mathlib.Omega.{arith}
 use denote.Ref.{now}
 use borrow.Author.Tests.{not-true, not-false}
+use Rattle.image.specs.Image.{labelIn}
 use Rattle.quicksetter.proofs.Heads.{ours-length, ours-label, not-ours, called-whole}
 use Rattle.quicksetter.proofs.Refusing.{lends-power-on, impossible, unsound, free-core}
 use Rattle.quicksetter.proofs.Wholes.{some-refusal, alone-whole}
@@ -123,8 +124,9 @@ power-on-requires c κs =
     let after-is-possible = after-if2 .before in
     let after-if1 = after-is-possible .before .before .before .before .before in
     let after-is-ours = after-if1 .before in
+    let start = after-is-ours .before .before .before in
     let ours = sym (after-is-ours .is-ours .ensures) ∙ not-false _ (after-if1 .if1 .left) in
-    state-held _ _ (free-core _ _ (sym (after-is-possible .is-possible .ensures _ (ours-label _ ours)) ∙ not-false _ (after-if2 .if2 .left)) (sym (after-is-sound .is-sound .ensures) ∙ not-false _ (after-if3 .if3 .left)))
+    state-held _ _ (free-core _ _ (sym (after-is-possible .is-possible .ensures (labelIn (now (start .args .image))) (ours-label _ ours)) ∙ not-false _ (after-if2 .if2 .left)) (sym (after-is-sound .is-sound .ensures) ∙ not-false _ (after-if3 .if3 .left)))
 
 same-length-4 : tie.Need-same-length-4
 same-length-4 c = search needs

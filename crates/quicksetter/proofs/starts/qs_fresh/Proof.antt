@@ -46,8 +46,9 @@ returns-3 c =
     let after-if2 = after-plate-from .before in
     let after-if1 = after-if2 .before in
     let start = after-if1 .before .before .before in
+    let p : Plate = plateOf (plateFrom (start .args .total) (start .args .bits) (start .args .address) (start .args .ticks) (start .args .pause)) (now (start .args .label)) in
     let fine = rw (after-plate-from .plate-from .ensures) at (sym (after-is-ok .is-ok .ensures (now (start .args .label)) (after-if2 .if2 .left)) ∙ not-true _ (c .if3 .taken)) in
-    no-plate _ _ _ (after-if1 .if1 .left) fine
+    no-plate p _ (now (start .args .image)) (after-if1 .if1 .left) fine
 
 cast-fresh : tie.Need-cast-fresh
 cast-fresh c =

@@ -57,8 +57,9 @@ returns-4 c =
     let after-if2 = after-if3 .before in
     let after-if1 = after-if2 .before in
     let start = after-if1 .before .before .before .before in
+    let p : Plate = plateOf (plateFrom (start .args .total) (start .args .bits) (start .args .address) (start .args .ticks) (start .args .pause)) (now (start .args .label)) in
     let fine = rw (after-plate-from .plate-from .ensures) at (sym (after-is-ok .is-ok .ensures (now (start .args .label)) (after-if3 .if3 .left)) ∙ not-true _ (c .if4 .taken)) in
-    restarts _ _ _ (after-if1 .if1 .left) (no-plate _ _ _ (after-if2 .if2 .left) fine)
+    restarts p _ (now (start .args .image)) (after-if1 .if1 .left) (no-plate p _ (now (start .args .image)) (after-if2 .if2 .left) fine)
 
 lasting-in-requires : tie.Need-lasting-in-requires
 lasting-in-requires c κs = search needs
