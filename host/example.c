@@ -50,9 +50,9 @@ struct plate {
     const uint8_t *label; /* QS_LABEL_LENGTH bytes */
 };
 
-/* What the drive is told by 52h and 56h. It does not change, so it is in the program; a maker would put each board's serial number into a part of the flash
- * that only he writes. The UART settings agree with 4 ticks a bit and a pause of 55: E4h is 9600 baud, even parity, the long pause. 80h blocks are all of a
- * part of 2048 bytes, of which 70h are for fields. */
+/* What the drive is told by 52h and 56h. It does not change, so it is in the program; each board's own serial number would stand in a part of the flash that
+ * is written once. The UART settings agree with 4 ticks a bit and a pause of 55: E4h is 9600 baud, even parity, the long pause. 80h blocks are all of a part of
+ * 2048 bytes, of which 70h are for fields. */
 static const uint8_t LABEL[QS_LABEL_LENGTH] = {
     [QS_LABEL_TYPE] = 0xE4, 0x07, 0x80, 0x00,
     [QS_LABEL_SERIAL] = 'Q', 'S', '0', '0', '0', '4', '7', '1', '1',

@@ -22,8 +22,8 @@
  * QS_IMAGE_LASTING on (codes, counter, address in force, offset). A call that returns 0 or a refusal changes neither. A call that returns a reply changes
  * them only if QS_MAY_CHANGE(room[1]) holds of the reply's command byte, so an error reply never does. A host that then first writes what changed to its
  * flash and only after that sends the reply loses nothing that it ever acknowledged. After power-on it calls qs_restart with the plate and those bytes, and
- * gives the measured position by qs_measured: memory and state are then what power-on left of them. Plate and label do not change and are not among those
- * bytes: a host has them in its program, the serial number where its maker wrote it, and gives the same at each start.
+ * gives the measured position by qs_measured: memory and state are then what power-on left of them. The plate, its label too, never changes and is not among
+ * those bytes: a host has it in its program, the serial number where its maker wrote it, and gives the same at each start.
  *
  * Address. A frame is judged by the address in force when it closes, and FFh is every board's. The address in force is the plate's until the board accepts a
  * 55h, then the new one; power-on and 53h leave it, and qs_restart takes it from the lasting bytes. So after qs_fresh nobody asks for the plate's address
@@ -164,8 +164,8 @@ extern "C" {
 
 /* ---- the label ------------------------------------------------------------------------------------------------------------------------------------------ */
 
-/* Place and size of each part of the label. 52h tells the first part and 56h the others, each as it was given: the library reads no byte of it and makes none
- * from the plate. That UART settings and memory size agree with the plate is the host's to see to.
+/* Place and size of each part of the label. 52h tells the first part and 56h the others, each byte as it was given: the library tests none of them and makes
+ * none from the plate's numbers. That UART settings and memory size agree with the plate is the host's to see to.
  *
  * The type label is four bytes (000, table 28):
  *   UART settings  bits 0 to 2 the data rate (100b is 9600 baud, 4 ticks a bit); bits 4 and 5 the parity (10b is even); bit 6 set for a pause of 55 bit times

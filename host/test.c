@@ -223,17 +223,10 @@ static void test_good_plates(void) {
 /* CHANGELOG.md: the lengths of images of other layouts. */
 enum { LENGTH_OF_0_1 = 165, LENGTH_OF_LAYOUT_1 = 171 };
 
-static const uint64_t WRONG_IMAGES[] = {0,
-                                        1,
-                                        QS_IMAGE_LABEL,
-                                        QS_IMAGE_LASTING,
-                                        QS_IMAGE_KEPT,
-                                        LENGTH_OF_0_1,
-                                        LENGTH_OF_LAYOUT_1,
-                                        QS_IMAGE_LENGTH - QS_LABEL_LENGTH,
-                                        QS_IMAGE_LENGTH - 1,
-                                        QS_IMAGE_LENGTH + 1,
-                                        QS_IMAGE_LENGTH + SPARE};
+static const uint64_t WRONG_IMAGES[] = {
+    0, 1, QS_IMAGE_LABEL, QS_IMAGE_LASTING, QS_IMAGE_KEPT, LENGTH_OF_0_1, LENGTH_OF_LAYOUT_1, QS_IMAGE_LENGTH - QS_LABEL_LENGTH, QS_IMAGE_LENGTH - 1,
+    QS_IMAGE_LENGTH + 1, QS_IMAGE_LENGTH + SPARE,
+};
 static const uint64_t WRONG_LABELS[] = {0, 1, QS_LABEL_TYPE_SIZE, QS_LABEL_DATE, QS_LABEL_LENGTH - 1, QS_LABEL_LENGTH + 1, QS_LABEL_LENGTH + SPARE};
 
 /* Byte by byte: what is not named here is 00h. */
@@ -1378,7 +1371,7 @@ static void test_reply_lengths_of_none(void) {
     }
 }
 
-/* The header: "0 while fewer than two bytes are here; else .. QS_B0". So no request is refused that early. */
+/* The header: "QS_B0, whatever is here, for what is not a request": also before two bytes are here. */
 static void test_reply_lengths_too_early(void) {
     static const uint8_t reply[] = {0x40, 0x4E};
     uint8_t request[QS_REQUEST_BUFFER];
