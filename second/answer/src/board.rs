@@ -148,8 +148,8 @@ fn work_frame(
 
 /// Puts address, command and checksum around the reply data; "the reply always carries the board's
 /// own address", so that the one to an accepted 55h "will already use the new Slave address" (000,
-/// Set Encoder Address), and bit 7 "is set exactly if the fault queue is not empty after the request has been
-/// worked". Answers the reply's length.
+/// Set Encoder Address); bit 7 "is set exactly if the fault queue is not empty after the request
+/// has been worked". Answers the reply's length.
 fn finish_reply(state: &State, command: u8, data_length: usize, room: &mut [u8]) -> usize {
     let warning = if state.queue().is_empty() {
         0

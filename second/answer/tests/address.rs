@@ -1,4 +1,4 @@
-//! Address, label and version (02, Req 01): 55h's checks, the address in force, what 52h and 56h send.
+//! Address, label and version: 55h's checks, the address in force, what 52h and 56h send.
 
 mod rig;
 
