@@ -305,7 +305,7 @@ static bool faults_of_the_sheet(struct host *host, struct flash *flash) {
     bool good = started(host, SHEET, flash, 0, NEW_BOARD, "Faulty frames, the counter's end, the position, the reset without a reply");
     good &= asked(host, "40 4E 0F", "40 50 0A 1A");
     good &= asked(host, "40 44 04", "40 50 0B 1B");
-    memset(host->image + QS_IMAGE_COUNTER, 0xFF, 3);
+    memset(host->image + QS_IMAGE_COUNTER, 0xFF, QS_IMAGE_COUNTER_SIZE);
     good &= asked(host, "40 47 07", "40 C7 87");
     good &= asked(host, "40 50 10", "40 50 08 18");
     (void)qs_measured(host->image, sizeof host->image, 5);

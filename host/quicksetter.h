@@ -73,9 +73,9 @@ extern "C" {
 
 #define QS_BLOCK 16                                                   /* bytes of a block */
 #define QS_MEMORY_LENGTH(total) ((uint64_t)(total) * (QS_BLOCK + 1)) /* total blocks of data, then one status byte for each possible field */
-#define QS_IMAGE_LENGTH 213                                           /* the image: plate and state */
+#define QS_IMAGE_LENGTH 212                                           /* the image: plate and state */
 #define QS_LABEL_LENGTH 41                                            /* of it, the label */
-#define QS_LASTING_LENGTH 13                                          /* of it, the bytes that must last */
+#define QS_LASTING_LENGTH 12                                          /* of it, the bytes that must last */
 #define QS_KEPT_BYTES 135                                             /* bytes kept of a frame; a longer one is answered with 0Ch */
 #define QS_REPLY_ROOM 134                                             /* the longest reply */
 #define QS_REQUEST_BUFFER 135                                         /* the longest request */
@@ -185,7 +185,7 @@ extern "C" {
 
 /* ---- the image ------------------------------------------------------------------------------------------------------------------------------------------ */
 
-/* Place and size of each part. Numbers of four bytes are little-endian. A host may read the parts, and write those of the state within their limits. */
+/* Place and size of each part. Numbers of several bytes are little-endian. A host may read the parts, and write those of the state within their limits. */
 #define QS_LAYOUT_NUMBER 2
 #define QS_IMAGE_LAYOUT 0        /* QS_LAYOUT_NUMBER; another number is another layout, and R1 */
 #define QS_IMAGE_LAYOUT_SIZE 1
@@ -205,36 +205,36 @@ extern "C" {
 #define QS_IMAGE_LASTING_SIZE QS_LASTING_LENGTH
 #define QS_IMAGE_CODES 47        /* the four access codes, any bytes */
 #define QS_IMAGE_CODES_SIZE 4
-#define QS_IMAGE_COUNTER 51      /* at most FFFFFFh */
-#define QS_IMAGE_COUNTER_SIZE 4
-#define QS_IMAGE_ADDRESS 55      /* the address in force, 0 to 31; the board's address byte is 40h + this */
+#define QS_IMAGE_COUNTER 51      /* 0 to FFFFFFh */
+#define QS_IMAGE_COUNTER_SIZE 3
+#define QS_IMAGE_ADDRESS 54      /* the address in force, 0 to 31; the board's address byte is 40h + this */
 #define QS_IMAGE_ADDRESS_SIZE 1
-#define QS_IMAGE_OFFSET 56       /* of the position, below 2^bits */
+#define QS_IMAGE_OFFSET 55       /* of the position, below 2^bits */
 #define QS_IMAGE_OFFSET_SIZE 4
-#define QS_IMAGE_MEASURED 60     /* the measured position as it was given, any number */
+#define QS_IMAGE_MEASURED 59     /* the measured position as it was given, any number */
 #define QS_IMAGE_MEASURED_SIZE 4
-#define QS_IMAGE_WAITING 64      /* the waiting fault codes, oldest first; all different, none of them 22h or 24h */
+#define QS_IMAGE_WAITING 63      /* the waiting fault codes, oldest first; all different, none of them 22h or 24h */
 #define QS_IMAGE_WAITING_SIZE 4
-#define QS_IMAGE_LOCKED 68       /* 1 while the position is locked, else 0 */
+#define QS_IMAGE_LOCKED 67       /* 1 while the position is locked, else 0 */
 #define QS_IMAGE_LOCKED_SIZE 1
-#define QS_IMAGE_OPEN 69         /* 1 while a frame is open, else 0 */
+#define QS_IMAGE_OPEN 68         /* 1 while a frame is open, else 0 */
 #define QS_IMAGE_OPEN_SIZE 1
-#define QS_IMAGE_LONGER 70       /* 1 if the open frame has more than QS_KEPT_BYTES bytes, else 0 */
+#define QS_IMAGE_LONGER 69       /* 1 if the open frame has more than QS_KEPT_BYTES bytes, else 0 */
 #define QS_IMAGE_LONGER_SIZE 1
-#define QS_IMAGE_PARITY 71       /* 1 if a character of the open frame had a parity fault, else 0 */
+#define QS_IMAGE_PARITY 70       /* 1 if a character of the open frame had a parity fault, else 0 */
 #define QS_IMAGE_PARITY_SIZE 1
-#define QS_IMAGE_LAST 72         /* the tick of the open frame's last character, any number */
+#define QS_IMAGE_LAST 71         /* the tick of the open frame's last character, any number */
 #define QS_IMAGE_LAST_SIZE 4
-#define QS_IMAGE_SUM 76          /* the XOR of all bytes of the open frame, any byte */
+#define QS_IMAGE_SUM 75          /* the XOR of all bytes of the open frame, any byte */
 #define QS_IMAGE_SUM_SIZE 1
-#define QS_IMAGE_KEPT_NUMBER 77  /* the number of its kept bytes, at most QS_KEPT_BYTES */
+#define QS_IMAGE_KEPT_NUMBER 76  /* the number of its kept bytes, at most QS_KEPT_BYTES */
 #define QS_IMAGE_KEPT_NUMBER_SIZE 1
-#define QS_IMAGE_KEPT 78         /* its kept bytes */
+#define QS_IMAGE_KEPT 77         /* its kept bytes */
 #define QS_IMAGE_KEPT_SIZE QS_KEPT_BYTES
 
-/* R1 for an image: another length; another layout number; a plate number beyond its limit, the plate's address too; a counter over FFFFFFh; an address in
- * force over 31; an offset of 2^bits or more; two waiting codes that are equal; 22h or 24h waiting; a code that waits behind an empty place; locked, open,
- * longer or parity other than 0 and 1; a number of kept bytes over QS_KEPT_BYTES. Each also with no frame open.
+/* R1 for an image: another length; another layout number; a plate number beyond its limit, the plate's address too; an address in force over 31; an offset of
+ * 2^bits or more; two waiting codes that are equal; 22h or 24h waiting; a code that waits behind an empty place; locked, open, longer or parity other than 0
+ * and 1; a number of kept bytes over QS_KEPT_BYTES. Each also with no frame open. The counter is never beyond its limit: three bytes hold no more.
  * No step leads out of the limits: a host that hands in what the last call left never meets R1 for its image.
  *
  * Places that carry no meaning follow one rule each:
@@ -255,8 +255,8 @@ uint64_t qs_fresh(uint32_t total, uint32_t bits, uint32_t address, uint32_t tick
  * fresh. Plate and label are those that were given before; of the plate's address only the limit matters, since the one that lasted is in force. The image
  * holds what qs_power_on leaves of the image from which the bytes were taken, but that the measured position is 0: the host gives that next, by qs_measured.
  * Returns 0. Refuses QS_R1: a plate number beyond its limit, label_length not QS_LABEL_LENGTH, lasting_length not QS_LASTING_LENGTH, image_length not
- * QS_IMAGE_LENGTH, a counter over FFFFFFh, an address over 31, an offset of 2^bits or more. That bytes within those limits are the right ones it cannot tell:
- * a host keeps a checksum of its own beside them. */
+ * QS_IMAGE_LENGTH, an address over 31, an offset of 2^bits or more. That bytes within those limits are the right ones it cannot tell: a host keeps a checksum
+ * of its own beside them. */
 uint64_t qs_restart(uint32_t total, uint32_t bits, uint32_t address, uint32_t ticks, uint32_t pause, const uint8_t *label, uint64_t label_length,
                     const uint8_t *lasting, uint64_t lasting_length, uint8_t *image, uint64_t image_length);
 

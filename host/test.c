@@ -279,14 +279,17 @@ static bool holds(const uint8_t *buffer, struct bytes b) {
     return memcmp(buffer + b.place, b.value, b.size) == 0;
 }
 
-/* 01, "State limits", each number beyond its limit, and what no image holds. */
+/* The counter at its end. */
+#define FULL_COUNTER {QS_IMAGE_COUNTER, QS_IMAGE_COUNTER_SIZE, {0xFF, 0xFF, 0xFF}}
+
+/* 01, "State limits", each number that an image can hold beyond its limit, and what no image holds. The counter's three bytes hold every counter. */
 static const struct {
     const char *name;
     struct bytes image;
 } DAMAGED[] = {
-    {"counter 1000000h", {QS_IMAGE_COUNTER, 4, {0, 0, 0, 1}}},
-    {"counter FFFFFFFFh", {QS_IMAGE_COUNTER, 4, {0xFF, 0xFF, 0xFF, 0xFF}}},
     {"address 32", {QS_IMAGE_ADDRESS, 1, {32}}},
+    {"a counter of four bytes, 20000000h", {QS_IMAGE_COUNTER, QS_IMAGE_COUNTER_SIZE + 1, {0, 0, 0, 0x20}}},
+    {"a counter of four bytes, FFFFFFFFh", {QS_IMAGE_COUNTER, QS_IMAGE_COUNTER_SIZE + 1, {0xFF, 0xFF, 0xFF, 0xFF}}},
     {"address 40h, a byte of the wire", {QS_IMAGE_ADDRESS, 1, {0x40}}},
     {"address 255, the broadcast's number", {QS_IMAGE_ADDRESS, 1, {QS_BROADCAST}}},
     {"offset 2^24", {QS_IMAGE_OFFSET, 4, {0, 0, 0, 1}}},
@@ -324,8 +327,9 @@ static const struct {
     struct bytes image;
 } EXTREME[] = {
     {"codes 00h and FFh", {QS_IMAGE_CODES, 4, {0, 0xFF, 0, 0xFF}}},
-    {"counter FFFFFFh", {QS_IMAGE_COUNTER, 4, {0xFF, 0xFF, 0xFF, 0}}},
+    {"counter FFFFFFh", FULL_COUNTER},
     {"address 31", {QS_IMAGE_ADDRESS, 1, {31}}},
+    {"counter FFFFFFh and address 31", {QS_IMAGE_COUNTER, QS_IMAGE_COUNTER_SIZE + QS_IMAGE_ADDRESS_SIZE, {0xFF, 0xFF, 0xFF, 31}}},
     {"offset 2^24 - 1", {QS_IMAGE_OFFSET, 4, {0xFF, 0xFF, 0xFF, 0}}},
     {"measured FFFFFFFFh", {QS_IMAGE_MEASURED, 4, {0xFF, 0xFF, 0xFF, 0xFF}}},
     {"four codes wait", {QS_IMAGE_WAITING, 4, {1, 2, 3, 4}}},
@@ -403,13 +407,14 @@ static void test_memory_by_plate(void) {
     }
 }
 
-/* 02, "Req 01": the address joins the state, limits 0 to 31, whatever the plate's is. */
+/* 02, "Req 01": the address joins the state, limits 0 to 31, whatever the plate's is, and whatever the counter before it. */
 static void test_address_limits(void) {
-    for (uint32_t i = 0; i < 2 * 256; i++) {
+    for (uint32_t i = 0; i < 4 * 256; i++) {
         struct plate p = i % 2 ? LAST_ADDRESS : EIGHT;
         for (uint8_t open = 0; open < 2; open++) {
-            start_with(p, (struct bytes){QS_IMAGE_ADDRESS, 1, {(uint8_t)(i / 2)}}, open);
-            if (i / 2 < 32) {
+            start_with(p, (struct bytes){QS_IMAGE_ADDRESS, 1, {(uint8_t)(i / 4)}}, open);
+            memset(lent.image + QS_IMAGE_COUNTER, i / 2 % 2 ? 0xFF : 0, QS_IMAGE_COUNTER_SIZE);
+            if (i / 4 < 32) {
                 all_take(p, "an address in force", i);
                 continue;
             }
@@ -479,7 +484,8 @@ static uint64_t sized(uint64_t right_size, int more) {
 /* A board whose every number is as large as it may be, so that no refusal is for want of a frame; with none open and with one. */
 static void start_full(struct plate p, uint8_t open) {
     static const struct bytes full[] = {
-        {QS_IMAGE_COUNTER, 3, {0xFF, 0xFF, 0xFF}},
+        FULL_COUNTER,
+        {QS_IMAGE_ADDRESS, 1, {31}},
         {QS_IMAGE_OFFSET, 3, {0xFF, 0xFF, 0xFF}},
         {QS_IMAGE_WAITING, 5, {1, 2, 3, 4, 1}},
         {QS_IMAGE_KEPT_NUMBER, 1, {QS_KEPT_BYTES}},
@@ -579,26 +585,26 @@ struct trial {
 
 static const struct trial TRIALS[] = {
     /* 01, "counter + 1; from FFFFFFh it goes to 0 and 08h is queued". */
-    {.name = "bench sheet: the counter at FFFFFFh", .plate = &SHEET, .set = {{QS_IMAGE_COUNTER, 3, {0xFF, 0xFF, 0xFF}}},
+    {.name = "bench sheet: the counter at FFFFFFh", .plate = &SHEET, .set = {FULL_COUNTER},
      .lines = {{"40 47", "40 C7"}, {"40 50", "40 50 08"}}},
-    {.name = "the counter at FFFFFFh is read, steps to 0 and warns", .plate = &SHEET, .set = {{QS_IMAGE_COUNTER, 3, {0xFF, 0xFF, 0xFF}}},
+    {.name = "the counter at FFFFFFh is read, steps to 0 and warns", .plate = &SHEET, .set = {FULL_COUNTER},
      .lines = {{"40 46", "40 46 FF FF FF"}, {"40 47", "40 C7"}, {"40 46", "40 C6 00 00 00"}, {"40 4E", "40 CE 70 00"}, {"40 50", "40 50 08"},
                {"40 50", "40 50 00"}}},
     {.name = "the counter from 0", .plate = &SHEET,
      .lines = {{"40 46", "40 46 00 00 00"}, {"40 47", "40 47"}, {"40 46", "40 46 00 00 01"}, {"40 49 54", "40 50 0F"}, {"40 49 55", "40 49"},
                {"40 46", "40 46 00 00 00"}}},
-    {.name = "the counter a step below FFFFFFh", .plate = &SHEET, .set = {{QS_IMAGE_COUNTER, 3, {0xFE, 0xFF, 0xFF}}},
+    {.name = "the counter a step below FFFFFFh", .plate = &SHEET, .set = {{QS_IMAGE_COUNTER, QS_IMAGE_COUNTER_SIZE, {0xFE, 0xFF, 0xFF}}},
      .lines = {{"40 47", "40 47"}, {"40 46", "40 46 FF FF FF"}, {"40 49 54", "40 50 0F"}, {"40 49 55", "40 49"}, {"40 46", "40 46 00 00 00"}}},
     /* 01, "one already waiting, or a fifth, is dropped". */
     {.name = "the counter at FFFFFFh, four codes wait: 08h is dropped", .plate = &SHEET,
-     .set = {{QS_IMAGE_COUNTER, 3, {0xFF, 0xFF, 0xFF}}, {QS_IMAGE_WAITING, 4, {1, 2, 3, 4}}},
+     .set = {FULL_COUNTER, {QS_IMAGE_WAITING, 4, {1, 2, 3, 4}}},
      .lines = {{"40 47", "40 C7"}, {"40 46", "40 C6 00 00 00"}, {"40 50", "40 D0 01"}, {"40 50", "40 D0 02"}, {"40 50", "40 D0 03"}, {"40 50", "40 50 04"},
                {"40 50", "40 50 00"}}},
     {.name = "the counter at FFFFFFh, 08h waits: it keeps its place", .plate = &SHEET,
-     .set = {{QS_IMAGE_COUNTER, 3, {0xFF, 0xFF, 0xFF}}, {QS_IMAGE_WAITING, 2, {8, 5}}},
+     .set = {FULL_COUNTER, {QS_IMAGE_WAITING, 2, {8, 5}}},
      .lines = {{"fault 00", ""}, {"40 47", "40 C7"}, {"40 44", "40 D0 0B"}, {"40 50", "40 D0 08"}, {"40 50", "40 50 05"}, {"40 50", "40 50 00"}}},
     {.name = "the counter at FFFFFFh, four codes wait, 08h last", .plate = &SHEET,
-     .set = {{QS_IMAGE_COUNTER, 3, {0xFF, 0xFF, 0xFF}}, {QS_IMAGE_WAITING, 4, {1, 2, 3, 8}}},
+     .set = {FULL_COUNTER, {QS_IMAGE_WAITING, 4, {1, 2, 3, 8}}},
      .lines = {{"40 47", "40 C7"}, {"40 50", "40 D0 01"}, {"40 50", "40 D0 02"}, {"40 50", "40 D0 03"}, {"40 50", "40 50 08"}, {"40 50", "40 50 00"}}},
     {.name = "codes that wait are read in their order", .plate = &SHEET, .set = {{QS_IMAGE_WAITING, 4, {9, 3, 7, 1}}},
      .lines = {{"40 50", "40 D0 09"}, {"fault 09", ""}, {"fault 03", ""}, {"40 50", "40 D0 03"}, {"40 50", "40 D0 07"}},
@@ -778,13 +784,16 @@ static void is_there(struct plate p, uint8_t address, bool there, const char *wh
 
 enum { OLD = 0x47, GOOD_CODE = 0x55, WRONG_CODE = 0x54, EVERY_BOARD = 0xFF };
 
-/* A 55h with this new address byte to a board at OLD. It changes the address and nothing else of image and memory; an error changes nothing. */
+/* A 55h with this new address byte to a board at OLD. It changes the address and nothing else of image and memory, neither the counter before it nor the
+ * offset behind it; an error changes nothing. */
 static void new_address(uint8_t asked, uint8_t wanted, uint8_t code) {
     struct plate p = with_number(EIGHT, ADDRESS, OLD - 0x40);
     bool allowed = wanted >= 0x40 && wanted <= 0x5F, accepted = allowed && code == GOOD_CODE;
     const uint8_t request[] = {asked, QS_SET_ADDRESS, wanted, code}, good[] = {wanted, QS_SET_ADDRESS};
     const uint8_t error[] = {OLD, QS_READ_STATUS, code == GOOD_CODE ? QS_ERROR_WRONG_ARGUMENT : QS_ERROR_WRONG_CODE};
     start(p);
+    memset(lent.image + QS_IMAGE_COUNTER, 0xFF, QS_IMAGE_COUNTER_SIZE);
+    set(lent.image, offset_of(0xFFFFFF));
     struct lent whole = lent;
     asks_bytes(p, request, sizeof request, accepted ? good : error, accepted ? sizeof good : sizeof error, "a new address byte", wanted);
     if (accepted)
@@ -844,6 +853,50 @@ static void test_address_at_the_close(void) {
             check(character_with(right(SHEET), ++now, request[i], 0) == 0, "a frame for address 1", i);
         lent.image[QS_IMAGE_ADDRESS] = address;
         check(poll_with(right(SHEET), now + SHEET.pause * SHEET.ticks) == (address == 1 ? 5u : 0u), "it is judged by the address at its end", address);
+    }
+}
+
+/* ---- the counter ---------------------------------------------------------------------------------------------------------------------------------------- */
+
+static void set_counter(uint8_t *image, uint32_t counter) {
+    for (uint32_t i = 0; i < QS_IMAGE_COUNTER_SIZE; i++)
+        image[QS_IMAGE_COUNTER + i] = (uint8_t)(counter >> 8 * i);
+}
+
+/* The board at OLD tells its counter; it warns where the overflow's code waits. */
+static void tells_counter(uint32_t counter, uint8_t warning) {
+    static const uint8_t request[] = {OLD, QS_READ_COUNTER};
+    const uint8_t reply[] = {OLD, QS_READ_COUNTER | warning, (uint8_t)(counter >> 16), (uint8_t)(counter >> 8), (uint8_t)counter};
+    asks_bytes(EIGHT, request, sizeof request, reply, sizeof reply, "46h, high byte first", counter);
+}
+
+/* Every call takes it. 46h tells it, 47h steps it, 49h clears it, and no other byte of the state changes: the address stands right behind it. */
+static void counter_is_worked(uint32_t counter) {
+    static const uint8_t increment[] = {OLD, QS_INCREMENT_COUNTER}, reset[] = {OLD, QS_RESET_COUNTER, GOOD_CODE};
+    const uint32_t next = counter == 0xFFFFFF ? 0 : counter + 1;
+    const uint8_t warning = next == 0 ? QS_WARNING_BIT : 0;
+    const uint8_t incremented[] = {OLD, QS_INCREMENT_COUNTER | warning}, cleared[] = {OLD, QS_RESET_COUNTER | warning};
+    start(EIGHT);
+    lent.image[QS_IMAGE_ADDRESS] = OLD - 0x40;
+    set_counter(lent.image, counter);
+    struct lent whole = lent;
+    all_take(EIGHT, "a counter", counter);
+    tells_counter(counter, 0);
+    asks_bytes(EIGHT, increment, sizeof increment, incremented, sizeof incremented, "47h", counter);
+    set_counter(whole.image, next);
+    whole.image[QS_IMAGE_WAITING] = next == 0 ? QS_ERROR_COUNTER_OVERFLOW : 0;
+    check(memcmp(whole.image, lent.image, QS_IMAGE_KEPT) == 0, "47h leaves all but the counter and a code that waits", counter);
+    tells_counter(next, warning);
+    asks_bytes(EIGHT, reset, sizeof reset, cleared, sizeof cleared, "49h", counter);
+    set_counter(whole.image, 0);
+    check(memcmp(whole.image, lent.image, QS_IMAGE_KEPT) == 0, "49h leaves all but the counter", counter);
+}
+
+/* 01, "counter at most FFFFFFh": each of its bytes with each value, the other two 00h or FFh. */
+static void test_counters(void) {
+    for (uint32_t i = 0; i < 2 * QS_IMAGE_COUNTER_SIZE * 256; i++) {
+        uint32_t shift = i / 256 % QS_IMAGE_COUNTER_SIZE * 8, others = i / 256 < QS_IMAGE_COUNTER_SIZE ? 0 : 0xFFFFFF;
+        counter_is_worked((others & ~(0xFFu << shift)) | i % 256 << shift);
     }
 }
 
@@ -1528,7 +1581,8 @@ static void test_layout(void) {
     check(QS_IMAGE_LAYOUT == 0 && QS_LABEL_TYPE == 0, "both begin at 0", 0);
     check(QS_IMAGE_LASTING == QS_IMAGE_CODES && QS_IMAGE_LASTING + QS_IMAGE_LASTING_SIZE == QS_IMAGE_MEASURED, "the lasting bytes", 0);
     check(QS_LABEL_TYPE_SIZE == 4 && QS_LABEL_SERIAL_SIZE == 9 && QS_LABEL_VERSION_SIZE == 20 && QS_LABEL_DATE_SIZE == 8, "000, tables 28 and 31", 0);
-    check(QS_IMAGE_LENGTH == 213 && QS_LASTING_LENGTH == 13 && QS_LAYOUT_NUMBER == 2, "lengths and layout number", 0);
+    check(QS_IMAGE_LENGTH == 212 && QS_LASTING_LENGTH == 12 && QS_LAYOUT_NUMBER == 2, "lengths and layout number", 0);
+    check(IN_LASTING(QS_IMAGE_COUNTER) == 4 && IN_LASTING(QS_IMAGE_ADDRESS) == 7 && IN_LASTING(QS_IMAGE_OFFSET) == 8, "what a flash holds", 0);
 }
 
 int main(void) {
@@ -1548,6 +1602,7 @@ int main(void) {
     test_new_addresses();
     test_faulty_new_addresses();
     test_address_at_the_close();
+    test_counters();
     test_gaps();
     test_image_changes();
     test_closed_frame_numbers();

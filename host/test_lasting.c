@@ -35,12 +35,13 @@ static void fill(uint8_t *bytes, size_t n) {
 
 /* Codes A1h to A4h, counter, address and offset as the image keeps them. */
 static void lasting_of(uint32_t counter, uint32_t address, uint32_t offset, uint8_t *lasting) {
-    for (uint32_t i = 0; i < 4; i++) {
+    for (uint32_t i = 0; i < QS_IMAGE_CODES_SIZE; i++)
         lasting[IN_LASTING(QS_IMAGE_CODES) + i] = (uint8_t)(0xA1 + i);
+    for (uint32_t i = 0; i < QS_IMAGE_COUNTER_SIZE; i++)
         lasting[IN_LASTING(QS_IMAGE_COUNTER) + i] = (uint8_t)(counter >> 8 * i);
-        lasting[IN_LASTING(QS_IMAGE_OFFSET) + i] = (uint8_t)(offset >> 8 * i);
-    }
     lasting[IN_LASTING(QS_IMAGE_ADDRESS)] = (uint8_t)address;
+    for (uint32_t i = 0; i < QS_IMAGE_OFFSET_SIZE; i++)
+        lasting[IN_LASTING(QS_IMAGE_OFFSET) + i] = (uint8_t)(offset >> 8 * i);
 }
 
 /* Restart from these bytes and any label, over an image that is marked all through: every byte of it is written, or none. */
@@ -81,28 +82,31 @@ static void test_restart_lengths(void) {
     check(make_restart(SHEET, label, lasting, image) == 0 && !as_it_was(), "restart takes the right lengths", 0);
 }
 
+/* 01, "counter at most FFFFFFh", which three bytes always are. */
 static void test_restart_counters(void) {
-    static const uint32_t counters[] = {0, 1, 0xFFFFFE, 0xFFFFFF, 0x1000000, 0x1000001, 0x2000000, 0x80000000, UINT32_MAX};
+    static const uint32_t counters[] = {0, 1, 0xFF, 0x100, 0xFFFF, 0x10000, 0x7FFFFF, 0x800000, 0xFFFFFE, 0xFFFFFF};
     uint8_t lasting[QS_LASTING_LENGTH];
     for (size_t i = 0; i < COUNT(counters); i++) {
         lasting_of(counters[i], 3, 5, lasting);
-        restarts(SHEET, lasting, counters[i] < 0x1000000, "restart and a counter", counters[i]);
+        restarts(SHEET, lasting, true, "restart and a counter", counters[i]);
     }
-    for (uint32_t high = 0; high < 256; high++) {
-        lasting_of(high << 24, 3, 5, lasting);
-        restarts(SHEET, lasting, high == 0, "restart and the counter's high byte", high);
+    for (uint32_t i = 0; i < QS_IMAGE_COUNTER_SIZE * 256; i++) {
+        lasting_of(i % 256 << i / 256 * 8, 31, 5, lasting);
+        restarts(SHEET, lasting, true, "restart and a byte of the counter", i);
     }
 }
 
-/* 02, "Req 01": limits 0 to 31, whatever the plate's address is. */
+/* 02, "Req 01": limits 0 to 31, whatever the plate's address is, and whatever the counter before it. */
 static void test_restart_addresses(void) {
     uint8_t lasting[QS_LASTING_LENGTH];
     for (uint32_t i = 0; i < 33 * 256; i++) {
         struct plate p = SHEET;
         uint32_t address = i % 256;
         p.address = i / 256;
-        lasting_of(7, address, 5, lasting);
-        restarts(p, lasting, address <= 31 && possible(p), "restart and an address", i);
+        for (uint32_t counter = 0; counter <= 0xFFFFFF; counter += 0xFFFFFF) {
+            lasting_of(counter, address, 5, lasting);
+            restarts(p, lasting, address <= 31 && possible(p), "restart and an address", i);
+        }
     }
 }
 
@@ -127,12 +131,12 @@ static void test_restart_dice(void) {
     unsigned long taken = 0;
     for (unsigned long i = 0; i < 20000; i++) {
         struct plate p = {below(114), below(34), below(33), (1u << below(8)) - once_in(30), once_in(2) ? 22 : 55};
-        uint32_t counter = (uint32_t)dice() >> below(10), offset = (uint32_t)((dice() & UINT32_MAX) >> below(33));
+        uint32_t counter = below(0x1000000), offset = (uint32_t)((dice() & UINT32_MAX) >> below(33));
         uint32_t address = once_in(10) ? below(256) : below(32);
         uint8_t lasting[QS_LASTING_LENGTH];
         lasting_of(counter, address, offset, lasting);
         fill(lasting + IN_LASTING(QS_IMAGE_CODES), QS_IMAGE_CODES_SIZE);
-        bool good = possible(p) && counter <= 0xFFFFFF && address <= 31 && offset < (uint64_t)1 << p.bits;
+        bool good = possible(p) && address <= 31 && offset < (uint64_t)1 << p.bits;
         restarts(p, lasting, good, "restart from any bytes", i);
         taken += good;
     }
@@ -376,7 +380,7 @@ static void refused_call(struct call c) {
     switch (below(7)) {
     case 0: wrong.image[QS_IMAGE_LAYOUT] = (uint8_t)(QS_LAYOUT_NUMBER + 1 + below(255)); break;
     case 1: wrong.image[QS_IMAGE_TOTAL + below(5)] = 0xFF; break;
-    case 2: wrong.image[QS_IMAGE_COUNTER + 3] = 1; break;
+    case 2: wrong.image[QS_IMAGE_KEPT_NUMBER] = QS_KEPT_BYTES + 1; break;
     case 3: wrong.image[QS_IMAGE_ADDRESS] = (uint8_t)(32 + below(224)); break;
     case 4: n.image = below(QS_IMAGE_LENGTH); break;
     case 5: n.memory -= 1 + below(17); break;
@@ -390,6 +394,28 @@ static void refused_call(struct call c) {
     check(make_with(&wrong, c, n) == expected, "a refused call", c.kind);
     check(memcmp(&wrong, &whole, sizeof wrong) == 0, "a refused call leaves all as it was", c.kind);
     refused[expected - QS_REFUSED]++;
+}
+
+/* What each command that stores may change of the lasting bytes; 4Bh and 4Dh store to memory alone. */
+static const struct {
+    uint8_t command;
+    size_t place, size;
+} STORED_PARTS[] = {
+    {QS_SET_POSITION, QS_IMAGE_OFFSET, QS_IMAGE_OFFSET_SIZE},
+    {QS_INCREMENT_COUNTER, QS_IMAGE_COUNTER, QS_IMAGE_COUNTER_SIZE},
+    {QS_RESET_COUNTER, QS_IMAGE_COUNTER, QS_IMAGE_COUNTER_SIZE},
+    {QS_STORE_DATA, QS_IMAGE_LASTING, 0},
+    {QS_CREATE_FIELD, QS_IMAGE_LASTING, 0},
+    {QS_SET_ACCESS_CODE, QS_IMAGE_CODES, QS_IMAGE_CODES_SIZE},
+    {QS_SET_ADDRESS, QS_IMAGE_ADDRESS, QS_IMAGE_ADDRESS_SIZE},
+};
+
+static void stored_its_part(uint8_t command) {
+    size_t i = 0;
+    while (STORED_PARTS[i].command != command)
+        i++;
+    memcpy(before.image + STORED_PARTS[i].place, board.image + STORED_PARTS[i].place, STORED_PARTS[i].size);
+    check(memcmp(before.image + QS_IMAGE_LASTING, board.image + QS_IMAGE_LASTING, QS_LASTING_LENGTH) == 0, "a command stores to its own part", command);
 }
 
 /* Memory and lasting bytes change only with the reply of a command that stores. The head never does. */
@@ -411,6 +437,7 @@ static void lasting_step(struct call c) {
         check(c.kind == CHARACTER || c.kind == POLL, "only characters and polls store", c.kind);
         stored[board.room[1] & 0x7F]++;
         stored_by[c.kind == POLL]++;
+        stored_its_part(board.room[1] & 0x7F);
     }
 }
 

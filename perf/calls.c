@@ -29,8 +29,8 @@ static void refused_image(const char *row, board_call library, board_call hand) 
         uint8_t place, value;
     } BEYOND[] = {
         {QS_IMAGE_LAYOUT, QS_LAYOUT_NUMBER + 1}, {QS_IMAGE_TOTAL, 0},    {QS_IMAGE_TOTAL, TOTAL + 1}, {QS_IMAGE_BITS, 33},
-        {QS_IMAGE_PLATE_ADDRESS, 32},            {QS_IMAGE_TICKS, 3},    {QS_IMAGE_PAUSE, 54},        {QS_IMAGE_COUNTER + 3, 1},
-        {QS_IMAGE_ADDRESS, 32},                  {QS_IMAGE_OFFSET + 3, 1},
+        {QS_IMAGE_PLATE_ADDRESS, 32},            {QS_IMAGE_TICKS, 3},    {QS_IMAGE_PAUSE, 54},        {QS_IMAGE_ADDRESS, 32},
+        {QS_IMAGE_ADDRESS, 255},                 {QS_IMAGE_OFFSET + 3, 1},
         {QS_IMAGE_LOCKED, 2},                    {QS_IMAGE_PARITY, 2},   {QS_IMAGE_KEPT_NUMBER, QS_KEPT_BYTES + 1},
         {QS_IMAGE_WAITING, QS_FAULT_LOCKS_A},    {QS_IMAGE_WAITING + 1, QS_FAULT_LOCKS_B}, /* also behind an empty place */
         {QS_IMAGE_WAITING + 3, 0x1E},            {QS_IMAGE_WAITING + 3, QS_FAULT_LOCKS_B}, /* 1Eh waits already, or the place before is empty */

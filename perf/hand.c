@@ -18,6 +18,18 @@ static void store(uint8_t *at, uint32_t value) {
     at[3] = (uint8_t)(value >> 24);
 }
 
+static uint32_t load_counter(const uint8_t *image) {
+    const uint8_t *at = image + QS_IMAGE_COUNTER;
+    return (uint32_t)at[0] | (uint32_t)at[1] << 8 | (uint32_t)at[2] << 16;
+}
+
+static void store_counter(uint8_t *image, uint32_t value) {
+    uint8_t *at = image + QS_IMAGE_COUNTER;
+    at[0] = (uint8_t)value;
+    at[1] = (uint8_t)(value >> 8);
+    at[2] = (uint8_t)(value >> 16);
+}
+
 static bool plate_is_good(uint32_t total, uint32_t bits, uint32_t address, uint32_t ticks, uint32_t pause) {
     return total - 1 < 112 && bits - 1 < 32 && address < 32 && ticks != 0 && ticks <= 64 && (ticks & (ticks - 1)) == 0 && (pause == 22 || pause == 55);
 }
@@ -45,9 +57,8 @@ static bool queue_is_good(const uint8_t *q) {
 
 static bool state_is_good(const uint8_t *image) {
     const uint8_t *flags = image + QS_IMAGE_LOCKED;
-    return image[QS_IMAGE_COUNTER + 3] == 0 && image[QS_IMAGE_ADDRESS] < 32 &&
-           (uint64_t)load(image + QS_IMAGE_OFFSET) >> image[QS_IMAGE_BITS] == 0 && (flags[0] | flags[1] | flags[2] | flags[3]) <= 1 &&
-           image[QS_IMAGE_KEPT_NUMBER] <= QS_KEPT_BYTES && queue_is_good(image + QS_IMAGE_WAITING);
+    return image[QS_IMAGE_ADDRESS] < 32 && (uint64_t)load(image + QS_IMAGE_OFFSET) >> image[QS_IMAGE_BITS] == 0 &&
+           (flags[0] | flags[1] | flags[2] | flags[3]) <= 1 && image[QS_IMAGE_KEPT_NUMBER] <= QS_KEPT_BYTES && queue_is_good(image + QS_IMAGE_WAITING);
 }
 
 static bool image_is_good(const uint8_t *image, uint64_t image_length) {
@@ -156,8 +167,8 @@ static unsigned read_counter(const struct work *w) {
 }
 
 static unsigned increment_counter(const struct work *w) {
-    uint32_t counter = (load(w->image + QS_IMAGE_COUNTER) + 1) & 0xFFFFFF;
-    store(w->image + QS_IMAGE_COUNTER, counter);
+    uint32_t counter = (load_counter(w->image) + 1) & 0xFFFFFF;
+    store_counter(w->image, counter);
     if (counter == 0)
         note(w->image, QS_ERROR_COUNTER_OVERFLOW);
     return 0;
@@ -166,7 +177,7 @@ static unsigned increment_counter(const struct work *w) {
 static unsigned reset_counter(const struct work *w) {
     if (w->data[0] != w->image[QS_IMAGE_CODES])
         return FAILED + QS_ERROR_WRONG_CODE;
-    store(w->image + QS_IMAGE_COUNTER, 0);
+    store_counter(w->image, 0);
     return 0;
 }
 

@@ -6,8 +6,8 @@
 
 #include <string.h>
 
-/* ADDRESS is in force; it is not the plate's. */
-enum { TOTAL = 112, SMALL_TOTAL = 8, BITS = 24, PLATE_ADDRESS = 7, ADDRESS = 0, TICKS = 4, PAUSE = 55, SHORT_PAUSE = 22 };
+/* ADDRESS is in force; it is not the plate's, and not 0, so that a board that writes the counter too wide leaves another image. */
+enum { TOTAL = 112, SMALL_TOTAL = 8, BITS = 24, PLATE_ADDRESS = 7, ADDRESS = 3, TICKS = 4, PAUSE = 55, SHORT_PAUSE = 22 };
 
 static uint8_t image[QS_IMAGE_LENGTH], memory[QS_MEMORY_LENGTH(TOTAL)], room[QS_REPLY_ROOM];
 
@@ -48,7 +48,7 @@ static void set_image(void) {
     const uint8_t codes[4] = {state->first_code, 0x1F, 0x20, 0x21};
     qs_fresh(total, BITS, PLATE_ADDRESS, TICKS, pause_bits, label, sizeof label, image, sizeof image);
     image[QS_IMAGE_ADDRESS] = ADDRESS;
-    memset(image + QS_IMAGE_COUNTER, state->counter, 3);
+    memset(image + QS_IMAGE_COUNTER, state->counter, QS_IMAGE_COUNTER_SIZE);
     memcpy(image + QS_IMAGE_WAITING, codes, codes_wait);
     image[QS_IMAGE_LOCKED] = state->locked;
 }
