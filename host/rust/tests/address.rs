@@ -1,5 +1,4 @@
-//! Address, label and version (02, Req 01) beside the second program: every new address byte, every address byte that an image can hold, labels of any bytes,
-//! and runs in which the traffic alone tells where the board is.
+//! Address, label and version (02, Req 01) beside the second program: every address byte on the wire and in an image, labels of any bytes, long runs of moves.
 
 mod rig;
 

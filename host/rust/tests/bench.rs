@@ -10,44 +10,61 @@ use rig::{some_address, COMMANDS, EDGE_ADDRESSES, EVERY_BOARD, NEW_COMMANDS};
 use second::{Label, Plate, Refusal, Request, State, Verdict};
 use second::{BROADCAST, LABEL_LENGTH, REPLY_ROOM, REQUEST_ROOM};
 
-const PLATE: Plate = Plate {
-    total_blocks: 40,
-    position_bits: 24,
-    address: 7,
-    ticks_per_bit: 4,
-    pause: 55,
-    label: Label::BLANK,
-};
-
 const SET_ADDRESS: u8 = 0x55;
 
-/// The plate with a label whose bytes all differ.
-fn labelled() -> Plate {
-    let label: Vec<u8> = (0xB0..).take(LABEL_LENGTH).collect();
-    Plate {
-        label: Label::new(&label).expect("a label's length"),
-        ..PLATE
-    }
+/// The second program's board, which answers the bench.
+struct Answerer {
+    plate: Plate,
+    state: State,
+    memory: Vec<u8>,
 }
 
-/// A memory of several fields, so that requests find something.
-fn memory(dice: &mut Dice) -> Vec<u8> {
-    let mut memory = dice.bytes(PLATE.memory_length());
-    let table = 16 * PLATE.total_blocks as usize;
-    memory[table..].fill(0);
-    for status in &mut memory[table..table + 6] {
-        *status = 0xC0 | dice.byte() & 0x37;
+impl Answerer {
+    /// A fresh one, but with several fields, so that requests find something; the bytes of its label all differ.
+    fn new(dice: &mut Dice) -> Answerer {
+        let label: Vec<u8> = (0xB0..).take(LABEL_LENGTH).collect();
+        let plate = Plate {
+            total_blocks: 40,
+            position_bits: 24,
+            address: 7,
+            ticks_per_bit: 4,
+            pause: 55,
+            label: Label::new(&label).expect("a label's length"),
+        };
+        let mut memory = dice.bytes(plate.memory_length());
+        let table = 16 * plate.total_blocks as usize;
+        memory[table..].fill(0);
+        for status in &mut memory[table..table + 6] {
+            *status = 0xC0 | dice.byte() & 0x37;
+        }
+        Answerer {
+            plate,
+            state: State::fresh(&plate),
+            memory,
+        }
     }
-    memory
-}
 
-fn known<'a>(state: &'a State, memory: &'a [u8]) -> rig::Known<'a> {
-    rig::Known {
-        plate: &PLATE,
-        address: state.address_byte(),
-        former: 0x40 + PLATE.address as u8,
-        codes: &state.codes,
-        memory,
+    fn known(&self) -> rig::Known<'_> {
+        rig::Known {
+            plate: &self.plate,
+            address: self.state.address_byte(),
+            former: 0x40 + self.plate.address as u8,
+            codes: &self.state.codes,
+            memory: &self.memory,
+        }
+    }
+
+    /// Its reply to a request, or the empty one.
+    fn reply_to(&mut self, request: &[u8]) -> Vec<u8> {
+        let (plate, state, memory) = (&self.plate, &mut self.state, &mut self.memory);
+        let mut room = [0; REPLY_ROOM];
+        for &value in request {
+            second::character(plate, state, 0, value, false, memory, &mut room)
+                .expect("not refused");
+        }
+        let closing = plate.closing_gap();
+        let length = second::poll(plate, state, closing, memory, &mut room).expect("not refused");
+        room[..length].to_vec()
     }
 }
 
@@ -55,12 +72,11 @@ fn known<'a>(state: &'a State, memory: &'a [u8]) -> rig::Known<'a> {
 #[test]
 fn requests() {
     let mut dice = Dice::new(1);
-    let state = State::fresh(&PLATE);
-    let memory = memory(&mut dice);
+    let board = Answerer::new(&mut dice);
     let mut written: BTreeMap<u8, usize> = BTreeMap::new();
     let mut no_address = 0;
     for _ in 0..400_000 {
-        let (command, data) = rig::request(&mut dice, &known(&state, &memory));
+        let (command, data) = rig::request(&mut dice, &board.known());
         let address = match dice.below(8) {
             0 => dice.word(),
             1 => dice.word() % 300,
@@ -91,17 +107,6 @@ fn requests() {
     assert!(written.values().sum::<usize>() > 100_000);
     assert!(written.keys().eq(COMMANDS.iter()), "{written:X?}");
     assert!(written.values().all(|&number| number > 1000) && no_address > 1000);
-}
-
-/// The second board's reply to a request, or the empty one.
-fn reply_to(request: &[u8], plate: &Plate, memory: &mut [u8], state: &mut State) -> Vec<u8> {
-    let mut room = [0; REPLY_ROOM];
-    for &value in request {
-        second::character(plate, state, 0, value, false, memory, &mut room).expect("not refused");
-    }
-    let length =
-        second::poll(plate, state, plate.closing_gap(), memory, &mut room).expect("not refused");
-    room[..length].to_vec()
 }
 
 /// What the second program's row of the command says of a reply that begins so, two or more of its bytes being here.
@@ -156,6 +161,11 @@ fn verdict_name(verdict: Result<second::Verdict, Refusal>) -> String {
     })
 }
 
+const DONE: &[&str] = &["Ok(Done)", "Ok(DoneWithWarning)"];
+const ERROR: &[&str] = &["Error", "ErrorWithWarning"];
+const REFUSED_EARLY: &[&str] = &["Err(B0)", "Err(B1)", "Err(B2)"];
+const REFUSED_LATE: &[&str] = &["Err(B3)", "Err(B4)", "Err(B5)", "Err(B6)"];
+
 /// How often each verdict came to requests of each command.
 type Seen = BTreeMap<(u8, String), usize>;
 
@@ -174,6 +184,11 @@ fn judged(request: &[u8], reply: &[u8]) -> Result<Verdict, Refusal> {
     verdict
 }
 
+fn in_all(seen: &Seen, name: &str) -> usize {
+    let of_name = seen.iter().filter(|((_, found), _)| found == name);
+    of_name.map(|(_, number)| number).sum()
+}
+
 fn came_up(seen: &Seen, command: u8, names: &[&str]) {
     for name in names {
         let number = seen.get(&(command, name.to_string())).copied();
@@ -184,33 +199,44 @@ fn came_up(seen: &Seen, command: u8, names: &[&str]) {
     }
 }
 
-/// Requests and replies of a board, both now and then damaged. The board is asked where its last 55h put it, at its plate's address and by broadcast.
+/// A request that the bench writes to a board where its last 55h put it, where its plate did, or to all, and the board's reply.
+fn exchange(dice: &mut Dice, board: &mut Answerer) -> Option<(Vec<u8>, Vec<u8>)> {
+    let (command, data) = rig::request(dice, &board.known());
+    let own = board.state.address;
+    let address = dice.one_of(&[
+        own,
+        own,
+        own,
+        own,
+        BROADCAST,
+        BROADCAST,
+        board.plate.address,
+    ]);
+    let mut room = [0; REQUEST_ROOM];
+    let length = second::write_request(address, command, &data, &mut room).ok()?;
+    if dice.once_in(50) {
+        board.state.note_fault(dice.byte());
+    }
+    let request = room[..length].to_vec();
+    let reply = board.reply_to(&request);
+    if board.state.address != own {
+        let done = [Ok(Verdict::Done), Ok(Verdict::DoneWithWarning)];
+        assert!(done.contains(&judged(&request, &reply)), "{request:X?}");
+    }
+    Some((request, reply))
+}
+
+/// Requests and replies of a board, both now and then damaged.
 #[test]
 fn verdicts() {
     let mut dice = Dice::new(2);
-    let mut seen: BTreeMap<String, usize> = BTreeMap::new();
-    let mut by_command = Seen::new();
-    let plate = labelled();
-    let mut state = State::fresh(&plate);
-    let mut memory = memory(&mut dice);
+    let mut seen = Seen::new();
+    let mut board = Answerer::new(&mut dice);
     for _ in 0..600_000 {
-        let (command, data) = rig::request(&mut dice, &known(&state, &memory));
-        let own = state.address;
-        let address = dice.one_of(&[own, own, own, own, BROADCAST, BROADCAST, PLATE.address]);
-        let mut room = [0; REQUEST_ROOM];
-        let Ok(length) = second::write_request(address, command, &data, &mut room) else {
+        let Some((mut request, mut reply)) = exchange(&mut dice, &mut board) else {
             continue;
         };
-        let mut request = room[..length].to_vec();
-        if dice.once_in(50) {
-            state.note_fault(dice.byte());
-        }
-        let mut reply = reply_to(&request, &plate, &mut memory, &mut state);
-        if state.address != own {
-            let verdict = judged(&request, &reply);
-            let done = [Ok(Verdict::Done), Ok(Verdict::DoneWithWarning)];
-            assert!(done.contains(&verdict), "{request:X?} {reply:X?}");
-        }
+        let command = request[1];
         for _ in 0..dice.one_of(&[0, 0, 1, 1, 2, 3]) {
             rig::mutate(&mut dice, &mut reply);
         }
@@ -218,38 +244,17 @@ fn verdicts() {
             rig::mutate(&mut dice, &mut request);
         }
         let name = verdict_name(judged(&request, &reply));
-        *by_command.entry((command, name.clone())).or_default() += 1;
-        *seen.entry(name).or_default() += 1;
+        *seen.entry((command, name)).or_default() += 1;
+    }
+    for name in [DONE, ERROR, REFUSED_EARLY, REFUSED_LATE].concat() {
+        let number = in_all(&seen, name);
+        assert!(number > 100, "{name} in {seen:X?}");
     }
     for command in NEW_COMMANDS {
-        let names = [
-            "Ok(Done)",
-            "Ok(DoneWithWarning)",
-            "Err(B1)",
-            "Err(B2)",
-            "Err(B3)",
-        ];
-        came_up(&by_command, command, &names);
+        came_up(&seen, command, DONE);
+        came_up(&seen, command, &["Err(B1)", "Err(B2)", "Err(B3)"]);
     }
-    came_up(&by_command, SET_ADDRESS, &["Error", "ErrorWithWarning"]);
-    for name in [
-        "Ok(Done)",
-        "Ok(DoneWithWarning)",
-        "Error",
-        "ErrorWithWarning",
-        "Err(B0)",
-        "Err(B1)",
-        "Err(B2)",
-        "Err(B3)",
-        "Err(B4)",
-        "Err(B5)",
-        "Err(B6)",
-    ] {
-        assert!(
-            seen.get(name).is_some_and(|&number| number > 100),
-            "{name} in {seen:?}"
-        );
-    }
+    came_up(&seen, SET_ADDRESS, ERROR);
 }
 
 /// A reply that no board sends but by chance: from the asked address, the new one or one beside it, with a command and data of about the right kind.
@@ -322,13 +327,10 @@ fn verdicts_on_addresses() {
         *seen.entry((command, verdict_name(verdict))).or_default() += 1;
     }
     for command in NEW_COMMANDS {
-        came_up(&seen, command, &["Ok(Done)", "Ok(DoneWithWarning)"]);
-        came_up(&seen, command, &["Error", "ErrorWithWarning"]);
-        came_up(
-            &seen,
-            command,
-            &["Err(B2)", "Err(B3)", "Err(B4)", "Err(B5)"],
-        );
+        came_up(&seen, command, DONE);
+        came_up(&seen, command, ERROR);
+        came_up(&seen, command, &["Err(B2)", "Err(B3)", "Err(B4)"]);
+        came_up(&seen, command, &["Err(B5)"]);
     }
     assert_eq!(broken.len(), 7, "{broken:?}");
     assert!(broken.values().all(|&number| number > 1000), "{broken:?}");

@@ -219,15 +219,32 @@ impl Board {
 
     /// A frame sent by a drive, and mostly the poll that closes it; else the next frame's first character does.
     pub fn calls_of_exchange(&mut self, dice: &mut Dice) -> Vec<Call> {
-        let mut calls = vec![];
-        let known = Known {
+        let frame = frame(dice, &self.known());
+        let mut calls = self.calls_of_frame(dice, &frame);
+        if dice.once_in(4) {
+            calls.push(self.interlude(dice));
+        }
+        if !dice.once_in(4) {
+            let gap = self.outer_gap(dice);
+            let tick = self.after(gap);
+            calls.push(Call::Poll { tick });
+        }
+        calls
+    }
+
+    fn known(&self) -> Known<'_> {
+        Known {
             plate: &self.plate,
             address: self.address_byte(),
             former: self.former,
             codes: &self.image[CODES..COUNTER],
             memory: &self.memory,
-        };
-        let frame = frame(dice, &known);
+        }
+    }
+
+    /// The characters of a frame, now and then one with a parity fault, and a host's calls between them.
+    fn calls_of_frame(&mut self, dice: &mut Dice, frame: &[u8]) -> Vec<Call> {
+        let mut calls = vec![];
         let faulty = if dice.once_in(40) {
             dice.below(frame.len().max(1))
         } else {
@@ -253,14 +270,6 @@ impl Board {
                 value,
                 parity,
             });
-        }
-        if dice.once_in(4) {
-            calls.push(self.interlude(dice));
-        }
-        if !dice.once_in(4) {
-            let gap = self.outer_gap(dice);
-            let tick = self.after(gap);
-            calls.push(Call::Poll { tick });
         }
         calls
     }
