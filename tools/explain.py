@@ -36,11 +36,11 @@ import bench
 from asking import Wanted
 from bench import Judge, Verdict
 from commands import WARNING, fault_words
-from frames import Frame, frame_at, frames_of, happenings, silence_due
+from frames import Frame, address_after, frame_at, frames_of, happenings, silence_due
 from records import Bad, Fault, Measured, Plate, milliseconds, split
 from tape import Expectation, Session, read_session
 from traffic import explain_log
-from words import Summary, entry, error_code, hex_lines, page_of, reply_words, request_words
+from words import Summary, address_words, entry, error_code, hex_lines, page_of, reply_words, request_words
 from written import WrittenError, complain, is_text, put_out, read_file, text_of_bytes
 
 ANSWER = os.path.join("target", "bin", "answer")
@@ -85,12 +85,12 @@ def runs_of(frames: List[Frame]) -> List[List[Frame]]:
     return runs
 
 
-def shared_out(plate: Plate, run: List[Frame], replies: List[Reply], judge: Judge) -> List[int]:
+def shared_out(own: int, run: List[Frame], replies: List[Reply], judge: Judge) -> List[int]:
     """Which of the frames that close at one tick each reply answers: rather one that is to be answered, and rather one that it fits."""
 
     def score(frame: int, reply: int) -> int:
         fits = judge(run[frame].values, replies[reply].values).kind != "refused"
-        return 2 * (not silence_due(plate, run[frame])) + fits
+        return 2 * (not silence_due(own, run[frame])) + fits
 
     return in_order(len(run), len(replies), score)
 
@@ -99,6 +99,7 @@ def matched(plate: Plate, frames: List[Frame], replies: List[Reply], judge: Judg
     """As `paired`, where replies are missing or too many: tick by tick, and a reply at a tick at which no frame closes hides none behind it."""
     found: Dict[int, Reply] = {}
     strays: List[Reply] = []
+    own = plate.own_byte()
     waiting = list(reversed(replies))
     to_close = Counter(frame.closed for frame in frames)
     for run in runs_of(frames):
@@ -107,10 +108,25 @@ def matched(plate: Plate, frames: List[Frame], replies: List[Reply], judge: Judg
         here: List[Reply] = []
         while waiting and waiting[-1].tick == run[0].closed and len(here) < len(run):
             here.append(waiting.pop())
-        for reply, frame in zip(here, shared_out(plate, run, here, judge)):
+        for reply, frame in zip(here, shared_out(own, run, here, judge)):
             found[run[frame].first] = reply
+            own = address_after(own, run[frame].values, reply.values)
         to_close[run[0].closed] -= len(run)
     return found, strays + waiting[::-1]
+
+
+def one_by_one(plate: Plate, frames: List[Frame], replies: List[Reply]) -> Optional[Dict[int, Reply]]:
+    """The next reply to each frame that is to be answered, by the address in force when it closes; None where ticks or numbers differ."""
+    found: Dict[int, Reply] = {}
+    own = plate.own_byte()
+    for frame in frames:
+        if frame.closed is None or silence_due(own, frame):
+            continue
+        if len(found) == len(replies) or replies[len(found)].tick != frame.closed:
+            return None
+        reply = found[frame.first] = replies[len(found)]
+        own = address_after(own, frame.values, reply.values)
+    return found if len(found) == len(replies) else None
 
 
 def paired(plate: Plate, frames: List[Frame], replies: List[Reply], judge: Judge) -> Tuple[Dict[int, Reply], List[Reply]]:
@@ -118,10 +134,8 @@ def paired(plate: Plate, frames: List[Frame], replies: List[Reply], judge: Judge
 
     A board answers each frame that is to be answered, at the tick at which it closes, and no other: then the replies are theirs, one by one.
     """
-    due = [frame for frame in frames if frame.closed is not None and not silence_due(plate, frame)]
-    if [frame.closed for frame in due] == [reply.tick for reply in replies]:
-        return {frame.first: reply for frame, reply in zip(due, replies)}, []
-    return matched(plate, frames, replies, judge)
+    found = one_by_one(plate, frames, replies)
+    return matched(plate, frames, replies, judge) if found is None else (found, [])
 
 
 # --- the page -------------------------------------------------------------------------------
@@ -139,10 +153,10 @@ def holds(wanted: Wanted, reply: Optional[Reply], verdict: Optional[Verdict]) ->
 
 
 class Teller:
-    """What tells a tape: its plate, which reply answers which frame, what is expected, the judge, and the sums so far."""
+    """What tells a tape: the address byte in force, which reply answers which frame, what is expected, the judge, and the sums so far."""
 
     def __init__(self, plate: Plate, replies: Dict[int, Reply], expectations: Dict[int, List[Expectation]], judge: Judge):
-        self.plate = plate
+        self.own = plate.own_byte()
         self.replies = replies
         self.expectations = expectations
         self.judge = judge
@@ -162,27 +176,29 @@ class Teller:
         if frame.closed is None:
             self.summary = self.summary.plus(Summary(frames=1))
             return entry(None, "", ["never closed: no reply"])
-        due = silence_due(self.plate, frame)
+        due = silence_due(self.own, frame)
         self.summary = self.summary.plus(Summary(frames=1, silences=1, wrong=int(not due)))
         return entry(frame.closed, "silence", ["" if due else "though a reply was due"])
 
     def reply(self, frame: Frame, reply: Reply, verdict: Verdict) -> List[str]:
         """A frame's reply, with the verdict."""
-        undue = silence_due(self.plate, frame)
+        undue = silence_due(self.own, frame)
         is_error = error_code(verdict, reply.values) is not None
         self.summary = self.summary.plus(Summary(frames=1, replies=1, errors=int(is_error), wrong=int(undue or verdict.is_wrong())))
         lines = hex_lines(reply.values) + reply_words(frame.values, reply.values, verdict)
         return entry(reply.tick, "reply", lines + ["a reply, though silence was due"] * undue)
 
     def frame(self, frame: Frame) -> List[str]:
-        """A frame, what came to it, and whether that was expected."""
-        words = request_words(frame.values, frame.parity, self.plate.own_byte())
+        """A frame, what came to it, and whether that was expected. An accepted 55h gives the address for the frames behind it."""
+        words = request_words(frame.values, frame.parity, self.own)
         page = entry(frame.start, "request", hex_lines(frame.values) + [words])
         reply = self.replies.get(frame.first)
         if reply is None:
             return page + self.silence(frame) + self.expected(frame, None)
         verdict = self.judge(frame.values, reply.values)
-        return page + self.reply(frame, reply, verdict) + self.expected(frame, verdict)
+        page += self.reply(frame, reply, verdict) + self.expected(frame, verdict)
+        self.own = address_after(self.own, frame.values, reply.values)
+        return page
 
     def happening(self, happening: object) -> List[str]:
         if isinstance(happening, Frame):
@@ -196,7 +212,7 @@ class Teller:
 
 def plate_line(plate: Plate) -> str:
     return (
-        f"Board of {plate.total} blocks, {plate.bits} position bits, address {plate.address} ({plate.own_byte():02X}h), "
+        f"Board of {plate.total} blocks, {plate.bits} position bits, {address_words(plate.own_byte())}, "
         f"{plate.ticks} ticks a bit; a gap of {plate.closing_gap()} ticks ({milliseconds(plate.closing_gap())}) closes a frame."
     )
 

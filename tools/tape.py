@@ -9,7 +9,7 @@ A text has one event a line; what follows # is a comment. The plate comes first 
     plate total 112 bits 24 address 0 ticks 4 pause 55
     ask memory-status                 a request by name: frame, checksum and poll in one
     ask read-data field 0 offset 0 count 8 code 55
-    ask to all memory-status          to every board; `to 3` is address 3, left out it is the plate's
+    ask to all memory-status          to every board; `to 3` is address 3, left out it is the plate's, whatever 55h did
     ask 40 4E                         the same in bytes; the checksum is added, unless they end in theirs (404E0E)
     expect reply 40 4E 70 00 sum      what must come to the last ask or frame: these bytes,
     expect silence                    no reply,
@@ -48,7 +48,7 @@ from typing import Dict, List, NamedTuple, Optional
 from asking import Wanted, asked, wanted_of
 from bench import Verdict
 from commands import ERROR, WARNING
-from frames import frame_at, frames_of
+from frames import Frame, address_after, frame_at, frames_of
 from records import TICKS, Character, Fault, Measured, Plate, Poll, PowerOn, Record, decode, encode, gap, hex_of, split, xor_of
 from written import WrittenError, bytes_of, complain, event_and_comment, hex_byte, number_of, put_out, read_file, text_of_bytes
 
@@ -195,7 +195,7 @@ class Writer:
 
     def put_ask(self, found):
         at, every, text = found.groups()
-        self.put_characters(at, every, asked(self.plate, text.strip()))
+        self.put_characters(at, every, asked(self.plate.own_byte(), text.strip()))
         self.put(self.closing_poll())
 
     def put_expect(self, found):
@@ -332,30 +332,51 @@ def tape_of(text: str) -> bytes:
     return good_session(text).tape
 
 
-def expected_bytes(plate: Plate, wanted: Wanted) -> Optional[bytes]:
-    """The reply that an expectation comes to, no bytes for silence; None where it leaves bytes open."""
+def expected_bytes(own: int, wanted: Wanted) -> Optional[bytes]:
+    """The reply of a board of this address byte that an expectation comes to, no bytes for silence; None where it leaves bytes open."""
     if not isinstance(wanted, Verdict):
         return wanted or b""
     if wanted.kind != "error":
         return None
-    reply = bytes([plate.own_byte(), ERROR + WARNING * wanted.warning, wanted.number])
+    reply = bytes([own, ERROR + WARNING * wanted.warning, wanted.number])
     return reply + bytes([xor_of(reply)])
+
+
+def one_reply(own: int, named: Optional[bytes], expectations: List[Expectation]) -> Optional[bytes]:
+    """The one reply that a comment, if there is one, and all expectations of a frame come to; None where there is neither."""
+    expected = [(expected_bytes(own, expectation.wanted), expectation) for expectation in expectations]
+    for values, expectation in sorted(expected, key=lambda pair: pair[0] is None):
+        if values is None and named is None:
+            raise TextError(expectation.line, "no bytes are named for this reply: a stored session needs `expect reply`")
+        if values is not None and named not in (None, values):
+            raise TextError(expectation.line, f"another reply is named already: {hex_of(named) or 'silence'}")
+        named = values if named is None else named
+    return named
+
+
+def by_closing(frames: List[Frame], expectations: List[Expectation]) -> Dict[int, List[Expectation]]:
+    """Expectations by the place of the record that closes their frame."""
+    found: Dict[int, List[Expectation]] = {}
+    for expectation in expectations:
+        frame = frame_at(frames, expectation.place)
+        if frame is None or frame.closed_at is None:
+            raise TextError(expectation.line, "nothing closes the frame that this speaks of")
+        found.setdefault(frame.closed_at, []).append(expectation)
+    return found
 
 
 def replies_to_come(session: Session) -> Dict[int, bytes]:
     """Each reply that a text names, by comment or by expect, at the place of the record that is to bring it; no bytes for silence."""
     records, _ = split(session.tape)
-    frames = frames_of(records)
+    frames = [frame for frame in frames_of(records) if frame.closed_at is not None]
+    expected = by_closing(frames, session.expectations)
     replies = {reply.place: reply.values for reply in session.replies}
-    expected = [(expected_bytes(records[0], expectation.wanted), expectation) for expectation in session.expectations]
-    for values, expectation in sorted(expected, key=lambda pair: pair[0] is None):
-        frame = frame_at(frames, expectation.place)
-        if frame is None or frame.closed_at is None:
-            raise TextError(expectation.line, "nothing closes the frame that this speaks of")
-        if values is None and frame.closed_at not in replies:
-            raise TextError(expectation.line, "no bytes are named for this reply: a stored session needs `expect reply`")
-        if values is not None and replies.setdefault(frame.closed_at, values) != values:
-            raise TextError(expectation.line, f"another reply is named already: {hex_of(replies[frame.closed_at]) or 'silence'}")
+    own = records[0].own_byte() if frames else 0
+    for frame in frames:
+        reply = one_reply(own, replies.get(frame.closed_at), expected.get(frame.closed_at, []))
+        if reply is not None:
+            replies[frame.closed_at] = reply
+        own = address_after(own, frame.values, reply or b"")
     return replies
 
 

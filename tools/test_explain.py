@@ -63,11 +63,38 @@ JUDGED = (
     (sealed("40 4C 01"), sealed("40 4C 02 E0"), "refused B6"),
     (sealed("40 4D 01 E0 55"), sealed("40 4D 01 E1"), "refused B6"),
     (sealed("40 4F 02 55 66"), sealed("40 4F 03"), "refused B6"),
+    (sealed("40 52"), sealed("40 52 E4 FF 80 00"), "done"),
+    (sealed("40 52"), sealed("40 52 E4 FF 80"), "refused B5"),
+    (sealed("40 52 00"), sealed("40 52 E4 FF 80 00"), "refused B0"),
+    (sealed("40 56"), sealed("40 D6" + "00" * 37), "done with warning"),
+    (sealed("40 56"), sealed("40 56" + "00" * 36), "refused B5"),
+)
+
+# The reply to 55h carries the new address byte, an error reply the asked one.
+SET_TO_5 = sealed("40 55 45 55")
+JUDGED_55H = (
+    (SET_TO_5, sealed("45 55"), "done"),
+    (SET_TO_5, sealed("45 D5"), "done with warning"),
+    (SET_TO_5, sealed("40 55"), "refused B3"),
+    (SET_TO_5, sealed("46 D5"), "refused B3"),
+    (SET_TO_5, sealed("45 55 00"), "refused B5"),
+    (SET_TO_5, sealed("40 50 0F"), "error 0Fh"),
+    (SET_TO_5, sealed("45 50 0F"), "refused B3"),
+    (SET_TO_5, sealed("45 4E 70 00"), "refused B3"),
+    (SET_TO_5, sealed("40 4E 70 00"), "refused B4"),
+    (sealed("40 55 40 55"), sealed("40 55"), "done"),
+    (sealed("40 55 60 55"), sealed("60 55"), "refused B3"),
+    (sealed("40 55 60 55"), sealed("40 50 0D"), "error 0Dh"),
+    (sealed("FF 55 45 55"), sealed("45 55"), "done"),
+    (sealed("FF 55 45 55"), sealed("46 55"), "refused B3"),
+    (sealed("FF 55 45 55"), sealed("5F D0 0D"), "error 0Dh with warning"),
+    (sealed("FF 55 FF 55"), sealed("FF 55"), "refused B3"),
+    (sealed("40 55 45"), sealed("45 55"), "refused B0"),
 )
 
 
 def test_judge():
-    for request, reply, verdict in JUDGED:
+    for request, reply, verdict in JUDGED + JUDGED_55H:
         assert JUDGE(request, reply).words() == verdict, (request.hex(), reply.hex(), JUDGE(request, reply))
 
 
@@ -174,6 +201,40 @@ def test_stray_replies_hide_no_others():
     assert summed(two, right.format("500 40 40\n"))[:6] == (2, 3, 0, 0, 1, 0)
 
 
+def test_the_address_in_force_decides():
+    """An accepted 55h gives the address by which the frames that close later are paired, also one that its closing character opened."""
+    moved, status = "396 45 55 10\n", "{} 45 4E 08 00 03\n"
+    text = "ask 40 55 45 55\nask 40 4E\nask 45 4E\n"
+    pairs = [(0x55, "45 55 10"), (0x4E, "45 4E 08 00 03")]
+    assert replies_by_frame(text, moved + status.format(1100)) == (pairs, [])
+    assert summed(text, moved + status.format(1100)) == words.Summary(frames=3, replies=2, silences=1)
+    assert summed(text, "396 40 50 0F 1F\n748 40 4E 08 00 06\n") == words.Summary(frames=3, replies=2, errors=1, silences=1)
+    # The same where a reply is lacking or too many, so that ticks alone do not tell.
+    assert replies_by_frame(text + "ask 45 46\n", moved + status.format(1100)) == (pairs, [])
+    assert replies_by_frame(text, moved + "500 40 40\n" + status.format(1100)) == (pairs, [500])
+    assert summed(text + "ask 45 46\n", moved + status.format(1100))[:5] == (4, 2, 0, 2, 1)
+    assert summed(text, moved + "748 40 4E 08 00 06\n")[:5] == (3, 2, 0, 1, 2)
+    opened = "frame at 0: 40 55 45 55 05\nframe at 396: {}\npoll\n"
+    assert summed(opened.format("45 4E sum"), moved + status.format(704)) == words.Summary(frames=2, replies=2)
+    assert summed(opened.format("40 4E sum"), moved) == words.Summary(frames=2, replies=1, silences=1)
+
+
+def test_what_changes_no_address():
+    """A 55h that is refused, not answered, another's, or answered with another address than the new one."""
+    for request, answer in (
+        ("40 55 45 54", "396 40 50 0F 1F\n"),
+        ("40 55 60 55", "396 40 50 0D 1D\n"),
+        ("40 55 60 55", "396 60 55 35\n"),
+        ("40 55 45 55", ""),
+        ("40 55 45 55", "396 40 55 15\n"),
+        ("41 55 45 55", "396 45 55 10\n"),
+    ):
+        page = explained(f"ask {request}\nask 45 4E\n", answer)
+        assert page.count("for address byte 45h, not ours (40h)\n") == 1, (request, page)
+    assert "for address byte 45h" not in explained("ask FF 55 45 55\nask 45 4E\n", "396 45 D5 90\n748 45 CE 08 00 83\n")
+    assert "not ours (45h)\n" in explained("ask 40 55 45 55\nask 40 53\npower-on\nask at 5000 40 4E\n", "396 45 55 10\n")
+
+
 def test_in_order_is_the_best_choice():
     dice = random.Random(2)
     for _ in range(300):
@@ -258,6 +319,39 @@ def test_faulty_frames():
     assert "4Eh Memory Status: 1 bytes of data are not its length\n" in explained("frame at 0: 40 4E 00 sum\npoll\n", "")
     assert "4Bh Store Data: 5 bytes of data are not its length\n" in explained("frame at 0: 40 4B 00 00 02 55 01 sum\npoll\n", "")
     assert "136 bytes, longer than 135\n" in explained("frame at 0 every 1: " + "40 40 " * 68 + "\npoll\n", "")
+
+
+def test_address_and_label_commands():
+    """55h's new address and why it is refused; the four label bytes and the three texts taken apart."""
+    for lines, answer, line in (
+        ("ask 40 55 45 55\n", "396 45 55 10", "55h Set Encoder Address: new address 5 (45h), code 55h"),
+        ("ask 40 55 45 55\n", "396 45 55 10", "the board has address 5 (45h) from here on"),
+        ("ask 40 55 60 55\n", "396 40 50 0D 1D", "55h Set Encoder Address: new address byte 60h, which is not 40h to 5Fh, code 55h"),
+        ("ask 40 55 60 55\n", "396 40 50 0D 1D", "error 0Dh wrong argument (the new address byte is not 40h to 5Fh)"),
+        ("ask 40 4F 04 55 55\n", "440 40 50 0D 1D", "error 0Dh wrong argument (the code number is over 3)"),
+        ("ask 40 55 45 54\n", "396 40 50 0F 1F", "error 0Fh wrong access code (not the code that is wanted)"),
+        ("ask 40 55 45\n", "352 40 50 0C 1C", "55h Set Encoder Address: 1 bytes of data are not its length"),
+        ("ask 40 52\n", "308 40 52 E4 FF 80 00 89", "52h Read Type Label"),
+        ("ask 40 52\n", "308 40 52 E4 FF 80 00 89", f"{INTERFACE}, encoder type FFh (there is an extended type label), {MEMORY}, option code 00h"),
+        ("ask 40 52\n", "308 40 52 00 27 00 01 34", f"{FIRST_INTERFACE}, encoder type 27h, memory size 0 blocks (0 bytes), option code 01h"),
+        ("ask 40 56\n", f"308 {tape.hex_of(VERSION)}", 'serial number "0417-0009", version "QS 0.3" 00*14, date "16.11.24"'),
+        ("ask 40 56\n", f"308 {tape.hex_of(sealed('40 56' + '00' * 37))}", "serial number 00*9, version 00*20, date 00*8"),
+    ):
+        page, summary = told(lines, answer + "\n")
+        assert f"{line}\n" in page and summary.status() == 0, (line, page)
+
+
+INTERFACE = "interface E4h (9600 baud, 8 data bits, even parity, timeout 55 bit times, standard slave)"
+FIRST_INTERFACE = "interface 00h (600 baud, 8 data bits, no parity, timeout 22 bit times, bus slave)"
+MEMORY = "memory size 128 blocks (2048 bytes)"
+VERSION = sealed("40 56" + (b"0417-0009" + b"QS 0.3".ljust(20, b"\x00") + b"16.11.24").hex())
+
+
+def test_label_bytes_without_a_meaning():
+    assert words.interface_words(0x17) == "interface 17h (a data rate without a meaning, 8 data bits, a parity without a meaning, timeout 22 bit times, bus slave)"
+    assert "odd parity" in words.interface_words(0x30) and "38400 baud" in words.interface_words(0x06)
+    for text, told_so in ((b"A\x00B", "41 00 42"), (b'A"B', "41 22 42"), (b"\xff\x00", "FF 00*1"), (b" ~", '" ~"'), (b"", "")):
+        assert words.text_words(text) == told_so, text
 
 
 def test_error_codes_are_the_documents():

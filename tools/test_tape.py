@@ -204,7 +204,7 @@ def test_ask_is_frame_sum_and_poll():
     assert tape.tape_of(PLATE_LINE + "frame: 40 4E 0E\nask 40 4E\n") == tape.tape_of(PLATE_LINE + "frame: 40 4E 0E\nframe at 308: 40 4E 0E\npoll\n")
 
 
-# Each command by name, beside the bytes that 01's row gives it, written by hand.
+# Each command by name, beside the bytes that its row in docs/COMMANDS.md gives it, written by hand.
 ASKED = (
     ("read-position", "40 42 02"),
     ("set-position position 2 code 55", "40 43 00 00 00 02 55 54"),
@@ -222,7 +222,13 @@ ASKED = (
     ("memory-status", "40 4E 0E"),
     ("set-access-code code-number 2 old-code 55 new-code 66", "40 4F 02 55 66 3E"),
     ("read-encoder-status", "40 50 10"),
+    ("read-type-label", "40 52 12"),
     ("encoder-reset", "40 53 13"),
+    ("set-encoder-address address 5 code 55", "40 55 45 55 05"),
+    ("set-encoder-address code 0x66 address 0x1F", "40 55 5F 66 2C"),
+    ("to 31 set-encoder-address address 0 code 55", "5F 55 40 55 1F"),
+    ("to all set-encoder-address address 0 code 55", "FF 55 40 55 BF"),
+    ("read-version", "40 56 16"),
     ("to 31 encoder-reset", "5F 53 0C"),
     ("to all memory-status", "FF 4E B1"),
 )
@@ -234,6 +240,16 @@ def test_named_commands():
     assert {commands.BY_NAME[named.split()[2 if named.startswith("to ") else 0]] for named, _ in ASKED} == set(commands.COMMANDS)
     other = "plate total 8 bits 24 address 3 ticks 4 pause 55\n"
     assert tape.tape_of(other + "ask memory-status\n") == tape.tape_of(other + "frame: 43 4E 0D\npoll\n")
+
+
+def test_ask_goes_to_the_plates_address():
+    """Also behind a new address: whether the board took it is not the text's to know."""
+    moved = PLATE_LINE + "ask set-encoder-address address 5 code 55\n"
+    assert tape.tape_of(moved + "ask memory-status\n") == tape.tape_of(moved + "ask 40 4E\n")
+    assert tape.tape_of(moved + "ask to 5 memory-status\n") == tape.tape_of(moved + "ask 45 4E\n")
+    # In bytes this request to the own address ends in its checksum by chance, so `sum` is needed.
+    by_name = tape.tape_of(PLATE_LINE + "ask set-encoder-address address 0 code 55\n")
+    assert by_name == tape.tape_of(PLATE_LINE + "ask 40 55 40 55 sum\n") != tape.tape_of(PLATE_LINE + "ask 40 55 40 55\n")
 
 
 def test_ask_takes_a_whole_frame():
@@ -255,6 +271,10 @@ def test_ask_and_expect_errors():
         ("ask reset-counter code 155", "code is no byte in hex: 155"),
         ("ask read-position code 55", "no argument of this command: code; it takes none"),
         ("ask to 32 read-position", "address 32 is over 31"),
+        ("ask set-encoder-address address 32 code 55", "address 32 is over 31"),
+        ("ask set-encoder-address address 45h code 55", "address is no number: 45h"),
+        ("ask set-encoder-address address 5", "set-encoder-address wants address, code; not there: code"),
+        ("ask read-version field 0", "no argument of this command: field; it takes none"),
         ("ask set-position position 4294967296 code 55", "position 4294967296 is over 4294967295"),
         ("expect done", "expect speaks of the last ask or frame, and there is none"),
         ("ask 40 4E\nexpect reply", "a reply without bytes; write `expect silence`"),
@@ -278,6 +298,11 @@ def test_expectations_become_answers():
     text += "ask to 1 memory-status\nexpect silence\n"
     assert tape.answers_to_come(text) == "tick reply\n308 40 4E 08 00 06\n660 40 50 0B 1B\n"
     assert tape.answers_to_come(PLATE_LINE + "fault 08\nask 40 44\nexpect error 0B with warning\n") == "tick reply\n308 40 D0 0B 9B\n"
+    moved = PLATE_LINE + "ask 40 55 45 55\nexpect {}\nask 45 44\nexpect error 0B\n"
+    assert tape.answers_to_come(moved.format("reply 45 55 10")) == "tick reply\n396 45 55 10\n748 45 50 0B 1E\n"
+    assert tape.answers_to_come(moved.format("error 0F")) == "tick reply\n396 40 50 0F 1F\n748 40 50 0B 1B\n"
+    by_comment = PLATE_LINE + "frame: 40 55 45 55 05\npoll # reply 45 55 10\nask 45 44\nexpect error 0B\n"
+    assert tape.answers_to_come(by_comment) == "tick reply\n396 45 55 10\n748 45 50 0B 1E\n"
     cases = (
         ("ask memory-status\nexpect done\n", "line 3: no bytes are named for this reply: a stored session needs `expect reply`"),
         ("frame: 40 4E 0E\nexpect silence\n", "line 3: nothing closes the frame that this speaks of"),
