@@ -11,7 +11,7 @@ import sys
 HERE = pathlib.Path(__file__).resolve().parent
 TOOLS = HERE.parent / "tools"
 sys.path.append(str(TOOLS))
-from tape import TextError, answers_to_come, tape_of  # noqa: E402
+from texts import TextError, answers_to_come, tape_of  # noqa: E402
 
 FIRST = "tick reply\n"
 

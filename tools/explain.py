@@ -38,7 +38,7 @@ from bench import Judge, Verdict
 from commands import WARNING, fault_words
 from frames import Frame, address_after, frame_at, frames_of, happenings, silence_due
 from records import Bad, Fault, Measured, Plate, milliseconds, split
-from tape import Expectation, Session, read_session
+from texts import Expectation, Session, read_session
 from traffic import explain_log
 from words import Summary, address_words, entry, error_code, hex_lines, page_of, reply_words, request_words
 from written import WrittenError, complain, is_text, put_out, read_file, text_of_bytes

@@ -10,7 +10,8 @@ import bench
 import commands
 import explain
 import frames
-import tape
+import records
+import texts
 import traffic
 import words
 from test_tape import PLATE_LINE, ROOT, SESSIONS, SHEET_TAPE, put, run_tool, session
@@ -24,7 +25,7 @@ JUDGE = bench.load()
 
 def sealed(text):
     values = bytes.fromhex(text)
-    return values + bytes([tape.xor_of(values)])
+    return values + bytes([records.xor_of(values)])
 
 
 READ = sealed("40 4A 01 05 02 55")
@@ -135,7 +136,7 @@ def test_verdicts_come_from_the_library():
 
 
 def told(lines, answers):
-    return explain.explain_tape(tape.good_session(PLATE_LINE + lines), "tick reply\n" + answers, JUDGE)
+    return explain.explain_tape(texts.good_session(PLATE_LINE + lines), "tick reply\n" + answers, JUDGE)
 
 
 def explained(lines, answers):
@@ -148,11 +149,11 @@ def summed(lines, answers):
 
 def replies_by_frame(lines, answers):
     """Each frame's second byte, with the reply that it is given."""
-    records, _ = tape.split(tape.tape_of(PLATE_LINE + lines))
+    written_down, _ = records.split(texts.tape_of(PLATE_LINE + lines))
     replies, _ = explain.read_answers("tick reply\n" + answers)
-    cut = frames.frames_of(records)
-    pairs, strays = explain.paired(records[0], cut, replies, JUDGE)
-    found = [(frame.values[1], tape.hex_of(pairs[frame.first].values)) for frame in cut if frame.first in pairs]
+    cut = frames.frames_of(written_down)
+    pairs, strays = explain.paired(written_down[0], cut, replies, JUDGE)
+    found = [(frame.values[1], records.hex_of(pairs[frame.first].values)) for frame in cut if frame.first in pairs]
     return found, [reply.tick for reply in strays]
 
 
@@ -257,12 +258,12 @@ def subsets(count):
 def test_sessions_are_explained():
     for name in SESSIONS:
         text = session(name)
-        answers = tape.answers_to_come(text)
-        page, summary = explain.explain_tape(tape.good_session(text), answers, JUDGE)
+        answers = texts.answers_to_come(text)
+        page, summary = explain.explain_tape(texts.good_session(text), answers, JUDGE)
         assert summary.status() == 0 and "though" not in page and "to no frame" not in page, name
         assert page.count("bench: ") == answers.count("\n") - 1 == summary.replies, name
     text = session("pallet-night")
-    page, _ = explain.explain_tape(tape.good_session(text), tape.answers_to_come(text), JUDGE)
+    page, _ = explain.explain_tape(texts.good_session(text), texts.answers_to_come(text), JUDGE)
     assert "bench: error 10h\n" in page and "bench: refused" not in page
     assert "4Dh Create Data Field: create or modify: field 0, status C1h (exists, write-enabled, no code wanted, code number 0, 2 blocks), code 55h\n" in page
     assert '\n                                    field 0, offset 0, count 16, data 4C 4F 54' in page and '"LOT 0417 MOTOR 9"\n' in page
@@ -334,8 +335,8 @@ def test_address_and_label_commands():
         ("ask 40 52\n", "308 40 52 E4 FF 80 00 89", "52h Read Type Label"),
         ("ask 40 52\n", "308 40 52 E4 FF 80 00 89", f"{INTERFACE}, encoder type FFh (there is an extended type label), {MEMORY}, option code 00h"),
         ("ask 40 52\n", "308 40 52 00 27 00 01 34", f"{FIRST_INTERFACE}, encoder type 27h, memory size 0 blocks (0 bytes), option code 01h"),
-        ("ask 40 56\n", f"308 {tape.hex_of(VERSION)}", 'serial number "0417-0009", version "QS 0.3" 00*14, date "16.11.24"'),
-        ("ask 40 56\n", f"308 {tape.hex_of(sealed('40 56' + '00' * 37))}", "serial number 00*9, version 00*20, date 00*8"),
+        ("ask 40 56\n", f"308 {records.hex_of(VERSION)}", 'serial number "0417-0009", version "QS 0.3" 00*14, date "16.11.24"'),
+        ("ask 40 56\n", f"308 {records.hex_of(sealed('40 56' + '00' * 37))}", "serial number 00*9, version 00*20, date 00*8"),
     ):
         page, summary = told(lines, answer + "\n")
         assert f"{line}\n" in page and summary.status() == 0, (line, page)
@@ -362,7 +363,7 @@ def test_error_codes_are_the_documents():
 
 
 def test_bad_tape_is_told():
-    bad_tape = tape.Session(tape.tape_of(PLATE_LINE) + b"\x05", [], [], [])
+    bad_tape = texts.Session(texts.tape_of(PLATE_LINE) + b"\x05", [], [], [])
     cases = (
         ("tick reply\nbad 9\n", "The tape is bad at place 9: a lone last byte.\n\n"),
         ("tick reply\n", "The answer program does not say so.\n\n"),
@@ -371,16 +372,16 @@ def test_bad_tape_is_told():
     for answers, line in cases:
         page, summary = explain.explain_tape(bad_tape, answers, JUDGE)
         assert line in page and summary.bad == 1 and summary.status() == 1
-    good = explain.explain_tape(tape.good_session(PLATE_LINE), "tick reply\nbad 8\n", JUDGE)
+    good = explain.explain_tape(texts.good_session(PLATE_LINE), "tick reply\nbad 8\n", JUDGE)
     assert "The answer program calls it bad at place 8.\n" in good[0] and good[1].status() == 1
-    empty = explain.explain_tape(tape.good_session(""), "tick reply\n", JUDGE)
+    empty = explain.explain_tape(texts.good_session(""), "tick reply\n", JUDGE)
     assert empty == (words.Summary().line() + "\n", words.Summary()) and empty[1].status() == 0
 
 
 def test_documents_tell_what_is():
     """README's part of the demo is the page's, and docs/TOOLS.md has every command, and every code that the board answers with, by name."""
     text = session("pallet-night")
-    page, _ = explain.explain_tape(tape.good_session(text), tape.answers_to_come(text), JUDGE)
+    page, _ = explain.explain_tape(texts.good_session(text), texts.answers_to_come(text), JUDGE)
     with open(os.path.join(ROOT, "README.md"), encoding="utf-8") as file:
         shown = file.read().partition("A part of what it tells:\n\n")[2].partition("A session is text")[0]
     assert shown.count("\n") > 10 and shown.replace("\n    ", "\n")[4:].strip("\n") in page, shown
@@ -432,13 +433,13 @@ def test_each_stored_expectation_is_checked():
     turned = 0
     for name in SESSIONS:
         lines = session(name).splitlines()
-        answers = tape.answers_to_come(session(name))
+        answers = texts.answers_to_come(session(name))
         for number, line in enumerate(lines):
             if not line.startswith("expect "):
                 continue
             wrong = "expect done" if line == "expect silence" else "expect silence"
             text = "\n".join(lines[:number] + [wrong] + lines[number + 1 :])
-            _, summary = explain.explain_tape(tape.good_session(text), answers, JUDGE)
+            _, summary = explain.explain_tape(texts.good_session(text), answers, JUDGE)
             assert (summary.failed, summary.status()) == (1, 1), (name, line)
             turned += 1
     assert turned > 40

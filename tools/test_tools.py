@@ -16,6 +16,7 @@ import explain
 import tape
 import test_explain
 import test_tape
+import texts
 import traffic
 import words
 import written
@@ -49,8 +50,8 @@ def test_exit_status():
             (ask + b"expect done\n", 0, b"0 failed expectations"),
             (ask + b"expect silence\n", 1, b"1 failed expectation\n"),
             (ask + b"oops\nexpect\n", 1, b"summary: 0 frames, 0 replies, 0 errors, 0 silences, 0 wrong or missing replies, 2 bad lines"),
-            (tape.tape_of(PLATE_LINE + "ask memory-status\n"), 0, b"summary: 1 frame, 1 reply,"),
-            (tape.tape_of(PLATE_LINE + "ask memory-status\n") + b"\x05", 1, b"1 bad line,"),
+            (texts.tape_of(PLATE_LINE + "ask memory-status\n"), 0, b"summary: 1 frame, 1 reply,"),
+            (texts.tape_of(PLATE_LINE + "ask memory-status\n") + b"\x05", 1, b"1 bad line,"),
             (ask + b"ask memory-status\n", 1, b"1 wrong or missing reply,"),
         ):
             found, page, _ = run_tool("explain.py", ["-", answered], given)
@@ -165,7 +166,7 @@ def test_scrambled_texts():
     lines = [line for name in SESSIONS for line in session(name).splitlines()] + [f"ask {named}" for named, _ in ASKED]
     logs = LOG.splitlines()
     for _ in range(1500):
-        found = tape.read_session(PLATE_LINE + scrambled(dice, lines))
+        found = texts.read_session(PLATE_LINE + scrambled(dice, lines))
         explain.explain_tape(found, "tick reply\n", JUDGE)
         traffic.explain_log(scrambled(dice, logs), JUDGE)
         try:
@@ -177,13 +178,13 @@ def test_scrambled_texts():
 def test_program(program):
     for name in SESSIONS:
         text = session(name)
-        answers = explain.answers_of(program, tape.tape_of(text))
-        assert answers == tape.answers_to_come(text), f"{name}: {answers}"
+        answers = explain.answers_of(program, texts.tape_of(text))
+        assert answers == texts.answers_to_come(text), f"{name}: {answers}"
         status, page, said = run_tool("explain.py", ["--run", program, path_of(name)], b"")
         assert (status, said) == (0, b"") and b"FAILED" not in page and page.rstrip().endswith(b" 0 failed expectations"), name
     is_built = os.path.isfile(os.path.join(bench.ROOT, explain.ANSWER))
     assert run_tool("explain.py", [path_of("pallet-night")], b"")[0] == (0 if is_built else 1)
-    torn = tape.tape_of(PLATE_LINE) + b"\x05"
+    torn = texts.tape_of(PLATE_LINE) + b"\x05"
     assert explain.answers_of(program, torn) == "tick reply\nbad 9\n"
     assert run_tool("explain.py", ["--run", program, "-"], torn)[0] == 1
     one_tick = "frame at 0: 40 53 13\nframe at 308 every 4: 40 4E 0E\nexpect reply 40 4E 08 00 06\npoll 308\n"
