@@ -45,14 +45,16 @@ def arguments_of(parts: List[Part], text: str) -> Dict[Part, bytes]:
     return found
 
 
-def asked_byte(own: int, text: Optional[str]) -> int:
-    """Whom a named ask speaks to: the board of the address byte `own` where it does not say."""
-    if text is None:
-        return own
-    return BROADCAST if text == "all" else address_byte(text)
+def asked_byte(own: Optional[int], text: Optional[str]) -> int:
+    """Whom a named ask speaks to: the board of the address byte `own` where it does not say; None where that is not one board."""
+    if text is not None:
+        return BROADCAST if text == "all" else address_byte(text)
+    if own is None:
+        raise WrittenError("several boards are on the line: `ask to ADDRESS ..` or `ask to all ..`")
+    return own
 
 
-def named_request(own: int, address: Optional[str], name: str, text: str) -> bytes:
+def named_request(own: Optional[int], address: Optional[str], name: str, text: str) -> bytes:
     """The request that a named ask says, with its checksum."""
     if name not in BY_NAME:
         raise WrittenError(f"no command has the name {name}; there are {', '.join(BY_NAME)}")
@@ -67,7 +69,7 @@ def named_request(own: int, address: Optional[str], name: str, text: str) -> byt
     return request + bytes([xor_of(request)])
 
 
-def asked(own: int, text: str) -> bytes:
+def asked(own: Optional[int], text: str) -> bytes:
     """The frame that an ask says, by name or in bytes, with its checksum."""
     named = NAMED_ASK.fullmatch(text)
     if named:

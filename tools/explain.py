@@ -11,7 +11,9 @@ A file named - is standard input. The time in front of a request is that of its 
 in front of a reply that of the character or poll that closed the request, in ticks of 1/38400 s and
 in milliseconds. Polls that close nothing are left out. Verdicts are those of the proved library.
 
-A session text is what tape.py takes (tape.py --help). Its `expect` lines are held to the replies.
+A session text is what tape.py takes (tape.py --help). Its `expect` lines are held to the replies. In a
+text of several boards each is run by itself and hears the others' replies; boards that talk at once
+are told as a clash.
 
 A log has one frame a line, its time, its direction and its bytes; what follows # is a comment:
 
@@ -22,33 +24,29 @@ A log has one frame a line, its time, its direction and its bytes; what follows 
 Only a request to all boards (FFh) may have several replies.
 
 The last line sums up. Exit status: 0 if all is well; 1 for a bad line, log or tape, a failed
-expectation, a reply that the bench refuses (B1 to B6), that is missing or out of place, and where a
-file or program cannot be used; 2 for a command line that is none of these.
+expectation, a reply that the bench refuses (B1 to B6), that is missing or out of place, a clash, and
+where a file or program cannot be used; 2 for a command line that is none of these.
 """
 
 import os
 import subprocess
 import sys
 from collections import Counter
-from typing import Callable, Dict, List, NamedTuple, Optional, Tuple
+from typing import Callable, Dict, List, Optional, Tuple
 
 import bench
-from asking import Wanted
 from bench import Judge, Verdict
-from commands import WARNING, fault_words
+from boards import has_boards, read_script
+from bus import explain_bus
 from frames import Frame, address_after, frame_at, frames_of, happenings, silence_due
-from records import Bad, Fault, Measured, Plate, milliseconds, split
-from texts import Expectation, Session, read_session
+from printed import Reply, holds, read_answers
+from records import Bad, Plate, split
+from texts import Expectation, Session, TextError, read_session
 from traffic import explain_log
-from words import Summary, address_words, entry, error_code, hex_lines, page_of, reply_words, request_words
+from words import Summary, call_words, entry, error_code, hex_lines, page_of, plate_line, reply_words, request_words
 from written import WrittenError, complain, is_text, put_out, read_file, text_of_bytes
 
 ANSWER = os.path.join("target", "bin", "answer")
-
-
-class Reply(NamedTuple):
-    tick: int
-    values: bytes
 
 
 # --- which reply answers which frame --------------------------------------------------------
@@ -141,17 +139,6 @@ def paired(plate: Plate, frames: List[Frame], replies: List[Reply], judge: Judge
 # --- the page -------------------------------------------------------------------------------
 
 
-def holds(wanted: Wanted, reply: Optional[Reply], verdict: Optional[Verdict]) -> bool:
-    """Whether what came is what was expected."""
-    if wanted is None or reply is None:
-        return wanted is None and reply is None
-    if isinstance(wanted, bytes):
-        return reply.values == wanted
-    if wanted.kind == "error":
-        return error_code(verdict, reply.values) == wanted.number and (reply.values[1] >= WARNING) == wanted.warning
-    return verdict == wanted
-
-
 class Teller:
     """What tells a tape: the address byte in force, which reply answers which frame, what is expected, the judge, and the sums so far."""
 
@@ -201,37 +188,7 @@ class Teller:
         return page
 
     def happening(self, happening: object) -> List[str]:
-        if isinstance(happening, Frame):
-            return self.frame(happening)
-        if isinstance(happening, Measured):
-            return entry(None, "host", [f"measured position {happening.position}"])
-        if isinstance(happening, Fault):
-            return entry(None, "host", [f"notes fault {fault_words(happening.code)}"])
-        return entry(None, "host", ["power-on"])
-
-
-def plate_line(plate: Plate) -> str:
-    return (
-        f"Board of {plate.total} blocks, {plate.bits} position bits, {address_words(plate.own_byte())}, "
-        f"{plate.ticks} ticks a bit; a gap of {plate.closing_gap()} ticks ({milliseconds(plate.closing_gap())}) closes a frame."
-    )
-
-
-def read_answers(text: str) -> Tuple[List[Reply], Optional[int]]:
-    """The answer program's lines: its replies and the place after `bad`, if it says so."""
-    lines = text.splitlines()
-    if not lines or lines[0] != "tick reply":
-        raise WrittenError("the answers do not start with the line `tick reply`")
-    replies = []
-    for number, line in enumerate(lines[1:], start=2):
-        words = line.split(" ")
-        try:
-            if words[0] == "bad" and len(words) == 2 and number == len(lines):
-                return replies, int(words[1])
-            replies.append(Reply(int(words[0]), bytes.fromhex("".join(words[1:]))))
-        except ValueError:
-            raise WrittenError(f"line {number} of the answers is no reply: {line}") from None
-    return replies, None
+        return self.frame(happening) if isinstance(happening, Frame) else entry(None, "host", [call_words(happening)])
 
 
 def bad_lines(bad: Optional[Bad], told: Optional[int]) -> List[str]:
@@ -305,32 +262,47 @@ def text_in(name: str, data: bytes) -> str:
         raise WrittenError(f"{name}: {error}") from None
 
 
-def session_of(name: str, data: bytes) -> Session:
-    """A file that is a session text or a tape."""
-    return read_session(text_in(name, data)) if is_text(data) else Session(data, [], [], [])
-
-
-def tell_session(name: str, answers: Callable[[bytes], str], judge: Judge) -> int:
-    """Tells a session or tape; of a text with bad lines only these."""
-    session = session_of(name, read_file(name))
-    for error in session.bad:
-        complain(f"explain.py: {name}: {error}")
-    if session.bad:
-        summary = Summary(bad=len(session.bad))
-        put_out((summary.line() + "\n").encode())
-        return summary.status()
-    page, summary = explain_tape(session, answers(session.tape), judge)
+def put_page(page: str, summary: Summary) -> int:
     put_out(page.encode("ascii", "backslashreplace"))
     return summary.status()
+
+
+def tell_bad_lines(name: str, bad: List[TextError]) -> int:
+    """Of a text with bad lines only these are told."""
+    for error in bad:
+        complain(f"explain.py: {name}: {error}")
+    summary = Summary(bad=len(bad))
+    return put_page(summary.line() + "\n", summary)
+
+
+def tell_boards(name: str, text: str, answers: Callable[[bytes], str], judge: Judge) -> int:
+    """Tells a session of several boards, each board's tape run by itself."""
+    script = read_script(text)
+    if script.bad:
+        return tell_bad_lines(name, script.bad)
+    try:
+        return put_page(*explain_bus(script, answers, judge))
+    except TextError as error:
+        return tell_bad_lines(name, [error])
+
+
+def tell_session(name: str, answers: Callable[[bytes], str], judge: Judge, printed_before: bool = False) -> int:
+    """Tells a session or tape. What was printed before is one board's, so that a session of several boards must be run."""
+    data = read_file(name)
+    text = text_in(name, data) if is_text(data) else None
+    if text is not None and has_boards(text):
+        if printed_before:
+            raise WrittenError(f"{name}: a text of several boards; tell each board's tape with its own answers")
+        return tell_boards(name, text, answers, judge)
+    session = Session(data, [], [], []) if text is None else read_session(text)
+    return tell_bad_lines(name, session.bad) if session.bad else put_page(*explain_tape(session, answers(session.tape), judge))
 
 
 def tell_log(name: str, judge: Judge) -> int:
     data = read_file(name)
     if not is_text(data):
         raise WrittenError(f"{name}: a log is text, and this is not")
-    page, summary = explain_log(text_in(name, data), judge)
-    put_out(page.encode("ascii", "backslashreplace"))
-    return summary.status()
+    return put_page(*explain_log(text_in(name, data), judge))
 
 
 def run(arguments: List[str]) -> int:
@@ -348,7 +320,7 @@ def run(arguments: List[str]) -> int:
     if not option and len(names) == 1:
         return tell_session(names[0], lambda tape: answers_of(built_program(), tape), bench.load(library))
     if not option and len(names) == 2:
-        return tell_session(names[0], lambda _: read_file(names[1]).decode("ascii", "replace"), bench.load(library))
+        return tell_session(names[0], lambda _: read_file(names[1]).decode("ascii", "replace"), bench.load(library), printed_before=True)
     complain(__doc__)
     return 2
 

@@ -2,6 +2,7 @@
 """Sessions as text that a person writes, made into tapes of the answer program, and tapes told as text.
 
     tape.py write < text > tape
+    tape.py write NAME < text > tape    of a text of several boards the tape of this one
     tape.py read  < tape > text
 
 A text has one event a line; what follows # is a comment. The plate comes first and once:
@@ -38,12 +39,27 @@ with the reason. `expect` puts nothing on the tape: explain.py holds the replies
 
 A comment `# reply 40 4E 70 00 7E` behind an event names the reply that its first character, or
 the poll, is to bring. Every text of tools/sessions names all of its replies, so or by `expect`.
+
+Several boards on one line, each with a name, have their plates first. All hear every ask, and each
+hears the others' replies. What belongs to one board has its name in front:
+
+    board left: plate total 112 bits 24 address 0 ticks 4 pause 55
+    board right: plate total 8 bits 24 address 1 ticks 4 pause 55
+    ask to 1 memory-status            `to` is needed here; in bytes: ask 41 4E
+    board right: expect reply 41 4E 08 00 sum
+    ask to 2 memory-status
+    expect silence                    of all boards
+    board right: power-on             so too measured and fault
+
+Such a text has plate, ask, expect, measured, fault and power-on, and no others. Its tapes have the
+replies that it names.
 docs/TOOLS.md has the commands' names and arguments, and the codes' names.
 """
 
 import sys
 from typing import List
 
+from boards import has_boards, stored
 from records import Character, Fault, Measured, Plate, Poll, Record, gap, hex_of, split
 from texts import TextError, tape_of
 from written import WrittenError, complain, put_out, read_file, text_of_bytes
@@ -115,12 +131,24 @@ def text_of(tape: bytes) -> str:
 # --- the command line -----------------------------------------------------------------------
 
 
+def written(text: str, board: str) -> bytes:
+    """The tape that a text says; of a text of several boards that of the board."""
+    if not has_boards(text):
+        if board:
+            raise WrittenError(f"a text of one board, which has no name: {board}")
+        return tape_of(text)
+    tapes = stored(text)
+    if board not in tapes:
+        raise WrittenError(f"whose tape? `tape.py write NAME`; there are {', '.join(tapes)}")
+    return tapes[board][0]
+
+
 def run(arguments: List[str]) -> int:
     if arguments == ["read"]:
         put_out(text_of(read_file("-")).encode())
         return 0
-    if arguments == ["write"]:
-        put_out(tape_of(text_of_bytes(read_file("-"))))
+    if arguments[:1] == ["write"] and len(arguments) < 3:
+        put_out(written(text_of_bytes(read_file("-")), "".join(arguments[1:])))
         return 0
     if arguments in (["help"], ["-h"], ["--help"]):
         put_out(__doc__.encode())

@@ -14,6 +14,7 @@ import records
 import texts
 import traffic
 import words
+from printed import read_answers
 from test_tape import PLATE_LINE, ROOT, SESSIONS, SHEET_TAPE, put, run_tool, session
 
 HEADER = os.path.join(ROOT, "host", "quicksetter.h")
@@ -150,7 +151,7 @@ def summed(lines, answers):
 def replies_by_frame(lines, answers):
     """Each frame's second byte, with the reply that it is given."""
     written_down, _ = records.split(texts.tape_of(PLATE_LINE + lines))
-    replies, _ = explain.read_answers("tick reply\n" + answers)
+    replies, _ = read_answers("tick reply\n" + answers)
     cut = frames.frames_of(written_down)
     pairs, strays = explain.paired(written_down[0], cut, replies, JUDGE)
     found = [(frame.values[1], records.hex_of(pairs[frame.first].values)) for frame in cut if frame.first in pairs]
@@ -349,7 +350,8 @@ VERSION = sealed("40 56" + (b"0417-0009" + b"QS 0.3".ljust(20, b"\x00") + b"16.1
 
 
 def test_label_bytes_without_a_meaning():
-    assert words.interface_words(0x17) == "interface 17h (a data rate without a meaning, 8 data bits, a parity without a meaning, timeout 22 bit times, bus slave)"
+    meaningless = "a data rate without a meaning, 8 data bits, a parity without a meaning"
+    assert words.interface_words(0x17) == f"interface 17h ({meaningless}, timeout 22 bit times, bus slave)"
     assert "odd parity" in words.interface_words(0x30) and "38400 baud" in words.interface_words(0x06)
     for text, told_so in ((b"A\x00B", "41 00 42"), (b'A"B', "41 22 42"), (b"\xff\x00", "FF 00*1"), (b" ~", '" ~"'), (b"", "")):
         assert words.text_words(text) == told_so, text
@@ -402,6 +404,10 @@ EXPECTED = (
     ("ask 40 4E", "308 40 D0 03 93", ("error 03h with warning", "reply 40D00393"), ("error 03", "done with warning")),
     ("ask 40 44", "308 40 50 0B 1B", ("error unknown-command", "refused B0"), ("error 0A", "done", "refused B1")),
     ("ask 40 50", "308 40 50 08 18", ("done", "reply 40 50 08 sum"), ("error 08", "silence")),
+    ("ask 40 55 45 55", "396 45 55 10", ("done", "reply 45 55 sum"), ("done with warning", "error 0D", "refused B3", "silence")),
+    ("ask 40 55 45 55", "396 40 55 15", ("refused B3", "reply 40 55 15"), ("done", "error 55")),
+    ("ask 40 55 60 55", "396 40 50 0D 1D", ("error wrong-argument",), ("done", "error 0F", "refused B3")),
+    ("ask read-type-label", "308 40 52 00 00 00 00 12", ("done", "reply 40 52 00*4 12"), ("error 0B", "refused B0", "silence")),
     ("ask to 1 memory-status", "", ("silence",), ("done", "reply 41", "error 01", "refused B1")),
     ("ask to all memory-status", "308 FF 4E 08 00 B9", ("refused B3",), ("done", "refused B0")),
     ("frame: 40 4E 0E\npoll", "308 40 4E 08 00 06", ("done",), ("silence",)),
@@ -483,6 +489,8 @@ def test_logs_that_are_not_well():
         ("0 > 40 4E 0E\n1 < 41 4E 70 00 7F\n", "bench: refused B3, address not the asked one", words.Summary(frames=1, replies=1, wrong=1)),
         ("0 > FF 4E B1\n1 < FF 4E 70 00 C1\n", "bench: refused B3, address not the asked one", words.Summary(frames=1, replies=1, wrong=1)),
         ("0 > 40 4E 0E\n1 > 40 46 06\n2 < 40 4E 70 00 7E\n", "bench: refused B4", words.Summary(frames=2, replies=1, silences=1, wrong=1)),
+        ("0 > 40 55 45 55 05\n1 < 40 55 15\n", "bench: refused B3, address not the asked one, or", words.Summary(frames=1, replies=1, wrong=1)),
+        ("0 > FF 55 45 55 BA\n1 < 46 55 13\n", "bench: refused B3, address not the asked one, or", words.Summary(frames=1, replies=1, wrong=1)),
         ("1 < 40 4E 70 00 7E\n", "to no request", words.Summary(replies=1, wrong=1)),
         ("0 > 40 50 10\n1 < 40 50 00 10\n2 < 40 50 00 10\n", "to no request", words.Summary(frames=1, replies=2, wrong=1)),
         ("", "No line of this log has a frame.", words.Summary(bad=1)),
@@ -497,4 +505,16 @@ def test_logs_that_are_not_well():
         page, summary = traffic.explain_log(text, JUDGE)
         assert line in page and summary == summed_up and summary.status() == 1, (text, page)
     assert "silence   no reply is logged\n" in traffic.explain_log("0 > 40 53 14\n", JUDGE)[0]
+
+
+def test_log_of_a_new_address():
+    """A log does not say which boards are there, so each reply is held to its request alone."""
+    log = "0 > 41 55 45 55 04\n12 < 45 55 10\n20 > 41 4E 0F\n30 > 45 52 17\n40 < 45 52 E4 FF 80 00 8C\n50 > 45 55 60 55 25\n60 < 45 50 0D 18\n"
+    page, summary = traffic.explain_log(log, JUDGE)
+    assert summary == words.Summary(frames=4, replies=3, errors=1, silences=1) and summary.status() == 0
+    assert "new address 5 (45h), code 55h\n" in page and "the board has address 5 (45h) from here on\n" in page
+    assert f"{INTERFACE}, " in page and "(the new address byte is not 40h to 5Fh)\n" in page
+
+
+def test_times_of_a_log():
     assert "the time goes back\n" in traffic.explain_log("5 > 40 4E 0E\n4 < 40 4E 70 00 7E\n", JUDGE)[0]

@@ -5,6 +5,7 @@ import random
 import subprocess
 import sys
 
+import boards
 import commands
 import records
 import tape
@@ -13,7 +14,6 @@ import written
 
 HERE = os.path.dirname(os.path.abspath(__file__))
 ROOT = os.path.dirname(HERE)
-SESSIONS = sorted(name[:-4] for name in os.listdir(os.path.join(HERE, "sessions")) if name.endswith(".txt"))
 
 SHEET_TAPE = bytes.fromhex(
     "07 00 01 00 70 18 00 04 37 08 00 02 00 00 00 00 00 40 00 08 00 02 00 2C 00 00 00 4E 00"
@@ -30,6 +30,12 @@ def path_of(name):
 def session(name):
     with open(path_of(name), encoding="utf-8") as file:
         return file.read()
+
+
+# The texts of one board, and those of several.
+NAMES = sorted(name[:-4] for name in os.listdir(os.path.join(HERE, "sessions")) if name.endswith(".txt"))
+BUSES = [name for name in NAMES if boards.has_boards(session(name))]
+SESSIONS = [name for name in NAMES if name not in BUSES]
 
 
 def refused(text):

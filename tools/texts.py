@@ -1,7 +1,7 @@
 """A session's text read: the tape that it says, what it expects, and the replies that it names (tape.py --help has its words)."""
 
 import re
-from typing import Dict, List, NamedTuple, Optional
+from typing import Dict, List, Match, NamedTuple, Optional, Tuple
 
 from asking import Wanted, asked, wanted_of
 from bench import Verdict
@@ -19,6 +19,63 @@ class TextError(Exception):
         self.line = line
 
 
+# --- one line -------------------------------------------------------------------------------
+
+NUMBER = r"([0-9]+|0[xX][0-9a-fA-F]+)"
+TIMES = rf"(?:\s+at\s+{NUMBER})?(?:\s+every\s+{NUMBER})?"
+CALLS = ("measured", "fault", "power-on")
+REPLY_WORD = "reply "
+
+# Each word that starts a line: how such a line looks, to a person and to us.
+SHAPES = {
+    "plate": (
+        "plate total T bits P address A ticks N pause N",
+        re.compile(r"plate\s+" + r"\s+".join(f"{name}\\s+{NUMBER}" for name in Plate._fields)),
+    ),
+    "ask": (
+        "ask [at TICK] [every TICKS] [to ADDRESS] NAME [ARGUMENT VALUE].. or ask BYTES",
+        re.compile(rf"ask{TIMES}(?:\s*:\s*|\s+)(.+)"),
+    ),
+    "expect": ("expect reply BYTES, silence, done, error CODE or refused B0", re.compile(r"expect\s+(.+)")),
+    "frame": ("frame [at TICK] [every TICKS]: BYTES", re.compile(rf"frame{TIMES}\s*:\s*(.*)")),
+    "character": (
+        "character at TICK: BYTE [parity]",
+        re.compile(rf"character\s+at\s+{NUMBER}\s*:\s*((?:0[xX])?[0-9a-fA-F]{{2}}[hH]?)(\s+parity)?"),
+    ),
+    "poll": ("poll [TICK]", re.compile(rf"poll(?:\s+{NUMBER})?")),
+    "measured": ("measured NUMBER", re.compile(rf"measured\s+{NUMBER}")),
+    "fault": ("fault BYTE", re.compile(r"fault\s+((?:0[xX])?[0-9a-fA-F]{2}[hH]?)")),
+    "power-on": ("power-on", re.compile(r"power-on")),
+    "raw": ("raw: BYTES", re.compile(r"raw\s*:\s*(.*)")),
+}
+
+
+def said(line: str) -> Tuple[str, Match]:
+    """The word that starts a line, and what stands in its shape; WrittenError if it says no event."""
+    word = re.match(r"[a-z-]*", line).group()
+    if word not in SHAPES:
+        raise WrittenError(f"no event starts like this: {line}")
+    shape, form = SHAPES[word]
+    found = form.fullmatch(line)
+    if not found:
+        raise WrittenError(f"not of the shape `{shape}`: {line}")
+    return word, found
+
+
+def plate_of(found: Match) -> Plate:
+    plate = Plate(*(number_of(text, 256, name) for name, text in zip(Plate._fields, found.groups())))
+    if plate.fault():
+        raise WrittenError(f"the plate would be refused: {plate.fault()}")
+    return plate
+
+
+def call_of(word: str, found: Match) -> Record:
+    """One of the host's other calls."""
+    if word == "measured":
+        return Measured(number_of(found.group(1), TICKS, "position"))
+    return Fault(hex_byte(found.group(1), "fault")) if word == "fault" else PowerOn()
+
+
 # --- line by line ---------------------------------------------------------------------------
 
 
@@ -29,11 +86,6 @@ class Expectation(NamedTuple):
     text: str
     place: int
     wanted: Wanted
-
-
-NUMBER = r"([0-9]+|0[xX][0-9a-fA-F]+)"
-TIMES = rf"(?:\s+at\s+{NUMBER})?(?:\s+every\s+{NUMBER})?"
-REPLY_WORD = "reply "
 
 
 class Writer:
@@ -70,11 +122,8 @@ class Writer:
     def put_plate(self, found):
         if self.plate:
             raise WrittenError("a second plate")
-        plate = Plate(*(number_of(text, 256, name) for name, text in zip(Plate._fields, found.groups())))
-        if plate.fault():
-            raise WrittenError(f"the plate would be refused: {plate.fault()}")
-        self.plate = plate
-        self.put(plate)
+        self.plate = plate_of(found)
+        self.put(self.plate)
 
     def put_characters(self, at: Optional[str], every: Optional[str], values: bytes):
         tick = self.free_tick() if at is None else number_of(at, TICKS, "tick")
@@ -111,56 +160,29 @@ class Writer:
             raise WrittenError("a poll without a tick needs a character before it")
         self.put(self.closing_poll() if at is None else Poll(number_of(at, TICKS, "tick")))
 
-    def put_measured(self, found):
-        self.put(Measured(number_of(found.group(1), TICKS, "position")))
-
-    def put_fault(self, found):
-        self.put(Fault(hex_byte(found.group(1), "fault")))
-
-    def put_power_on(self, _found):
-        self.put(PowerOn())
-
     def put_raw(self, found):
         self.tape += bytes_of(found.group(1))
 
     def put_line(self, line: str):
         """One line of text without its comment; WrittenError if it says no event."""
-        word = re.match(r"[a-z-]*", line).group()
-        if word not in LINES:
-            raise WrittenError(f"no event starts like this: {line}")
-        shape, form, put = LINES[word]
-        found = form.fullmatch(line)
-        if not found:
-            raise WrittenError(f"not of the shape `{shape}`: {line}")
+        word, found = said(line)
         if self.plate is None and word not in ("plate", "raw"):
             raise WrittenError("the plate comes first")
-        put(self, found)
+        if word in CALLS:
+            self.put(call_of(word, found))
+        else:
+            PUT[word](self, found)
 
 
-# Each word that starts a line: how such a line looks, to a person and to us, and what it does.
-LINES = {
-    "plate": (
-        "plate total T bits P address A ticks N pause N",
-        re.compile(r"plate\s+" + r"\s+".join(f"{name}\\s+{NUMBER}" for name in Plate._fields)),
-        Writer.put_plate,
-    ),
-    "ask": (
-        "ask [at TICK] [every TICKS] [to ADDRESS] NAME [ARGUMENT VALUE].. or ask BYTES",
-        re.compile(rf"ask{TIMES}(?:\s*:\s*|\s+)(.+)"),
-        Writer.put_ask,
-    ),
-    "expect": ("expect reply BYTES, silence, done, error CODE or refused B0", re.compile(r"expect\s+(.+)"), Writer.put_expect),
-    "frame": ("frame [at TICK] [every TICKS]: BYTES", re.compile(rf"frame{TIMES}\s*:\s*(.*)"), Writer.put_frame),
-    "character": (
-        "character at TICK: BYTE [parity]",
-        re.compile(rf"character\s+at\s+{NUMBER}\s*:\s*((?:0[xX])?[0-9a-fA-F]{{2}}[hH]?)(\s+parity)?"),
-        Writer.put_character,
-    ),
-    "poll": ("poll [TICK]", re.compile(rf"poll(?:\s+{NUMBER})?"), Writer.put_poll),
-    "measured": ("measured NUMBER", re.compile(rf"measured\s+{NUMBER}"), Writer.put_measured),
-    "fault": ("fault BYTE", re.compile(r"fault\s+((?:0[xX])?[0-9a-fA-F]{2}[hH]?)"), Writer.put_fault),
-    "power-on": ("power-on", re.compile(r"power-on"), Writer.put_power_on),
-    "raw": ("raw: BYTES", re.compile(r"raw\s*:\s*(.*)"), Writer.put_raw),
+# What a line does that is not one of the host's other calls.
+PUT = {
+    "plate": Writer.put_plate,
+    "ask": Writer.put_ask,
+    "expect": Writer.put_expect,
+    "frame": Writer.put_frame,
+    "character": Writer.put_character,
+    "poll": Writer.put_poll,
+    "raw": Writer.put_raw,
 }
 
 

@@ -3,9 +3,9 @@
 from typing import Callable, Dict, List, NamedTuple, Optional
 
 from bench import NOT_A_REQUEST, REFUSALS, Verdict
-from commands import ADDRESS_BYTES, BROADCAST, COMMANDS, ERROR, SET_ADDRESS, WARNING, Part, code_words, error_words, layout_fits, pieces
+from commands import ADDRESS_BYTES, BROADCAST, COMMANDS, ERROR, SET_ADDRESS, WARNING, Part, code_words, error_words, fault_words, layout_fits, pieces
 from frames import KEPT_BYTES, SHORTEST
-from records import hex_of, milliseconds, xor_of
+from records import Fault, Measured, Plate, Record, hex_of, milliseconds, xor_of
 
 BYTES_A_LINE = 24
 DATA_RATES = dict(enumerate((600, 1200, 2400, 4800, 9600, 19200, 38400)))
@@ -168,6 +168,23 @@ def reply_words(request: bytes, reply: bytes, verdict: Verdict) -> List[str]:
             lines.append("warning bit: a fault code waits")
     lines.append(verdict_words(verdict))
     return [line for line in lines if line]
+
+
+# --- the host -------------------------------------------------------------------------------
+
+
+def plate_line(plate: Plate) -> str:
+    return (
+        f"Board of {plate.total} blocks, {plate.bits} position bits, {address_words(plate.own_byte())}, "
+        f"{plate.ticks} ticks a bit; a gap of {plate.closing_gap()} ticks ({milliseconds(plate.closing_gap())}) closes a frame."
+    )
+
+
+def call_words(call: Record) -> str:
+    """One of the host's other calls."""
+    if isinstance(call, Measured):
+        return f"measured position {call.position}"
+    return f"notes fault {fault_words(call.code)}" if isinstance(call, Fault) else "power-on"
 
 
 # --- the page -------------------------------------------------------------------------------
