@@ -250,7 +250,9 @@ def play(script: Script, replies: Replies) -> Tuple[List[Union[Exchange, Call]],
 
 def named(board: Board, _tick: int, ask: Optional[Ask]) -> bytes:
     """The reply that the text names; to what it hears from another a board replies nothing."""
-    return one_reply(board.own, None, ask.wishes_of(board.name)) or b"" if ask else b""
+    if ask is None:
+        return b""
+    return one_reply(board.own, None, ask.wishes_of(board.name)) or b""
 
 
 def stored(text: str) -> Dict[str, Tuple[bytes, str]]:
@@ -259,9 +261,9 @@ def stored(text: str) -> Dict[str, Tuple[bytes, str]]:
     if script.bad:
         raise script.bad[0]
     happened, boards = play(script, named)
-    said_by = [exchange.replies for exchange in happened if isinstance(exchange, Exchange)]
     found = {}
     for board in boards:
-        lines = [f"{said[board.name].tick} {hex_of(said[board.name].values)}\n" for said in said_by if board.name in said]
+        replies = [exchange.replies[board.name] for exchange in happened if isinstance(exchange, Exchange) and board.name in exchange.replies]
+        lines = [f"{reply.tick} {hex_of(reply.values)}\n" for reply in replies]
         found[board.name] = (bytes(board.tape), "tick reply\n" + "".join(lines))
     return found

@@ -93,10 +93,12 @@ class BusTeller:
 
 def strays(board: Board, happened: List[Union[Exchange, Call]], answers: str) -> Tuple[List[str], Summary]:
     """Replies that the program printed of a board's tape at a tick where it was asked nothing, and its word that the tape is bad."""
-    replies, bad = read_answers(answers)
-    exchanges = [exchange for exchange in happened if isinstance(exchange, Exchange)]
-    told = [said[board.name] for exchange in exchanges for said in (exchange.replies, exchange.to_replies) if board.name in said]
-    left = [reply for reply in replies if reply not in told]
+    left, bad = read_answers(answers)
+    for exchange in happened:
+        said = [exchange.replies.get(board.name), exchange.to_replies.get(board.name)] if isinstance(exchange, Exchange) else []
+        for reply in said:
+            if reply in left:
+                left.remove(reply)
     lines = [line for reply in left for line in entry(reply.tick, "reply", by_board(board.name, reply.values) + ["to no request"])]
     if bad is not None:
         lines.append(f"The answer program calls the tape of board {board.name} bad at place {bad}.")
