@@ -221,6 +221,19 @@ def test_the_address_in_force_decides():
     assert summed(opened.format("40 4E sum"), moved) == words.Summary(frames=2, replies=1, silences=1)
 
 
+def test_the_address_in_force_at_one_tick():
+    """Two unknown commands close at one tick: the one to the new address has the reply, whether the 55h closed there too or before."""
+    at_once = "frame at {0} every 4: 40 44 04\nframe at {0} every 4: 45 44 01\npoll {0}\n"
+    pairs = [(0x55, "45 55 10"), (0x44, "45 50 0B 1E")]
+    together = "frame at 0: 40 55 45 55 05\n" + at_once.format(396)
+    assert replies_by_frame(together, "396 45 55 10\n396 45 50 0B 1E\n") == (pairs, [])
+    assert summed(together, "396 45 55 10\n396 45 50 0B 1E\n") == words.Summary(frames=3, replies=2, errors=1, silences=1)
+    before = "ask 40 55 45 55\n" + at_once.format(1000)
+    for stray, left in (("", []), ("500 40 40\n", [500])):
+        assert replies_by_frame(before, "396 45 55 10\n" + stray + "1000 45 50 0B 1E\n") == (pairs, left)
+        assert summed(before, "396 45 55 10\n" + stray + "1000 45 50 0B 1E\n")[:5] == (3, 2 + len(left), 1, 1, len(left))
+
+
 def test_what_changes_no_address():
     """A 55h that is refused, not answered, another's, or answered with another address than the new one."""
     for request, answer in (
