@@ -60,7 +60,7 @@ import sys
 from typing import List
 
 from boards import has_boards, stored
-from records import Character, Fault, Measured, Plate, Poll, Record, gap, hex_of, split
+from records import Character, Fault, Measured, Plate, Poll, Record, encode, gap, hex_of, split, xor_of  # encode and xor_of: for perf/run.py
 from texts import TextError, tape_of
 from written import WrittenError, complain, put_out, read_file, text_of_bytes
 
