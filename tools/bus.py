@@ -19,7 +19,7 @@ def listed(names: List[str]) -> str:
 
 def by_board(name: str, values: bytes) -> List[str]:
     """A reply's bytes, with the board in front of the first."""
-    first, *others = hex_lines(values)
+    first, *others = hex_lines(values) or ["no bytes"]
     return [f"board {name}: {first}"] + others
 
 

@@ -231,6 +231,7 @@ def test_programs_that_are_wrong():
         ({"a": "308 40 4E 70 00 7E\n"}, "a reply, though silence was due\n", words.Summary(frames=1, replies=1, silences=0, wrong=2)),
         ({"b": "308 40 4E 08 00 06\n"}, "bench: refused B3", words.Summary(frames=1, replies=1, wrong=1)),
         ({"b": "307 41\n" + right}, "board b: 41\n                                    to no request\n", words.Summary(frames=1, replies=2, wrong=1)),
+        ({"b": "500\n" + right}, "board b: no bytes\n                                    to no request\n", words.Summary(frames=1, replies=2, wrong=1)),
         ({"b": right + right}, "board b: 41 4E 08 00 07\n                                    to no request\n", words.Summary(frames=1, replies=2, wrong=1)),
         ({"a": "bad 9\n", "b": right}, "The answer program calls the tape of board a bad at place 9.\n", words.Summary(frames=1, replies=1, bad=1)),
     )
