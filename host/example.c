@@ -1,6 +1,6 @@
 /* A small firmware host for one board, to be copied: a receive queue, a clock, the lent buffers, and a flash that keeps what must last. main plays the drive
- * and the supply: it sends the frames of the bench sheet, lets the line echo, takes the supply away, prints all with the replies, and ends in 1 if a reply is
- * not the one that belongs there. */
+ * and the supply: it sends the frames of the bench sheet, gives the board another address, lets the line echo, takes the supply away, prints all with the
+ * replies, and ends in 1 if a reply is not the one that belongs there. */
 #include "quicksetter.h"
 
 #include <inttypes.h>
@@ -47,6 +47,17 @@ static uint32_t sum_of(const uint8_t *bytes, uint64_t length) {
 
 struct plate {
     uint32_t total, bits, address, ticks, pause;
+    const uint8_t *label; /* QS_LABEL_LENGTH bytes */
+};
+
+/* What the drive is told by 52h and 56h. It does not change, so it is in the program; each board's own serial number would stand in a part of the flash that
+ * is written once. The UART settings agree with 4 ticks a bit and a pause of 55: E4h is 9600 baud, even parity, the long pause. 80h blocks are all of a part of
+ * 2048 bytes, of which 70h are for fields. */
+static const uint8_t LABEL[QS_LABEL_LENGTH] = {
+    [QS_LABEL_TYPE] = 0xE4, 0x07, 0x80, 0x00,
+    [QS_LABEL_SERIAL] = 'Q', 'S', '0', '0', '0', '4', '7', '1', '1',
+    [QS_LABEL_VERSION] = 'e', 'x', 'a', 'm', 'p', 'l', 'e', ' ', '1', '.', '0', /* 00h behind it, as 000 has it */
+    [QS_LABEL_DATE] = '0', '1', '.', '0', '2', '.', '2', '6',
 };
 
 struct received {
@@ -98,18 +109,20 @@ static bool memory_is_whole(const struct host *host) {
 enum start { NEW_BOARD, RESTARTED, DAMAGED, NO_PLATE };
 
 static uint64_t fresh_image(struct host *host, struct plate p) {
-    return qs_fresh(p.total, p.bits, p.address, p.ticks, p.pause, host->image, sizeof host->image);
+    return qs_fresh(p.total, p.bits, p.address, p.ticks, p.pause, p.label, QS_LABEL_LENGTH, host->image, sizeof host->image);
 }
 
 static uint64_t restarted_image(struct host *host, struct plate p) {
-    return qs_restart(p.total, p.bits, p.address, p.ticks, p.pause, host->flash->lasting, QS_LASTING_LENGTH, host->image, sizeof host->image);
+    return qs_restart(p.total, p.bits, p.address, p.ticks, p.pause, p.label, QS_LABEL_LENGTH, host->flash->lasting, QS_LASTING_LENGTH, host->image,
+                      sizeof host->image);
 }
 
 /* 000's internal checksum error. A drive must not trust the position of a board whose offset is lost; a host that can tell no other way locks it too, by
  * QS_FAULT_LOCKS_A. */
 enum { INTERNAL_CHECKSUM_ERROR = 0x06 };
 
-/* What was damaged starts fresh, what is whole stays, and the drive is told by a fault code. */
+/* What was damaged starts fresh, what is whole stays, and the drive is told by a fault code. Where the lasting bytes are lost the address is the plate's again,
+ * and on a line with several boards the drive must look for this one. */
 static enum start damaged_start(struct host *host, struct plate plate) {
     if (memory_is_whole(host))
         memcpy(host->memory, host->flash->memory, host->memory_length);
@@ -176,8 +189,8 @@ static uint64_t host_turn(struct host *host, uint32_t timer) {
 
 /* ---- the line and the drive at its other end ------------------------------------------------------------------------------------------------------------ */
 
-static const struct plate SHEET = {.total = 112, .bits = 24, .address = 0, .ticks = 4, .pause = 55};
-static const struct plate EIGHT_BLOCKS = {.total = 8, .bits = 24, .address = 0, .ticks = 4, .pause = 55};
+static const struct plate SHEET = {.total = 112, .bits = 24, .address = 0, .ticks = 4, .pause = 55, .label = LABEL};
+static const struct plate EIGHT_BLOCKS = {.total = 8, .bits = 24, .address = 0, .ticks = 4, .pause = 55, .label = LABEL};
 
 enum { BIT_MICROSECONDS = 105, CHARACTER_BITS = 11, PAUSE_BITS = 55, PATIENCE_BITS = 60 };
 
@@ -292,7 +305,7 @@ static bool faults_of_the_sheet(struct host *host, struct flash *flash) {
     bool good = started(host, SHEET, flash, 0, NEW_BOARD, "Faulty frames, the counter's end, the position, the reset without a reply");
     good &= asked(host, "40 4E 0F", "40 50 0A 1A");
     good &= asked(host, "40 44 04", "40 50 0B 1B");
-    memset(host->image + QS_IMAGE_COUNTER, 0xFF, 3);
+    memset(host->image + QS_IMAGE_COUNTER, 0xFF, QS_IMAGE_COUNTER_SIZE);
     good &= asked(host, "40 47 07", "40 C7 87");
     good &= asked(host, "40 50 10", "40 50 08 18");
     (void)qs_measured(host->image, sizeof host->image, 5);
@@ -363,6 +376,45 @@ static bool damage_is_told(struct host *host, struct flash *flash) {
     return good;
 }
 
+/* ---- address and label ---------------------------------------------------------------------------------------------------------------------------------- */
+
+#define TYPE_REPLY " 52 E4 07 80 00"
+#define VERSION_REPLY                                                                                                                                       \
+    " 56 51 53 30 30 30 34 37 31 31 65 78 61 6D 70 6C 65 20 31 2E 30 00 00 00 00 00 00 00 00 00 30 31 2E 30 32 2E 32 36"
+
+/* Several boards are to share a line: a drive reads what this one is, and gives it an address of its own. The reply comes from the new address already. */
+static bool new_address(struct host *host, struct flash *flash) {
+    bool good = started(host, SHEET, flash, 0, NEW_BOARD, "A drive reads the type label and the version, and gives the board the address 45h");
+    good &= asked(host, "40 52 12", "40" TYPE_REPLY " 71");
+    good &= asked(host, "40 56 16", "40" VERSION_REPLY " 47");
+    good &= asked(host, "40 55 60 55 20", "40 50 0D 1D");
+    good &= asked(host, "40 55 45 55 05", "45 55 10");
+    good &= asked(host, "40 4E 0E", "");
+    good &= asked(host, "45 4E 0B", "45 4E 70 00 7B");
+    return good;
+}
+
+/* The plate has the old address still; the one that lasted is in force. */
+static bool new_address_is_kept(struct host *host, struct flash *flash) {
+    memset(host, 0xA5, sizeof *host);
+    bool good = started(host, SHEET, flash, 0, RESTARTED, "The supply was off: the board is at its new address, with its label");
+    good &= asked(host, "40 4E 0E", "");
+    good &= asked(host, "45 4E 0B", "45 4E 70 00 7B");
+    good &= asked(host, "FF 52 AD", "45" TYPE_REPLY " 74");
+    good &= asked(host, "45 56 13", "45" VERSION_REPLY " 42");
+    return good;
+}
+
+/* Lost lasting bytes: the plate's address is in force, with a warning. */
+static bool lost_address_is_the_plates(struct host *host, struct flash *flash) {
+    flash->lasting[QS_IMAGE_ADDRESS - QS_IMAGE_LASTING] ^= 1;
+    bool good = started(host, SHEET, flash, 0, DAMAGED, "A bit of the kept address has flipped: the board is at its plate's address");
+    good &= asked(host, "45 4E 0B", "");
+    good &= asked(host, "44 4E 0A", "");
+    good &= asked(host, "40 4E 0E", "40 CE 70 00 FE");
+    return good;
+}
+
 /* ---- the bench's side ----------------------------------------------------------------------------------------------------------------------------------- */
 
 /* A request written, sent and judged. The master knows the reply's end once two bytes are here. */
@@ -389,7 +441,7 @@ static bool bench_side(struct host *host, struct flash *flash) {
 
 int main(void) {
     static struct host host;
-    static struct flash sheet, pallet, faults, kept, bench;
+    static struct flash sheet, pallet, faults, kept, moved, bench;
     bool good = fields_of_the_sheet(&host, &sheet);
     good &= pallet_of_the_sheet(&host, &pallet);
     good &= faults_of_the_sheet(&host, &faults);
@@ -398,6 +450,9 @@ int main(void) {
     good &= kept_over_a_restart(&host, &kept);
     good &= late_reply_is_kept(&host, &kept);
     good &= damage_is_told(&host, &kept);
+    good &= new_address(&host, &moved);
+    good &= new_address_is_kept(&host, &moved);
+    good &= lost_address_is_the_plates(&host, &moved);
     good &= bench_side(&host, &bench);
     printf("%s\n", good ? "example: every reply is the one that belongs there" : "example: a reply is not the one that belongs there");
     return good ? 0 : 1;

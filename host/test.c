@@ -22,6 +22,8 @@ struct lent {
     uint8_t guard3[GUARD];
     uint8_t lasting[QS_LASTING_LENGTH + SPARE];
     uint8_t guard4[GUARD];
+    uint8_t label[QS_LABEL_LENGTH + SPARE];
+    uint8_t guard5[GUARD];
 };
 
 struct lengths {
@@ -42,12 +44,12 @@ static struct lengths right(struct plate p) {
 
 /* ---- the library's calls, all of them ------------------------------------------------------------------------------------------------------------------- */
 
-static uint64_t make_fresh(struct plate p, uint64_t image_length) {
-    return qs_fresh(p.total, p.bits, p.address, p.ticks, p.pause, lent.image, image_length);
+static uint64_t make_fresh(struct plate p, uint64_t label_length, uint64_t image_length) {
+    return qs_fresh(p.total, p.bits, p.address, p.ticks, p.pause, lent.label, label_length, lent.image, image_length);
 }
 
-static uint64_t make_restart(struct plate p, uint64_t lasting_length, uint64_t image_length) {
-    return qs_restart(p.total, p.bits, p.address, p.ticks, p.pause, lent.lasting, lasting_length, lent.image, image_length);
+static uint64_t make_restart(struct plate p) {
+    return qs_restart(p.total, p.bits, p.address, p.ticks, p.pause, lent.label, QS_LABEL_LENGTH, lent.lasting, QS_LASTING_LENGTH, lent.image, QS_IMAGE_LENGTH);
 }
 
 static uint64_t character_with(struct lengths n, uint32_t tick, uint8_t value, uint8_t parity) {
@@ -98,24 +100,34 @@ static bool as_it_was(void) {
 static bool guards_stand(struct lengths n) {
     return memcmp(lent.guard0, before.guard0, GUARD) == 0 && memcmp(lent.guard1, before.guard1, GUARD) == 0 &&
            memcmp(lent.guard2, before.guard2, GUARD) == 0 && memcmp(lent.guard3, before.guard3, GUARD) == 0 &&
-           memcmp(lent.guard4, before.guard4, GUARD) == 0 && memcmp(lent.lasting, before.lasting, sizeof lent.lasting) == 0 &&
+           memcmp(lent.guard4, before.guard4, GUARD) == 0 && memcmp(lent.guard5, before.guard5, GUARD) == 0 &&
+           memcmp(lent.lasting, before.lasting, sizeof lent.lasting) == 0 && memcmp(lent.label, before.label, sizeof lent.label) == 0 &&
            memcmp(lent.image, before.image, QS_IMAGE_LASTING) == 0 &&
            memcmp(lent.image + n.image, before.image + n.image, sizeof lent.image - n.image) == 0 &&
            memcmp(lent.memory + n.memory, before.memory + n.memory, sizeof lent.memory - n.memory) == 0 &&
            memcmp(lent.room + n.room, before.room + n.room, sizeof lent.room - n.room) == 0;
 }
 
-static const uint8_t FRESH_LASTING[12] = {0x55, 0x55, 0x55, 0x55};
+/* The label's bytes tell their place, so that none can stand for another: 52h tells the first four, 56h the rest. */
+#define TYPE_LABEL "B0 B1 B2 B3"
+#define VERSION_LABEL "B4 B5 B6 B7 B8 B9 BA BB BC BD BE BF C0 C1 C2 C3 C4 C5 C6 C7 C8 C9 CA CB CC CD CE CF D0 D1 D2 D3 D4 D5 D6 D7 D8"
+
+static void lend_label(void) {
+    for (unsigned i = 0; i < QS_LABEL_LENGTH; i++)
+        lent.label[i] = (uint8_t)(0xB0 + i);
+}
 
 /* A fresh board with blank memory and everything round it marked. */
 static void start(struct plate p) {
-    uint8_t expected[171];
-    image_of(p, FRESH_LASTING, expected);
+    uint8_t lasting[QS_LASTING_LENGTH], expected[QS_IMAGE_LENGTH];
     memset(&lent, GUARD_BYTE, sizeof lent);
     memset(lent.memory, 0, QS_MEMORY_LENGTH(p.total));
     memset(lent.room, ROOM_BYTE, sizeof lent.room);
+    lend_label();
+    fresh_lasting(p, lasting);
+    image_of(p, lent.label, lasting, expected);
     now = 1000;
-    check(make_fresh(p, QS_IMAGE_LENGTH) == 0, "a good plate is taken", p.total);
+    check(make_fresh(p, QS_LABEL_LENGTH, QS_IMAGE_LENGTH) == 0, "a good plate is taken", p.total);
     check(memcmp(lent.image, expected, sizeof expected) == 0, "a fresh image tells its plate", p.total);
 }
 
@@ -159,33 +171,37 @@ static void all_take(struct plate p, const char *what, unsigned long number) {
 
 /* ---- plates --------------------------------------------------------------------------------------------------------------------------------------------- */
 
-static const uint32_t BAD_NUMBERS[5][6] = {
+/* The plate's numbers in the order of the calls. */
+enum { BLOCKS, BITS, ADDRESS, TICKS, PAUSE, NUMBERS };
+
+static const uint32_t BAD_NUMBERS[NUMBERS][6] = {
     {0, 113, 128, 256 + 8, 65536 + 8, UINT32_MAX}, {0, 33, 64, 256 + 24, 65536 + 24, UINT32_MAX}, {32, 64, 255, 256, 65536, UINT32_MAX},
     {0, 3, 5, 128, 256 + 4, UINT32_MAX},           {0, 21, 23, 54, 256 + 55, UINT32_MAX},
 };
 
 static struct plate with_number(struct plate p, int which, uint32_t value) {
-    uint32_t *places[5] = {&p.total, &p.bits, &p.address, &p.ticks, &p.pause};
+    uint32_t *places[NUMBERS] = {&p.total, &p.bits, &p.address, &p.ticks, &p.pause};
     *places[which] = value;
     return p;
 }
 
-/* Fresh and restart with this plate, each over a board that is marked all through, take it or refuse it. */
+/* Fresh and restart with this plate, each over a board that is marked all through, take it or refuse it. Restart has another address than the plate's. */
 static void plate_is_taken(struct plate p, bool taken, unsigned long number) {
     for (int restart = 0; restart < 2; restart++) {
         memset(&lent, restart ? ROOM_BYTE : GUARD_BYTE, sizeof lent);
-        memcpy(lent.lasting, FRESH_LASTING, QS_LASTING_LENGTH);
+        lend_label();
+        fresh_lasting(restart ? with_number(p, ADDRESS, (p.address + 1) % 32) : p, lent.lasting);
         remember();
-        uint64_t result = restart ? make_restart(p, QS_LASTING_LENGTH, QS_IMAGE_LENGTH) : make_fresh(p, QS_IMAGE_LENGTH);
+        uint64_t result = restart ? make_restart(p) : make_fresh(p, QS_LABEL_LENGTH, QS_IMAGE_LENGTH);
         check(result == (taken ? 0 : QS_R1), restart ? "restart and a plate" : "fresh and a plate", number);
         if (taken)
-            image_of(p, FRESH_LASTING, before.image);
+            image_of(p, lent.label, lent.lasting, before.image);
         check(as_it_was(), restart ? "what restart leaves" : "what fresh leaves", number);
     }
 }
 
 static void test_bad_plates(void) {
-    for (int which = 0; which < 5; which++) {
+    for (int which = 0; which < NUMBERS; which++) {
         for (int i = 0; i < 6; i++)
             plate_is_taken(with_number(EIGHT, which, BAD_NUMBERS[which][i]), false, (unsigned long)(which * 10 + i));
         for (uint32_t value = 0; value < 600; value++) {
@@ -204,18 +220,47 @@ static void test_good_plates(void) {
     }
 }
 
-static const uint64_t WRONG_IMAGES[] = {0, 1, 6, QS_IMAGE_KEPT, 165, QS_IMAGE_LENGTH - 1, QS_IMAGE_LENGTH + 1, QS_IMAGE_LENGTH + SPARE};
+/* CHANGELOG.md: the lengths of images of other layouts. */
+enum { LENGTH_OF_0_1 = 165, LENGTH_OF_LAYOUT_1 = 171 };
 
+static const uint64_t WRONG_IMAGES[] = {
+    0, 1, QS_IMAGE_LABEL, QS_IMAGE_LASTING, QS_IMAGE_KEPT, LENGTH_OF_0_1, LENGTH_OF_LAYOUT_1, QS_IMAGE_LENGTH - QS_LABEL_LENGTH, QS_IMAGE_LENGTH - 1,
+    QS_IMAGE_LENGTH + 1, QS_IMAGE_LENGTH + SPARE,
+};
+static const uint64_t WRONG_LABELS[] = {0, 1, QS_LABEL_TYPE_SIZE, QS_LABEL_DATE, QS_LABEL_LENGTH - 1, QS_LABEL_LENGTH + 1, QS_LABEL_LENGTH + SPARE};
+
+/* Byte by byte: what is not named here is 00h. */
 static void test_fresh(void) {
-    uint8_t expected[QS_IMAGE_LENGTH] = {1, 112, 24, 0, 4, 55, 0x55, 0x55, 0x55, 0x55};
+    uint8_t expected[QS_IMAGE_LENGTH] = {
+        [QS_IMAGE_LAYOUT] = QS_LAYOUT_NUMBER, [QS_IMAGE_TOTAL] = 112, [QS_IMAGE_BITS] = 24, [QS_IMAGE_PLATE_ADDRESS] = 31, [QS_IMAGE_TICKS] = 4,
+        [QS_IMAGE_PAUSE] = 55,                [QS_IMAGE_CODES] = 0x55, 0x55, 0x55, 0x55,    [QS_IMAGE_ADDRESS] = 31,
+    };
     memset(&lent, GUARD_BYTE, sizeof lent);
+    lend_label();
+    memcpy(expected + QS_IMAGE_LABEL, lent.label, QS_LABEL_LENGTH);
     remember();
-    check(make_fresh(SHEET, QS_IMAGE_LENGTH) == 0, "fresh returns 0", 0);
+    check(make_fresh(LAST_ADDRESS, QS_LABEL_LENGTH, QS_IMAGE_LENGTH) == 0, "fresh returns 0", 0);
     check(memcmp(lent.image, expected, sizeof expected) == 0, "a fresh image", 0);
     memcpy(lent.image, before.image, sizeof expected);
-    check(as_it_was(), "fresh leaves all behind the image as it was", 0);
-    for (size_t i = 0; i < COUNT(WRONG_IMAGES); i++)
-        check(make_fresh(SHEET, WRONG_IMAGES[i]) == QS_R1 && as_it_was(), "fresh refuses an image's length", WRONG_IMAGES[i]);
+    check(as_it_was(), "fresh leaves all behind the image as it was, and the label", 0);
+    for (size_t i = 0; i < COUNT(WRONG_IMAGES); i++) {
+        check(make_fresh(SHEET, QS_LABEL_LENGTH, WRONG_IMAGES[i]) == QS_R1 && as_it_was(), "fresh refuses an image's length", WRONG_IMAGES[i]);
+        check(make_fresh(SHEET, QS_LABEL_LENGTH - 1, WRONG_IMAGES[i]) == QS_R1 && as_it_was(), "fresh refuses both lengths", WRONG_IMAGES[i]);
+    }
+    for (size_t i = 0; i < COUNT(WRONG_LABELS); i++)
+        check(make_fresh(SHEET, WRONG_LABELS[i], QS_IMAGE_LENGTH) == QS_R1 && as_it_was(), "fresh refuses a label's length", WRONG_LABELS[i]);
+}
+
+/* Each place of the label with each byte: fresh takes it as it is, and no call minds it. */
+static void test_labels(void) {
+    for (uint32_t i = 0; i < QS_LABEL_LENGTH * 256; i++) {
+        uint8_t value = (uint8_t)i;
+        start(EIGHT);
+        lent.label[i / 256] = value;
+        check(make_fresh(EIGHT, QS_LABEL_LENGTH, QS_IMAGE_LENGTH) == 0, "a label of any bytes", i);
+        check(memcmp(lent.image + QS_IMAGE_LABEL, lent.label, QS_LABEL_LENGTH) == 0, "the label stands in the image", i);
+        all_take(EIGHT, "a label of any bytes", i);
+    }
 }
 
 /* ---- damaged images, wrong sizes ------------------------------------------------------------------------------------------------------------------------ */
@@ -234,13 +279,19 @@ static bool holds(const uint8_t *buffer, struct bytes b) {
     return memcmp(buffer + b.place, b.value, b.size) == 0;
 }
 
-/* 01, "State limits", each number beyond its limit, and what no image holds. */
+/* The counter at its end. */
+#define FULL_COUNTER {QS_IMAGE_COUNTER, QS_IMAGE_COUNTER_SIZE, {0xFF, 0xFF, 0xFF}}
+
+/* 01, "State limits", each number that an image can hold beyond its limit, and what no image holds. The counter's three bytes hold every counter. */
 static const struct {
     const char *name;
     struct bytes image;
 } DAMAGED[] = {
-    {"counter 1000000h", {QS_IMAGE_COUNTER, 4, {0, 0, 0, 1}}},
-    {"counter FFFFFFFFh", {QS_IMAGE_COUNTER, 4, {0xFF, 0xFF, 0xFF, 0xFF}}},
+    {"address 32", {QS_IMAGE_ADDRESS, 1, {32}}},
+    {"a counter of four bytes, 20000000h", {QS_IMAGE_COUNTER, QS_IMAGE_COUNTER_SIZE + 1, {0, 0, 0, 0x20}}},
+    {"a counter of four bytes, FFFFFFFFh", {QS_IMAGE_COUNTER, QS_IMAGE_COUNTER_SIZE + 1, {0xFF, 0xFF, 0xFF, 0xFF}}},
+    {"address 40h, a byte of the wire", {QS_IMAGE_ADDRESS, 1, {0x40}}},
+    {"address 255, the broadcast's number", {QS_IMAGE_ADDRESS, 1, {QS_BROADCAST}}},
     {"offset 2^24", {QS_IMAGE_OFFSET, 4, {0, 0, 0, 1}}},
     {"offset FFFFFFFFh", {QS_IMAGE_OFFSET, 4, {0xFF, 0xFF, 0xFF, 0xFF}}},
     {"a code waits twice: 1 and 2", {QS_IMAGE_WAITING, 4, {5, 5, 0, 0}}},
@@ -276,7 +327,9 @@ static const struct {
     struct bytes image;
 } EXTREME[] = {
     {"codes 00h and FFh", {QS_IMAGE_CODES, 4, {0, 0xFF, 0, 0xFF}}},
-    {"counter FFFFFFh", {QS_IMAGE_COUNTER, 4, {0xFF, 0xFF, 0xFF, 0}}},
+    {"counter FFFFFFh", FULL_COUNTER},
+    {"address 31", {QS_IMAGE_ADDRESS, 1, {31}}},
+    {"counter FFFFFFh and address 31", {QS_IMAGE_COUNTER, QS_IMAGE_COUNTER_SIZE + QS_IMAGE_ADDRESS_SIZE, {0xFF, 0xFF, 0xFF, 31}}},
     {"offset 2^24 - 1", {QS_IMAGE_OFFSET, 4, {0xFF, 0xFF, 0xFF, 0}}},
     {"measured FFFFFFFFh", {QS_IMAGE_MEASURED, 4, {0xFF, 0xFF, 0xFF, 0xFF}}},
     {"four codes wait", {QS_IMAGE_WAITING, 4, {1, 2, 3, 4}}},
@@ -313,12 +366,13 @@ static void test_damaged_images(void) {
 
 /* The image's head: another layout number, or a plate number that is not possible, is R1 for every call, whatever else is lent. */
 static void test_heads(void) {
-    for (uint32_t i = 0; i < 6 * 256; i++) {
-        uint32_t place = i / 256, value = i % 256;
-        struct plate p = place == 0 ? EIGHT : with_number(EIGHT, (int)place - 1, value);
-        bool taken = place == 0 ? value == 1 : possible(p);
+    static const uint8_t places[] = {QS_IMAGE_TOTAL, QS_IMAGE_BITS, QS_IMAGE_PLATE_ADDRESS, QS_IMAGE_TICKS, QS_IMAGE_PAUSE, QS_IMAGE_LAYOUT};
+    for (uint32_t i = 0; i < COUNT(places) * 256; i++) {
+        uint32_t which = i / 256, value = i % 256;
+        struct plate p = which == NUMBERS ? EIGHT : with_number(EIGHT, (int)which, value);
+        bool taken = which == NUMBERS ? value == QS_LAYOUT_NUMBER : possible(p);
         start(EIGHT);
-        lent.image[place] = (uint8_t)value;
+        lent.image[places[which]] = (uint8_t)value;
         if (taken) {
             memset(lent.memory, 0, QS_MEMORY_LENGTH(p.total));
             all_take(p, "a possible head", i);
@@ -337,7 +391,7 @@ static void test_heads(void) {
 /* The memory's length is by the plate that the image holds: every other number of blocks is R2. */
 static void test_memory_by_plate(void) {
     for (uint32_t total = 1; total <= 112; total++) {
-        struct plate p = with_number(EIGHT, 0, total);
+        struct plate p = with_number(EIGHT, BLOCKS, total);
         start(p);
         for (uint32_t blocks = 0; blocks <= 112; blocks++) {
             struct lengths n = {QS_IMAGE_LENGTH, QS_MEMORY_LENGTH(blocks), QS_REPLY_ROOM};
@@ -353,6 +407,23 @@ static void test_memory_by_plate(void) {
     }
 }
 
+/* 02, "Req 01": the address joins the state, limits 0 to 31, whatever the plate's is, and whatever the counter before it. */
+static void test_address_limits(void) {
+    for (uint32_t i = 0; i < 4 * 256; i++) {
+        struct plate p = i % 2 ? LAST_ADDRESS : EIGHT;
+        for (uint8_t open = 0; open < 2; open++) {
+            start_with(p, (struct bytes){QS_IMAGE_ADDRESS, 1, {(uint8_t)(i / 4)}}, open);
+            memset(lent.image + QS_IMAGE_COUNTER, i / 2 % 2 ? 0xFF : 0, QS_IMAGE_COUNTER_SIZE);
+            if (i / 4 < 32) {
+                all_take(p, "an address in force", i);
+                continue;
+            }
+            all_refuse(right(p), QS_R1, "an address over 31", i);
+            all_refuse((struct lengths){QS_IMAGE_LENGTH, QS_MEMORY_LENGTH(p.total) - 1, 0}, QS_R1, "an address over 31 before R2 and R3", i);
+        }
+    }
+}
+
 static struct bytes offset_of(uint32_t value) {
     return (struct bytes){QS_IMAGE_OFFSET, 4, {(uint8_t)value, (uint8_t)(value >> 8), (uint8_t)(value >> 16), (uint8_t)(value >> 24)}};
 }
@@ -360,7 +431,7 @@ static struct bytes offset_of(uint32_t value) {
 /* 01, "offset below 2^P". */
 static void test_offset_limits(void) {
     for (uint32_t bits = 1; bits <= 32; bits++) {
-        struct plate p = with_number(EIGHT, 1, bits);
+        struct plate p = with_number(EIGHT, BITS, bits);
         uint32_t last = UINT32_MAX >> (32 - bits);
         start_with(p, offset_of(last), 0);
         all_take(p, "the largest offset", bits);
@@ -381,7 +452,8 @@ static const struct {
 } SIZES[] = {
     {"image a byte short: 134 places for kept bytes", -1, 0, 0, QS_R1},
     {"image a byte too long: 136 places for kept bytes", 1, 0, 0, QS_R1},
-    {"image without a head", -6, 0, 0, QS_R1},
+    {"image without a head", -QS_IMAGE_LASTING, 0, 0, QS_R1},
+    {"image without a label", -QS_LABEL_LENGTH, 0, 0, QS_R1},
     {"image without the kept bytes", -QS_KEPT_BYTES, 0, 0, QS_R1},
     {"image much too long", SPARE, 0, 0, QS_R1},
     {"no image", NONE, 0, 0, QS_R1},
@@ -412,7 +484,8 @@ static uint64_t sized(uint64_t right_size, int more) {
 /* A board whose every number is as large as it may be, so that no refusal is for want of a frame; with none open and with one. */
 static void start_full(struct plate p, uint8_t open) {
     static const struct bytes full[] = {
-        {QS_IMAGE_COUNTER, 3, {0xFF, 0xFF, 0xFF}},
+        FULL_COUNTER,
+        {QS_IMAGE_ADDRESS, 1, {31}},
         {QS_IMAGE_OFFSET, 3, {0xFF, 0xFF, 0xFF}},
         {QS_IMAGE_WAITING, 5, {1, 2, 3, 4, 1}},
         {QS_IMAGE_KEPT_NUMBER, 1, {QS_KEPT_BYTES}},
@@ -512,26 +585,26 @@ struct trial {
 
 static const struct trial TRIALS[] = {
     /* 01, "counter + 1; from FFFFFFh it goes to 0 and 08h is queued". */
-    {.name = "bench sheet: the counter at FFFFFFh", .plate = &SHEET, .set = {{QS_IMAGE_COUNTER, 3, {0xFF, 0xFF, 0xFF}}},
+    {.name = "bench sheet: the counter at FFFFFFh", .plate = &SHEET, .set = {FULL_COUNTER},
      .lines = {{"40 47", "40 C7"}, {"40 50", "40 50 08"}}},
-    {.name = "the counter at FFFFFFh is read, steps to 0 and warns", .plate = &SHEET, .set = {{QS_IMAGE_COUNTER, 3, {0xFF, 0xFF, 0xFF}}},
+    {.name = "the counter at FFFFFFh is read, steps to 0 and warns", .plate = &SHEET, .set = {FULL_COUNTER},
      .lines = {{"40 46", "40 46 FF FF FF"}, {"40 47", "40 C7"}, {"40 46", "40 C6 00 00 00"}, {"40 4E", "40 CE 70 00"}, {"40 50", "40 50 08"},
                {"40 50", "40 50 00"}}},
     {.name = "the counter from 0", .plate = &SHEET,
      .lines = {{"40 46", "40 46 00 00 00"}, {"40 47", "40 47"}, {"40 46", "40 46 00 00 01"}, {"40 49 54", "40 50 0F"}, {"40 49 55", "40 49"},
                {"40 46", "40 46 00 00 00"}}},
-    {.name = "the counter a step below FFFFFFh", .plate = &SHEET, .set = {{QS_IMAGE_COUNTER, 3, {0xFE, 0xFF, 0xFF}}},
+    {.name = "the counter a step below FFFFFFh", .plate = &SHEET, .set = {{QS_IMAGE_COUNTER, QS_IMAGE_COUNTER_SIZE, {0xFE, 0xFF, 0xFF}}},
      .lines = {{"40 47", "40 47"}, {"40 46", "40 46 FF FF FF"}, {"40 49 54", "40 50 0F"}, {"40 49 55", "40 49"}, {"40 46", "40 46 00 00 00"}}},
     /* 01, "one already waiting, or a fifth, is dropped". */
     {.name = "the counter at FFFFFFh, four codes wait: 08h is dropped", .plate = &SHEET,
-     .set = {{QS_IMAGE_COUNTER, 3, {0xFF, 0xFF, 0xFF}}, {QS_IMAGE_WAITING, 4, {1, 2, 3, 4}}},
+     .set = {FULL_COUNTER, {QS_IMAGE_WAITING, 4, {1, 2, 3, 4}}},
      .lines = {{"40 47", "40 C7"}, {"40 46", "40 C6 00 00 00"}, {"40 50", "40 D0 01"}, {"40 50", "40 D0 02"}, {"40 50", "40 D0 03"}, {"40 50", "40 50 04"},
                {"40 50", "40 50 00"}}},
     {.name = "the counter at FFFFFFh, 08h waits: it keeps its place", .plate = &SHEET,
-     .set = {{QS_IMAGE_COUNTER, 3, {0xFF, 0xFF, 0xFF}}, {QS_IMAGE_WAITING, 2, {8, 5}}},
+     .set = {FULL_COUNTER, {QS_IMAGE_WAITING, 2, {8, 5}}},
      .lines = {{"fault 00", ""}, {"40 47", "40 C7"}, {"40 44", "40 D0 0B"}, {"40 50", "40 D0 08"}, {"40 50", "40 50 05"}, {"40 50", "40 50 00"}}},
     {.name = "the counter at FFFFFFh, four codes wait, 08h last", .plate = &SHEET,
-     .set = {{QS_IMAGE_COUNTER, 3, {0xFF, 0xFF, 0xFF}}, {QS_IMAGE_WAITING, 4, {1, 2, 3, 8}}},
+     .set = {FULL_COUNTER, {QS_IMAGE_WAITING, 4, {1, 2, 3, 8}}},
      .lines = {{"40 47", "40 C7"}, {"40 50", "40 D0 01"}, {"40 50", "40 D0 02"}, {"40 50", "40 D0 03"}, {"40 50", "40 50 08"}, {"40 50", "40 50 00"}}},
     {.name = "codes that wait are read in their order", .plate = &SHEET, .set = {{QS_IMAGE_WAITING, 4, {9, 3, 7, 1}}},
      .lines = {{"40 50", "40 D0 09"}, {"fault 09", ""}, {"fault 03", ""}, {"40 50", "40 D0 03"}, {"40 50", "40 D0 07"}},
@@ -574,6 +647,53 @@ static const struct trial TRIALS[] = {
     {.name = "address 31", .plate = &LAST_ADDRESS,
      .lines = {{"5F 4E", "5F 4E 70 00"}, {"FF 4E", "5F 4E 70 00"}, {"40 4E", ""}, {"7F 4E", ""}, {"DF 4E", ""}, {"5F C2", "5F 50 0B"}, {"5F 44", "5F 50 0B"},
                {"5F 42 00", "5F 50 0C"}, {"5F 4B 00 00", "5F 50 0C"}, {"5F 4B 00 00 02 55 AA", "5F 50 0C"}, {"5F 4B 00 00 00 55", "5F 50 0C"}}},
+    /* 000, "Set Encoder Address": "the Slave response message will already use the new Slave address". */
+    {.name = "55h: the reply carries the new address, and the old one is another's", .plate = &SHEET,
+     .lines = {{"40 55 45 55", "45 55"}, {"40 4E", ""}, {"40 55 46 55", ""}, {"45 4E", "45 4E 70 00"}, {"FF 4E", "45 4E 70 00"}, {"45 44", "45 50 0B"}},
+     .left = {QS_IMAGE_ADDRESS, 1, {5}}},
+    /* 02, "Req 01": 0Fh, then 0Dh, both after step 6; in an error reply the old address. */
+    {.name = "55h: 0Ch before 0Fh before 0Dh, with the old address", .plate = &SHEET, .set = {{QS_IMAGE_ADDRESS, 1, {2}}},
+     .lines = {{"42 55", "42 50 0C"}, {"42 55 45", "42 50 0C"}, {"42 55 60", "42 50 0C"}, {"42 55 45 55 55", "42 50 0C"}, {"42 55 60 54 55", "42 50 0C"},
+               {"42 55 45 54", "42 50 0F"}, {"42 55 60 54", "42 50 0F"}, {"42 55 55 45", "42 50 0F"}, {"42 55 60 55", "42 50 0D"}, {"42 55 3F 55", "42 50 0D"},
+               {"42 55 05 55", "42 50 0D"}, {"42 55 C5 55", "42 50 0D"}, {"42 55 FF 55", "42 50 0D"}, {"42 55 00 55", "42 50 0D"}, {"42 4E", "42 4E 70 00"}},
+     .left = {QS_IMAGE_ADDRESS, 1, {2}}},
+    {.name = "55h by broadcast: new address, or an error with the old one", .plate = &SHEET,
+     .lines = {{"FF 55 5F 55", "5F 55"}, {"FF 55 60 55", "5F 50 0D"}, {"FF 55 40 54", "5F 50 0F"}, {"FF 55 40", "5F 50 0C"}, {"40 4E", ""},
+               {"5F 4E", "5F 4E 70 00"}, {"FF 55 40 55", "40 55"}, {"5F 4E", ""}, {"40 4E", "40 4E 70 00"}},
+     .left = {QS_IMAGE_ADDRESS, 1, {0}}},
+    {.name = "55h wants Code0 as it is now", .plate = &SHEET, .set = {{QS_IMAGE_CODES, 4, {0x11, 0x22, 0x33, 0x44}}},
+     .lines = {{"40 55 41 55", "40 50 0F"}, {"40 55 41 22", "40 50 0F"}, {"40 55 41 44", "40 50 0F"}, {"40 55 41 11", "41 55"}, {"41 4F 00 11 66", "41 4F 00"},
+               {"41 55 42 11", "41 50 0F"}, {"41 55 42 66", "42 55"}},
+     .left = {QS_IMAGE_ADDRESS, 1, {2}}},
+    {.name = "55h with the address in force", .plate = &SHEET,
+     .lines = {{"40 55 40 55", "40 55"}, {"40 4E", "40 4E 70 00"}, {"FF 55 40 55", "40 55"}, {"40 55 40 54", "40 50 0F"}}, .left = {QS_IMAGE_ADDRESS, 1, {0}}},
+    {.name = "55h to another board changes nothing", .plate = &SHEET,
+     .lines = {{"41 55 45 55", ""}, {"45 55", ""}, {"00 55 45 55", ""}, {"60 55 45 55", ""}, {"45 4E", ""}, {"40 4E", "40 4E 70 00"}},
+     .left = {QS_IMAGE_ADDRESS, 1, {0}}},
+    /* 01, "Power-on ..; all else stays"; 000, "Slave address .. not changed by an Encoder Reset". */
+    {.name = "the address outlives power-on and 53h", .plate = &LAST_ADDRESS,
+     .lines = {{"5F 55 47 55", "47 55"}, {"power-on", ""}, {"47 4E", "47 4E 70 00"}, {"5F 4E", ""}, {"47 53", ""}, {"47 4E", "47 4E 70 00"}, {"5F 4E", ""},
+               {"fault 22", ""}, {"measured 00000005", ""}, {"47 42", "47 50 02"}, {"power-on", ""}, {"47 42", "47 42 00 00 00 05"}},
+     .left = {QS_IMAGE_ADDRESS, 1, {7}}},
+    {.name = "the plate's address is not looked at", .plate = &LAST_ADDRESS, .set = {{QS_IMAGE_ADDRESS, 1, {3}}},
+     .lines = {{"5F 4E", ""}, {"5F 55 41 55", ""}, {"43 4E", "43 4E 70 00"}, {"43 44", "43 50 0B"}, {"43 55 5F 55", "5F 55"}, {"5F 4E", "5F 4E 70 00"}},
+     .left = {QS_IMAGE_PLATE_ADDRESS, 1, {31}}},
+    {.name = "label, version and address while codes wait", .plate = &SHEET, .set = {{QS_IMAGE_WAITING, 2, {0x31, 0x32}}},
+     .lines = {{"40 52", "40 D2 " TYPE_LABEL}, {"40 56", "40 D6 " VERSION_LABEL}, {"40 55 45 55", "45 D5"}, {"45 55 60 55", "45 D0 0D"},
+               {"45 55 40 54", "45 D0 0F"}, {"45 55", "45 D0 0C"}, {"45 52 00", "45 D0 0C"}, {"45 56 00", "45 D0 0C"}},
+     .left = {QS_IMAGE_WAITING, 4, {0x31, 0x32, 0, 0}}},
+    /* 000, tables 28 and 31. */
+    {.name = "52h and 56h tell the label", .plate = &SHEET,
+     .lines = {{"40 52", "40 52 " TYPE_LABEL}, {"40 56", "40 56 " VERSION_LABEL}, {"FF 52", "40 52 " TYPE_LABEL}, {"FF 56", "40 56 " VERSION_LABEL},
+               {"40 52 00", "40 50 0C"}, {"40 56 00", "40 50 0C"}, {"40 52 00 55", "40 50 0C"}, {"40 56 00 55", "40 50 0C"}, {"41 52", ""}, {"41 56", ""},
+               {"40 55 5F 55", "5F 55"}, {"5F 52", "5F 52 " TYPE_LABEL}, {"5F 56", "5F 56 " VERSION_LABEL}, {"FF 56", "5F 56 " VERSION_LABEL}}},
+    {.name = "52h, 55h and 56h while the position is locked", .plate = &SHEET, .set = {{QS_IMAGE_LOCKED, 1, {1}}},
+     .lines = {{"40 42", "40 50 02"}, {"40 52", "40 52 " TYPE_LABEL}, {"40 56", "40 56 " VERSION_LABEL}, {"40 55 45 55", "45 55"}, {"45 42", "45 50 02"}},
+     .left = {QS_IMAGE_LOCKED, 1, {1}}},
+    {.name = "the commands beside them are unknown", .plate = &SHEET,
+     .lines = {{"40 51", "40 50 0B"}, {"40 54", "40 50 0B"}, {"40 57", "40 50 0B"}, {"40 57 E4 55", "40 50 0B"}, {"40 D2", "40 50 0B"},
+               {"40 D5 45 55", "40 50 0B"}, {"40 D6", "40 50 0B"}, {"40 12", "40 50 0B"}, {"40 15 45 55", "40 50 0B"}, {"40 44", "40 50 0B"}},
+     .left = {QS_IMAGE_ADDRESS, 1, {0}}},
 };
 
 /* One line of a trial. */
@@ -639,6 +759,144 @@ static void test_long_frames(void) {
         check(replies(SHEET, frame, n, NONE_FAULTY, "40 50 0A"), "a long frame with a wrong checksum", n);
         frame[0] = 0x41;
         check(replies(SHEET, frame, n, NONE_FAULTY, ""), "a long frame for another board", n);
+    }
+}
+
+/* ---- the address ---------------------------------------------------------------------------------------------------------------------------------------- */
+
+/* What is sent and what comes back, in bytes; a request that is for nobody here comes back with none. */
+static void asks_bytes(struct plate p, const uint8_t *request, size_t n, const uint8_t *reply, size_t replied, const char *what, unsigned long number) {
+    uint8_t sent[QS_REQUEST_BUFFER], expected[QS_REPLY_ROOM];
+    memcpy(sent, request, n);
+    sent[n] = xor_of(sent, n);
+    memcpy(expected, reply, replied);
+    expected[replied] = xor_of(expected, replied);
+    uint64_t length = send_characters(p, sent, n + 1, NONE_FAULTY);
+    check(length == (replied == 0 ? 0 : replied + 1), what, number);
+    check(memcmp(lent.room, expected, length) == 0, what, number);
+}
+
+/* Whether a board is at this address byte: it tells its free blocks. */
+static void is_there(struct plate p, uint8_t address, bool there, const char *what, unsigned long number) {
+    const uint8_t request[] = {address, QS_MEMORY_STATUS}, reply[] = {address, QS_MEMORY_STATUS, (uint8_t)p.total, 0};
+    asks_bytes(p, request, sizeof request, reply, there ? sizeof reply : 0, what, number);
+}
+
+enum { OLD = 0x47, GOOD_CODE = 0x55, WRONG_CODE = 0x54, EVERY_BOARD = 0xFF };
+
+/* A 55h with this new address byte to a board at OLD. It changes the address and nothing else of image and memory, neither the counter before it nor the
+ * offset behind it; an error changes nothing. */
+static void new_address(uint8_t asked, uint8_t wanted, uint8_t code) {
+    struct plate p = with_number(EIGHT, ADDRESS, OLD - 0x40);
+    bool allowed = wanted >= 0x40 && wanted <= 0x5F, accepted = allowed && code == GOOD_CODE;
+    const uint8_t request[] = {asked, QS_SET_ADDRESS, wanted, code}, good[] = {wanted, QS_SET_ADDRESS};
+    const uint8_t error[] = {OLD, QS_READ_STATUS, code == GOOD_CODE ? QS_ERROR_WRONG_ARGUMENT : QS_ERROR_WRONG_CODE};
+    start(p);
+    memset(lent.image + QS_IMAGE_COUNTER, 0xFF, QS_IMAGE_COUNTER_SIZE);
+    set(lent.image, offset_of(0xFFFFFF));
+    struct lent whole = lent;
+    asks_bytes(p, request, sizeof request, accepted ? good : error, accepted ? sizeof good : sizeof error, "a new address byte", wanted);
+    if (accepted)
+        whole.image[QS_IMAGE_ADDRESS] = wanted - 0x40;
+    check(memcmp(whole.image, lent.image, QS_IMAGE_KEPT) == 0, "55h leaves all but the address", wanted);
+    check(memcmp(whole.memory, lent.memory, sizeof whole.memory) == 0, "55h leaves memory", wanted);
+    is_there(p, OLD, !accepted || wanted == OLD, "the old address afterwards", wanted);
+    if (wanted != EVERY_BOARD)
+        is_there(p, wanted, accepted || wanted == OLD, "the new address byte afterwards", wanted);
+}
+
+static void test_new_addresses(void) {
+    for (uint32_t wanted = 0; wanted < 256; wanted++) {
+        new_address(OLD, (uint8_t)wanted, GOOD_CODE);
+        new_address(OLD, (uint8_t)wanted, WRONG_CODE);
+        new_address(EVERY_BOARD, (uint8_t)wanted, GOOD_CODE);
+        new_address(EVERY_BOARD, (uint8_t)wanted, (uint8_t)wanted == GOOD_CODE ? 0 : (uint8_t)wanted);
+    }
+}
+
+/* Steps 2 to 4 come before: a 55h that is good but for its line changes nothing and is answered by the old address. */
+static void test_faulty_new_addresses(void) {
+    uint8_t frame[] = {0x40, QS_SET_ADDRESS, 0x45, GOOD_CODE, 0x05}, longer[QS_KEPT_BYTES + 1] = {0x40, QS_SET_ADDRESS, 0x45, GOOD_CODE};
+    longer[QS_KEPT_BYTES] = 0x05;
+    start(SHEET);
+    for (size_t i = 0; i < sizeof frame; i++)
+        check(replies(SHEET, frame, sizeof frame, i, "40 50 09"), "55h with a parity fault", i);
+    check(replies(SHEET, longer, sizeof longer, NONE_FAULTY, "40 50 0C"), "55h in a frame too long", 0);
+    frame[4] ^= 1;
+    check(replies(SHEET, frame, sizeof frame, NONE_FAULTY, "40 50 0A"), "55h with a wrong checksum", 0);
+    check(lent.image[QS_IMAGE_ADDRESS] == 0, "the address is the old one", 0);
+}
+
+/* A character closes a 55h: the reply is this call's, and the frame that it opens will be judged by the new address. */
+static void closed_by(uint8_t next, const char *reply) {
+    static const uint8_t frame[] = {0x40, QS_SET_ADDRESS, 0x45, GOOD_CODE, 0x05};
+    uint8_t rest[] = {QS_MEMORY_STATUS, (uint8_t)(next ^ QS_MEMORY_STATUS)};
+    start(SHEET);
+    for (size_t i = 0; i < sizeof frame; i++)
+        check(character_with(right(SHEET), ++now, frame[i], 0) == 0, "a 55h is sent", i);
+    now += SHEET.pause * SHEET.ticks;
+    check(character_with(right(SHEET), now, next, 0) == 3 && memcmp(lent.room, "\x45\x55\x10", 3) == 0, "a character closes a 55h", next);
+    check(lent.image[QS_IMAGE_ADDRESS] == 5 && lent.image[QS_IMAGE_KEPT_NUMBER] == 1, "the address is new, the next frame open", next);
+    check(replies(SHEET, rest, sizeof rest, NONE_FAULTY, reply), "the next frame is judged by the new address", next);
+}
+
+/* The host may write the state: a frame is judged by the address that is in force when it closes. */
+static void test_address_at_the_close(void) {
+    closed_by(0x45, "45 4E 70 00");
+    closed_by(0x40, "");
+    closed_by(0xFF, "45 4E 70 00");
+    closed_by(0x46, "");
+    static const uint8_t request[] = {0x41, QS_MEMORY_STATUS, 0x41 ^ QS_MEMORY_STATUS};
+    for (uint8_t address = 0; address < 32; address++) {
+        start(SHEET);
+        for (size_t i = 0; i < sizeof request; i++)
+            check(character_with(right(SHEET), ++now, request[i], 0) == 0, "a frame for address 1", i);
+        lent.image[QS_IMAGE_ADDRESS] = address;
+        check(poll_with(right(SHEET), now + SHEET.pause * SHEET.ticks) == (address == 1 ? 5u : 0u), "it is judged by the address at its end", address);
+    }
+}
+
+/* ---- the counter ---------------------------------------------------------------------------------------------------------------------------------------- */
+
+static void set_counter(uint8_t *image, uint32_t counter) {
+    for (uint32_t i = 0; i < QS_IMAGE_COUNTER_SIZE; i++)
+        image[QS_IMAGE_COUNTER + i] = (uint8_t)(counter >> 8 * i);
+}
+
+/* The board at OLD tells its counter; it warns where the overflow's code waits. */
+static void tells_counter(uint32_t counter, uint8_t warning) {
+    static const uint8_t request[] = {OLD, QS_READ_COUNTER};
+    const uint8_t reply[] = {OLD, QS_READ_COUNTER | warning, (uint8_t)(counter >> 16), (uint8_t)(counter >> 8), (uint8_t)counter};
+    asks_bytes(EIGHT, request, sizeof request, reply, sizeof reply, "46h, high byte first", counter);
+}
+
+/* Every call takes it. 46h tells it, 47h steps it, 49h clears it, and no other byte of the state changes: the address stands right behind it. */
+static void counter_is_worked(uint32_t counter) {
+    static const uint8_t increment[] = {OLD, QS_INCREMENT_COUNTER}, reset[] = {OLD, QS_RESET_COUNTER, GOOD_CODE};
+    const uint32_t next = counter == 0xFFFFFF ? 0 : counter + 1;
+    const uint8_t warning = next == 0 ? QS_WARNING_BIT : 0;
+    const uint8_t incremented[] = {OLD, QS_INCREMENT_COUNTER | warning}, cleared[] = {OLD, QS_RESET_COUNTER | warning};
+    start(EIGHT);
+    lent.image[QS_IMAGE_ADDRESS] = OLD - 0x40;
+    set_counter(lent.image, counter);
+    struct lent whole = lent;
+    all_take(EIGHT, "a counter", counter);
+    tells_counter(counter, 0);
+    asks_bytes(EIGHT, increment, sizeof increment, incremented, sizeof incremented, "47h", counter);
+    set_counter(whole.image, next);
+    whole.image[QS_IMAGE_WAITING] = next == 0 ? QS_ERROR_COUNTER_OVERFLOW : 0;
+    check(memcmp(whole.image, lent.image, QS_IMAGE_KEPT) == 0, "47h leaves all but the counter and a code that waits", counter);
+    tells_counter(next, warning);
+    asks_bytes(EIGHT, reset, sizeof reset, cleared, sizeof cleared, "49h", counter);
+    set_counter(whole.image, 0);
+    check(memcmp(whole.image, lent.image, QS_IMAGE_KEPT) == 0, "49h leaves all but the counter", counter);
+}
+
+/* 01, "counter at most FFFFFFh": each of its bytes with each value, the other two 00h or FFh. */
+static void test_counters(void) {
+    for (uint32_t i = 0; i < 2 * QS_IMAGE_COUNTER_SIZE * 256; i++) {
+        uint32_t shift = i / 256 % QS_IMAGE_COUNTER_SIZE * 8, others = i / 256 < QS_IMAGE_COUNTER_SIZE ? 0 : 0xFFFFFF;
+        counter_is_worked((others & ~(0xFFu << shift)) | i % 256 << shift);
     }
 }
 
@@ -762,7 +1020,8 @@ static const struct {
 static const struct line UNSOUND_LINES[] = {
     {"40 4A 00 00 01 55", "40 50 03"}, {"40 4A 09 00 00 00", "40 50 03"}, {"40 4B 00 00 01 55 AA", "40 50 03"}, {"40 4B 09 00 01 00 00", "40 50 03"},
     {"40 4C 00", "40 50 03"},          {"40 4C 09", "40 50 03"},          {"40 4D 00 C0 55", "40 50 03"},       {"40 4D 09 00 00", "40 50 03"},
-    {"40 4E", "40 50 03"},             {"40 46", "40 46 00 00 00"},
+    {"40 4E", "40 50 03"},             {"40 46", "40 46 00 00 00"},       {"40 52", "40 52 " TYPE_LABEL},       {"40 56", "40 56 " VERSION_LABEL},
+    {"40 55 60 55", "40 50 0D"},       {"40 55 40 55", "40 55"},
 };
 
 static void test_unsound_tables(void) {
@@ -868,11 +1127,19 @@ static const struct {
     {"4E", 5},
     {"4F 03 55 66", 4},
     {"50", 4},
+    {"52", 7},
     {"53", QS_B5},
+    {"55 45 55", 3},
+    {"55 40 00", 3},
+    {"55 00 55", 3},
+    {"55 60 55", 3},
+    {"55 FF FF", 3},
+    {"56", 40},
 };
 
 static const char *const BAD[] = {"44", "C2", "00", "FF", "42 00", "43", "43 00 00 00 02", "49", "4A 00 00 00 55", "4A 00 00 81 55", "4A 00 00 01",
-                                  "4B", "4B 00 00 00 55", "4B 00 00 02 55 AA", "4B 00 00 01 55", "4C", "4D 00 C0", "4F 04 55 66", "50 00", "53 00"};
+                                  "4B", "4B 00 00 00 55", "4B 00 00 02 55 AA", "4B 00 00 01 55", "4C", "4D 00 C0", "4F 04 55 66", "50 00", "53 00",
+                                  "51", "52 00", "54", "55", "55 45", "55 45 55 00", "56 00", "57", "57 E4 55", "D2", "D5 45 55", "D6"};
 
 static void test_requests(void) {
     for (size_t i = 0; i < COUNT(GOOD); i++) {
@@ -892,6 +1159,18 @@ static void test_requests(void) {
     for (size_t i = 0; i < COUNT(BAD); i++) {
         request_is(0, BAD[i], QS_REQUEST_BUFFER, "", QS_R5);
         request_is(0, BAD[i], 3, "", QS_R4);
+    }
+}
+
+/* 02, "Req 01": "The new address byte is the board's to judge", and so is the code. */
+static void test_address_requests(void) {
+    for (unsigned i = 0; i < 2 * 256; i++) {
+        char asked[16], expected[32];
+        snprintf(asked, sizeof asked, "55 %02X %02X", i % 256, i < 256 ? 0x55u : i % 256);
+        snprintf(expected, sizeof expected, "40 %s", asked);
+        request_is(0, asked, QS_REQUEST_BUFFER, expected, 0);
+        snprintf(expected, sizeof expected, "FF %s", asked);
+        request_is(QS_BROADCAST, asked, QS_REQUEST_BUFFER, expected, 0);
     }
 }
 
@@ -946,6 +1225,72 @@ static const struct {
     {"40 4C 01", "40 4C 02 E0", QS_B6},
     {"40 4D 01 E0 55", "40 4D 01 E1", QS_B6},
     {"40 4F 02 55 66", "40 4F 03", QS_B6},
+    {"40 52", "40 52 E4 07 80 00", QS_VERDICT_DONE},
+    {"FF 52", "5F D2 E4 07 80 00", QS_VERDICT_DONE_WITH_WARNING},
+    {"40 52", "40 50 0C", QS_VERDICT_ERROR + 12},
+    {"40 52", "40 52 E4 07 80", QS_B5},
+    {"40 52", "40 52 E4 07 80 00 00", QS_B5},
+    {"40 52", "41 52 E4 07 80 00", QS_B3},
+    {"40 52", "40 56 E4 07 80 00", QS_B4},
+    {"40 52 00", "40 52 E4 07 80 00", QS_B0},
+    {"40 56", "40 56 " VERSION_LABEL, QS_VERDICT_DONE},
+    {"40 56", "40 D6 " VERSION_LABEL, QS_VERDICT_DONE_WITH_WARNING},
+    {"40 56", "40 D0 0C", QS_VERDICT_ERROR_WITH_WARNING + 12},
+    {"40 56", "40 56 " VERSION_LABEL " 00", QS_B5},
+    {"40 56", "40 56", QS_B5},
+    {"40 56 00", "40 56 " VERSION_LABEL, QS_B0},
+    /* The good reply to 55h carries the new address, an error reply the asked one. */
+    {"40 55 45 55", "45 55", QS_VERDICT_DONE},
+    {"40 55 45 55", "45 D5", QS_VERDICT_DONE_WITH_WARNING},
+    {"40 55 45 55", "40 50 0F", QS_VERDICT_ERROR + 15},
+    {"40 55 45 55", "40 D0 0D", QS_VERDICT_ERROR_WITH_WARNING + 13},
+    {"40 55 45 55", "40 55", QS_B3},
+    {"40 55 45 55", "40 D5", QS_B3},
+    {"40 55 45 55", "46 55", QS_B3},
+    {"40 55 45 55", "FF 55", QS_B3},
+    {"40 55 45 55", "45 50 0F", QS_B3},
+    {"40 55 45 55", "45 D0 0F", QS_B3},
+    /* New and old are the same. */
+    {"40 55 40 55", "40 55", QS_VERDICT_DONE},
+    {"40 55 40 55", "40 50 0F", QS_VERDICT_ERROR + 15},
+    {"40 55 40 55", "41 55", QS_B3},
+    /* No board answers with an address byte that is none, though the request has it. */
+    {"40 55 60 55", "60 55", QS_B3},
+    {"40 55 3F 55", "3F D5", QS_B3},
+    {"40 55 FF 55", "FF 55", QS_B3},
+    {"40 55 60 55", "40 55", QS_B3},
+    {"40 55 60 55", "40 50 0D", QS_VERDICT_ERROR + 13},
+    /* To a broadcast too the new one; an error from any board. */
+    {"FF 55 45 55", "45 55", QS_VERDICT_DONE},
+    {"FF 55 45 55", "45 D5", QS_VERDICT_DONE_WITH_WARNING},
+    {"FF 55 45 55", "44 55", QS_B3},
+    {"FF 55 45 55", "40 50 0F", QS_VERDICT_ERROR + 15},
+    {"FF 55 45 55", "45 50 0F", QS_VERDICT_ERROR + 15},
+    {"FF 55 45 55", "5F D0 0D", QS_VERDICT_ERROR_WITH_WARNING + 13},
+    {"FF 55 45 55", "60 50 0F", QS_B3},
+    {"FF 55 60 55", "60 55", QS_B3},
+    {"FF 55 FF 55", "FF 55", QS_B3},
+    {"FF 55 60 55", "5F 50 0D", QS_VERDICT_ERROR + 13},
+    /* B3 before B4 and B5: a command that is neither must carry the asked address, and 55h to another request too. */
+    {"40 55 45 55", "40 4E 70 00", QS_B4},
+    {"40 55 45 55", "45 4E 70 00", QS_B3},
+    {"40 55 45 55", "40 54", QS_B4},
+    {"40 55 45 55", "45 54", QS_B3},
+    {"FF 55 45 55", "46 52", QS_B4},
+    {"FF 55 45 55", "60 52", QS_B3},
+    {"40 4E", "40 55", QS_B4},
+    {"40 4E", "40 D5", QS_B4},
+    {"40 4E", "45 55", QS_B3},
+    {"FF 4E", "45 55", QS_B4},
+    {"40 43 45 55 45 55 55", "45 55", QS_B3},
+    {"40 4F 03 45 55", "45 55", QS_B3},
+    {"40 55 45 55", "45 55 45", QS_B5},
+    {"40 55 45 55", "45 D5 00 00", QS_B5},
+    {"40 55 45 55", "40 50", QS_B5},
+    {"40 55 45 55", "45", QS_B1},
+    {"40 55 45", "45 55", QS_B0},
+    {"40 55 45 55 00", "45 55", QS_B0},
+    {"60 55 45 55", "45 55", QS_B0},
 };
 
 static void judged_as(const uint8_t *request, size_t request_length, const uint8_t *reply, size_t reply_length, uint32_t verdict, unsigned long number) {
@@ -977,6 +1322,39 @@ static void test_verdicts(void) {
         if (replied > 2 && JUDGED[i].verdict != QS_B0) {
             reply[replied - 1] ^= 0x80;
             judged_as(request, asked, reply, replied, QS_B2, i + 200);
+        }
+    }
+}
+
+static bool is_address_byte(uint8_t byte) {
+    return byte >= 0x40 && byte <= 0x5F;
+}
+
+/* 02, "Req 01": "after 55h it expects whichever address byte the table shows, in an error reply the old one". For a reply without data or with the one byte of
+ * an error. */
+static uint32_t verdict_on_address(uint8_t asked, uint8_t wanted, uint8_t replied, uint8_t command) {
+    uint8_t bare = command & 0x7F;
+    uint32_t warns = command >= 0x80;
+    bool right_one = bare == QS_SET_ADDRESS ? replied == wanted && is_address_byte(wanted) : asked == EVERY_BOARD ? is_address_byte(replied) : replied == asked;
+    if (!right_one)
+        return QS_B3;
+    if (bare == QS_READ_STATUS)
+        return (warns ? QS_VERDICT_ERROR_WITH_WARNING : QS_VERDICT_ERROR) + QS_ERROR_WRONG_CODE;
+    return bare == QS_SET_ADDRESS ? warns : QS_B4;
+}
+
+/* Every new address byte; replies from the asked one, the new one, its neighbours and both ends of the range. */
+static void test_address_verdicts(void) {
+    static const uint8_t askeds[] = {0x40, 0x45, 0x5F, EVERY_BOARD}, commands[] = {0x55, 0xD5, 0x50, 0xD0, 0x52, 0x15, 0x95};
+    for (uint32_t i = 0; i < 256 * COUNT(askeds) * COUNT(commands); i++) {
+        uint8_t wanted = (uint8_t)i, asked = askeds[i / 256 % COUNT(askeds)], command = commands[i / 256 / COUNT(askeds)];
+        const uint8_t from[] = {asked, wanted, (uint8_t)(wanted + 1), (uint8_t)(wanted ^ 0x20), wanted & 0x1F, 0x3F, 0x40, 0x5F, 0x60, EVERY_BOARD, 0};
+        uint8_t request[] = {asked, QS_SET_ADDRESS, wanted, GOOD_CODE, (uint8_t)(asked ^ QS_SET_ADDRESS ^ wanted ^ GOOD_CODE)};
+        for (size_t j = 0; j < COUNT(from); j++) {
+            uint8_t reply[4] = {from[j], command, QS_ERROR_WRONG_CODE};
+            size_t n = (command & 0x7F) == QS_READ_STATUS ? 3 : 2;
+            reply[n] = xor_of(reply, n);
+            judged_as(request, sizeof request, reply, n + 1, verdict_on_address(asked, wanted, from[j], command), i * 16 + j);
         }
     }
 }
@@ -1046,7 +1424,7 @@ static void test_reply_lengths_of_none(void) {
     }
 }
 
-/* The header: "0 while fewer than two bytes are here; else .. QS_B0". So no request is refused that early. */
+/* The header: "QS_B0, whatever is here, for what is not a request": also before two bytes are here. */
 static void test_reply_lengths_too_early(void) {
     static const uint8_t reply[] = {0x40, 0x4E};
     uint8_t request[QS_REQUEST_BUFFER];
@@ -1086,11 +1464,15 @@ static uint8_t *wide;
 
 /* A length that is right but for 2^32 is a wrong one, and a room of more than 2^32 bytes is room enough. */
 static void long_lengths_of_the_board(void) {
-    uint8_t lasting[QS_LASTING_LENGTH] = {0}, image[QS_IMAGE_LENGTH];
+    static const uint8_t label[QS_LABEL_LENGTH], lasting[QS_LASTING_LENGTH];
+    uint8_t image[QS_IMAGE_LENGTH];
+    const uint64_t l = sizeof label, s = sizeof lasting, i = sizeof image;
     struct lengths n = right(EIGHT);
-    check(qs_fresh(8, 24, 0, 4, 55, wide, FAR + n.image) == QS_R1, "fresh and a long image", 0);
-    check(qs_restart(8, 24, 0, 4, 55, lasting, sizeof lasting, wide, FAR + n.image) == QS_R1, "restart and a long image", 0);
-    check(qs_restart(8, 24, 0, 4, 55, wide, FAR + QS_LASTING_LENGTH, image, n.image) == QS_R1, "restart and long lasting bytes", 0);
+    check(qs_fresh(8, 24, 0, 4, 55, label, l, wide, FAR + i) == QS_R1, "fresh and a long image", 0);
+    check(qs_fresh(8, 24, 0, 4, 55, wide, FAR + l, image, i) == QS_R1, "fresh and a long label", 0);
+    check(qs_restart(8, 24, 0, 4, 55, label, l, lasting, s, wide, FAR + i) == QS_R1, "restart and a long image", 0);
+    check(qs_restart(8, 24, 0, 4, 55, label, l, wide, FAR + s, image, i) == QS_R1, "restart and long lasting bytes", 0);
+    check(qs_restart(8, 24, 0, 4, 55, wide, FAR + l, lasting, s, image, i) == QS_R1, "restart and a long label", 0);
     open_frame(EIGHT, 1000);
     memcpy(wide, lent.image, QS_IMAGE_LENGTH);
     remember();
@@ -1144,11 +1526,11 @@ static void test_verdict_macros(void) {
     check(QS_B0 == 1024 && QS_B6 == 1030, "the judge's refusals", 0);
 }
 
-/* Which commands store: 43h the offset, 47h and 49h the counter, 4Bh and 4Dh memory, 4Fh a code. */
+/* Which commands store: 43h the offset, 47h and 49h the counter, 4Bh and 4Dh memory, 4Fh a code, 55h the address. */
 static void test_other_macros(void) {
     for (uint32_t command = 0; command < 256; command++) {
         uint32_t bare = command >= 128 ? command - 128 : command;
-        bool stores = bare == 0x43 || bare == 0x47 || bare == 0x49 || bare == 0x4B || bare == 0x4D || bare == 0x4F;
+        bool stores = bare == 0x43 || bare == 0x47 || bare == 0x49 || bare == 0x4B || bare == 0x4D || bare == 0x4F || bare == 0x55;
         check(QS_MAY_CHANGE((uint8_t)command) == stores && QS_MAY_CHANGE(command) == stores, "a command that stores", command);
     }
     for (uint64_t result = 0; result <= 261; result++)
@@ -1159,35 +1541,68 @@ static void test_other_macros(void) {
         check(QS_MEMORY_LENGTH(total) == 16 * total + total && QS_MEMORY_LENGTH((uint8_t)total) == 17 * total, "the memory's length", total);
 }
 
-/* Place and size of each part of the image, with no gap between them. */
-static void test_layout(void) {
-    static const unsigned parts[][2] = {
-        {QS_IMAGE_LAYOUT, QS_IMAGE_LAYOUT_SIZE},   {QS_IMAGE_TOTAL, QS_IMAGE_TOTAL_SIZE},     {QS_IMAGE_BITS, QS_IMAGE_BITS_SIZE},
-        {QS_IMAGE_ADDRESS, QS_IMAGE_ADDRESS_SIZE}, {QS_IMAGE_TICKS, QS_IMAGE_TICKS_SIZE},     {QS_IMAGE_PAUSE, QS_IMAGE_PAUSE_SIZE},
-        {QS_IMAGE_CODES, QS_IMAGE_CODES_SIZE},     {QS_IMAGE_COUNTER, QS_IMAGE_COUNTER_SIZE}, {QS_IMAGE_OFFSET, QS_IMAGE_OFFSET_SIZE},
-        {QS_IMAGE_MEASURED, QS_IMAGE_MEASURED_SIZE}, {QS_IMAGE_WAITING, QS_IMAGE_WAITING_SIZE}, {QS_IMAGE_LOCKED, QS_IMAGE_LOCKED_SIZE},
-        {QS_IMAGE_OPEN, QS_IMAGE_OPEN_SIZE},       {QS_IMAGE_LONGER, QS_IMAGE_LONGER_SIZE},   {QS_IMAGE_PARITY, QS_IMAGE_PARITY_SIZE},
-        {QS_IMAGE_LAST, QS_IMAGE_LAST_SIZE},       {QS_IMAGE_SUM, QS_IMAGE_SUM_SIZE},         {QS_IMAGE_KEPT_NUMBER, QS_IMAGE_KEPT_NUMBER_SIZE},
-        {QS_IMAGE_KEPT, QS_IMAGE_KEPT_SIZE},       {QS_IMAGE_LENGTH, 0},
-    };
-    for (size_t i = 1; i < COUNT(parts); i++)
+/* Place and size of each part, with no gap between them. */
+static void follow_each_other(const unsigned parts[][2], size_t number) {
+    for (size_t i = 1; i < number; i++)
         check(parts[i][0] == parts[i - 1][0] + parts[i - 1][1], "a part begins where the last one ends", i);
+}
+
+static void test_layout(void) {
+    static const unsigned image[][2] = {
+        {QS_IMAGE_LAYOUT, QS_IMAGE_LAYOUT_SIZE},
+        {QS_IMAGE_TOTAL, QS_IMAGE_TOTAL_SIZE},
+        {QS_IMAGE_BITS, QS_IMAGE_BITS_SIZE},
+        {QS_IMAGE_PLATE_ADDRESS, QS_IMAGE_PLATE_ADDRESS_SIZE},
+        {QS_IMAGE_TICKS, QS_IMAGE_TICKS_SIZE},
+        {QS_IMAGE_PAUSE, QS_IMAGE_PAUSE_SIZE},
+        {QS_IMAGE_LABEL, QS_IMAGE_LABEL_SIZE},
+        {QS_IMAGE_CODES, QS_IMAGE_CODES_SIZE},
+        {QS_IMAGE_COUNTER, QS_IMAGE_COUNTER_SIZE},
+        {QS_IMAGE_ADDRESS, QS_IMAGE_ADDRESS_SIZE},
+        {QS_IMAGE_OFFSET, QS_IMAGE_OFFSET_SIZE},
+        {QS_IMAGE_MEASURED, QS_IMAGE_MEASURED_SIZE},
+        {QS_IMAGE_WAITING, QS_IMAGE_WAITING_SIZE},
+        {QS_IMAGE_LOCKED, QS_IMAGE_LOCKED_SIZE},
+        {QS_IMAGE_OPEN, QS_IMAGE_OPEN_SIZE},
+        {QS_IMAGE_LONGER, QS_IMAGE_LONGER_SIZE},
+        {QS_IMAGE_PARITY, QS_IMAGE_PARITY_SIZE},
+        {QS_IMAGE_LAST, QS_IMAGE_LAST_SIZE},
+        {QS_IMAGE_SUM, QS_IMAGE_SUM_SIZE},
+        {QS_IMAGE_KEPT_NUMBER, QS_IMAGE_KEPT_NUMBER_SIZE},
+        {QS_IMAGE_KEPT, QS_IMAGE_KEPT_SIZE},
+        {QS_IMAGE_LENGTH, 0},
+    };
+    static const unsigned label[][2] = {
+        {QS_LABEL_TYPE, QS_LABEL_TYPE_SIZE}, {QS_LABEL_SERIAL, QS_LABEL_SERIAL_SIZE}, {QS_LABEL_VERSION, QS_LABEL_VERSION_SIZE},
+        {QS_LABEL_DATE, QS_LABEL_DATE_SIZE}, {QS_LABEL_LENGTH, 0},
+    };
+    follow_each_other(image, COUNT(image));
+    follow_each_other(label, COUNT(label));
+    check(QS_IMAGE_LAYOUT == 0 && QS_LABEL_TYPE == 0, "both begin at 0", 0);
     check(QS_IMAGE_LASTING == QS_IMAGE_CODES && QS_IMAGE_LASTING + QS_IMAGE_LASTING_SIZE == QS_IMAGE_MEASURED, "the lasting bytes", 0);
-    check(QS_IMAGE_LENGTH == 171 && QS_LASTING_LENGTH == 12 && QS_LAYOUT_NUMBER == 1, "lengths and layout number", 0);
+    check(QS_LABEL_TYPE_SIZE == 4 && QS_LABEL_SERIAL_SIZE == 9 && QS_LABEL_VERSION_SIZE == 20 && QS_LABEL_DATE_SIZE == 8, "000, tables 28 and 31", 0);
+    check(QS_IMAGE_LENGTH == 212 && QS_LASTING_LENGTH == 12 && QS_LAYOUT_NUMBER == 2, "lengths and layout number", 0);
+    check(IN_LASTING(QS_IMAGE_COUNTER) == 4 && IN_LASTING(QS_IMAGE_ADDRESS) == 7 && IN_LASTING(QS_IMAGE_OFFSET) == 8, "what a flash holds", 0);
 }
 
 int main(void) {
     test_fresh();
     test_bad_plates();
     test_good_plates();
+    test_labels();
     test_damaged_images();
     test_heads();
     test_memory_by_plate();
+    test_address_limits();
     test_offset_limits();
     test_sizes();
     test_trials();
     test_cut_frames();
     test_long_frames();
+    test_new_addresses();
+    test_faulty_new_addresses();
+    test_address_at_the_close();
+    test_counters();
     test_gaps();
     test_image_changes();
     test_closed_frame_numbers();
@@ -1196,8 +1611,10 @@ int main(void) {
     test_dirty_memory();
     test_largest();
     test_requests();
+    test_address_requests();
     test_long_requests();
     test_verdicts();
+    test_address_verdicts();
     test_reply_lengths();
     test_reply_lengths_of_none();
     test_reply_lengths_too_early();

@@ -61,12 +61,27 @@ static inline bool possible(struct plate p) {
     return p.total >= 1 && p.total <= 112 && p.bits >= 1 && p.bits <= 32 && p.address <= 31 && ticks && (p.pause == 22 || p.pause == 55);
 }
 
-/* The image of a board whose plate is p and of whose state only codes, counter and offset are not 0: layout number, plate, 12 bytes, and 00h. */
-static inline void image_of(struct plate p, const uint8_t *lasting, uint8_t *image) {
-    const uint8_t head[] = {1, (uint8_t)p.total, (uint8_t)p.bits, (uint8_t)p.address, (uint8_t)p.ticks, (uint8_t)p.pause};
-    memset(image, 0, 171);
-    memcpy(image, head, 6);
-    memcpy(image + 6, lasting, 12);
+/* The place among the lasting bytes of what stands at a place of the image. */
+#define IN_LASTING(place) ((place)-QS_IMAGE_LASTING)
+
+/* What lasts of a board that is fresh: 01, "Fresh state", and the plate's address in force. */
+static inline void fresh_lasting(struct plate p, uint8_t *lasting) {
+    memset(lasting, 0, QS_LASTING_LENGTH);
+    memset(lasting + IN_LASTING(QS_IMAGE_CODES), 0x55, QS_IMAGE_CODES_SIZE);
+    lasting[IN_LASTING(QS_IMAGE_ADDRESS)] = (uint8_t)p.address;
+}
+
+/* The image of a board with this plate and label, of whose state only the lasting bytes are not 0. */
+static inline void image_of(struct plate p, const uint8_t *label, const uint8_t *lasting, uint8_t *image) {
+    memset(image, 0, QS_IMAGE_LENGTH);
+    image[QS_IMAGE_LAYOUT] = QS_LAYOUT_NUMBER;
+    image[QS_IMAGE_TOTAL] = (uint8_t)p.total;
+    image[QS_IMAGE_BITS] = (uint8_t)p.bits;
+    image[QS_IMAGE_PLATE_ADDRESS] = (uint8_t)p.address;
+    image[QS_IMAGE_TICKS] = (uint8_t)p.ticks;
+    image[QS_IMAGE_PAUSE] = (uint8_t)p.pause;
+    memcpy(image + QS_IMAGE_LABEL, label, QS_LABEL_LENGTH);
+    memcpy(image + QS_IMAGE_LASTING, lasting, QS_LASTING_LENGTH);
 }
 
 static inline uint8_t xor_of(const uint8_t *bytes, size_t n) {

@@ -1,7 +1,7 @@
 /* Every kind of call that closes no frame, on both boards, to count the instructions of each: calls character|poll|measured|fault|power_on|fresh. */
 #include "both.h"
 
-static uint64_t image_length = sizeof image, memory_given, room_length = sizeof room;
+static uint64_t label_length = sizeof label, image_length = sizeof image, memory_given, room_length = sizeof room;
 static uint32_t tick; /* too early to close a frame */
 static uint8_t parity, code;
 
@@ -10,7 +10,7 @@ CALLS(poll, image, image_length, tick, memory, memory_given, room, room_length)
 CALLS(measured, image, image_length, tick)
 CALLS(fault, image, image_length, code)
 CALLS(power_on, image, image_length)
-CALLS(fresh, total, BITS, ADDRESS, TICKS, pause_bits, image, image_length)
+CALLS(fresh, total, BITS, PLATE_ADDRESS, TICKS, pause_bits, label, label_length, image, image_length)
 
 #define BY_CODES(row) (codes_wait == 0 ? row : row " while codes wait")
 
@@ -29,8 +29,9 @@ static void refused_image(const char *row, board_call library, board_call hand) 
         uint8_t place, value;
     } BEYOND[] = {
         {QS_IMAGE_LAYOUT, QS_LAYOUT_NUMBER + 1}, {QS_IMAGE_TOTAL, 0},    {QS_IMAGE_TOTAL, TOTAL + 1}, {QS_IMAGE_BITS, 33},
-        {QS_IMAGE_ADDRESS, 32},                  {QS_IMAGE_TICKS, 3},    {QS_IMAGE_PAUSE, 54},        {QS_IMAGE_COUNTER + 3, 1},
-        {QS_IMAGE_OFFSET + 3, 1},                {QS_IMAGE_LOCKED, 2},   {QS_IMAGE_PARITY, 2},        {QS_IMAGE_KEPT_NUMBER, QS_KEPT_BYTES + 1},
+        {QS_IMAGE_PLATE_ADDRESS, 32},            {QS_IMAGE_TICKS, 3},    {QS_IMAGE_PAUSE, 54},        {QS_IMAGE_ADDRESS, 32},
+        {QS_IMAGE_ADDRESS, 255},                 {QS_IMAGE_OFFSET + 3, 1},
+        {QS_IMAGE_LOCKED, 2},                    {QS_IMAGE_PARITY, 2},   {QS_IMAGE_KEPT_NUMBER, QS_KEPT_BYTES + 1},
         {QS_IMAGE_WAITING, QS_FAULT_LOCKS_A},    {QS_IMAGE_WAITING + 1, QS_FAULT_LOCKS_B}, /* also behind an empty place */
         {QS_IMAGE_WAITING + 3, 0x1E},            {QS_IMAGE_WAITING + 3, QS_FAULT_LOCKS_B}, /* 1Eh waits already, or the place before is empty */
     };
@@ -76,6 +77,9 @@ static void refused_fresh_images(void) {
     image_length--;
     on_both(row, REFUSED, library_fresh, hand_written_fresh);
     image_length++;
+    label_length--;
+    on_both(row, REFUSED, library_fresh, hand_written_fresh);
+    label_length++;
     pause_bits++;
     on_both(row, REFUSED, library_fresh, hand_written_fresh);
 }

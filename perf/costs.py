@@ -16,7 +16,7 @@ of each board with their ratio, the ratio of the two means, and how many calls t
 CLOSING_NOTE = """\
 Counted and compared in the same way. A row is every way of perf/ways.h with that command, whether it is done or answered with an error; below stand the frames
 that are no request. Tried are plates of 1 to 5, 8 and 112 blocks, few fields and many, sound tables and unsound ones, 0 to 4 fault codes waiting (with 97 to
-111 fields none and four), a locked position, and the board's own address as well as the broadcast."""
+111 fields none and four), a locked position, and the board's own address, which is not its plate's, as well as the broadcast."""
 
 
 class Call(NamedTuple):

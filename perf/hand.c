@@ -18,6 +18,18 @@ static void store(uint8_t *at, uint32_t value) {
     at[3] = (uint8_t)(value >> 24);
 }
 
+static uint32_t load_counter(const uint8_t *image) {
+    const uint8_t *at = image + QS_IMAGE_COUNTER;
+    return (uint32_t)at[0] | (uint32_t)at[1] << 8 | (uint32_t)at[2] << 16;
+}
+
+static void store_counter(uint8_t *image, uint32_t value) {
+    uint8_t *at = image + QS_IMAGE_COUNTER;
+    at[0] = (uint8_t)value;
+    at[1] = (uint8_t)(value >> 8);
+    at[2] = (uint8_t)(value >> 16);
+}
+
 static bool plate_is_good(uint32_t total, uint32_t bits, uint32_t address, uint32_t ticks, uint32_t pause) {
     return total - 1 < 112 && bits - 1 < 32 && address < 32 && ticks != 0 && ticks <= 64 && (ticks & (ticks - 1)) == 0 && (pause == 22 || pause == 55);
 }
@@ -45,13 +57,13 @@ static bool queue_is_good(const uint8_t *q) {
 
 static bool state_is_good(const uint8_t *image) {
     const uint8_t *flags = image + QS_IMAGE_LOCKED;
-    return image[QS_IMAGE_COUNTER + 3] == 0 && (uint64_t)load(image + QS_IMAGE_OFFSET) >> image[QS_IMAGE_BITS] == 0 &&
+    return image[QS_IMAGE_ADDRESS] < 32 && (uint64_t)load(image + QS_IMAGE_OFFSET) >> image[QS_IMAGE_BITS] == 0 &&
            (flags[0] | flags[1] | flags[2] | flags[3]) <= 1 && image[QS_IMAGE_KEPT_NUMBER] <= QS_KEPT_BYTES && queue_is_good(image + QS_IMAGE_WAITING);
 }
 
 static bool image_is_good(const uint8_t *image, uint64_t image_length) {
     return image_length == QS_IMAGE_LENGTH && image[QS_IMAGE_LAYOUT] == QS_LAYOUT_NUMBER &&
-           plate_is_good(image[QS_IMAGE_TOTAL], image[QS_IMAGE_BITS], image[QS_IMAGE_ADDRESS], image[QS_IMAGE_TICKS], image[QS_IMAGE_PAUSE]) &&
+           plate_is_good(image[QS_IMAGE_TOTAL], image[QS_IMAGE_BITS], image[QS_IMAGE_PLATE_ADDRESS], image[QS_IMAGE_TICKS], image[QS_IMAGE_PAUSE]) &&
            state_is_good(image);
 }
 
@@ -155,8 +167,8 @@ static unsigned read_counter(const struct work *w) {
 }
 
 static unsigned increment_counter(const struct work *w) {
-    uint32_t counter = (load(w->image + QS_IMAGE_COUNTER) + 1) & 0xFFFFFF;
-    store(w->image + QS_IMAGE_COUNTER, counter);
+    uint32_t counter = (load_counter(w->image) + 1) & 0xFFFFFF;
+    store_counter(w->image, counter);
     if (counter == 0)
         note(w->image, QS_ERROR_COUNTER_OVERFLOW);
     return 0;
@@ -165,7 +177,7 @@ static unsigned increment_counter(const struct work *w) {
 static unsigned reset_counter(const struct work *w) {
     if (w->data[0] != w->image[QS_IMAGE_CODES])
         return FAILED + QS_ERROR_WRONG_CODE;
-    store(w->image + QS_IMAGE_COUNTER, 0);
+    store_counter(w->image, 0);
     return 0;
 }
 
@@ -281,6 +293,28 @@ static unsigned read_status(const struct work *w) {
     return 1;
 }
 
+static unsigned read_type_label(const struct work *w) {
+    memcpy(w->reply, w->image + QS_IMAGE_LABEL + QS_LABEL_TYPE, QS_LABEL_TYPE_SIZE);
+    return QS_LABEL_TYPE_SIZE;
+}
+
+/* Serial number, version and date stand one after the other. */
+static unsigned read_version(const struct work *w) {
+    const unsigned length = QS_LABEL_LENGTH - QS_LABEL_SERIAL;
+    memcpy(w->reply, w->image + QS_IMAGE_LABEL + QS_LABEL_SERIAL, length);
+    return length;
+}
+
+static unsigned set_address(const struct work *w) {
+    unsigned wanted = w->data[0] - 0x40u;
+    if (w->data[1] != w->image[QS_IMAGE_CODES])
+        return FAILED + QS_ERROR_WRONG_CODE;
+    if (wanted >= 32)
+        return FAILED + QS_ERROR_WRONG_ARGUMENT;
+    w->image[QS_IMAGE_ADDRESS] = (uint8_t)wanted;
+    return 0;
+}
+
 static bool store_has_its_length(const struct work *w) {
     return w->length >= 5 && w->length <= 132 && w->length == 4u + w->data[2];
 }
@@ -301,6 +335,9 @@ static unsigned command(const struct work *w, uint8_t number) {
     case QS_MEMORY_STATUS: return w->length == 0 ? memory_status(w) : wrong_length;
     case QS_SET_ACCESS_CODE: return w->length == 3 ? set_access_code(w) : wrong_length;
     case QS_READ_STATUS: return w->length == 0 ? read_status(w) : wrong_length;
+    case QS_READ_TYPE_LABEL: return w->length == 0 ? read_type_label(w) : wrong_length;
+    case QS_SET_ADDRESS: return w->length == 2 ? set_address(w) : wrong_length;
+    case QS_READ_VERSION: return w->length == 0 ? read_version(w) : wrong_length;
     case QS_RESET:
         if (w->length != 0)
             return wrong_length;
@@ -323,12 +360,15 @@ static unsigned judged(const struct work *w, uint8_t number) {
     return command(w, number);
 }
 
+static uint8_t address_byte(const uint8_t *image) {
+    return (uint8_t)(0x40 + image[QS_IMAGE_ADDRESS]);
+}
+
 /* The open frame is over: its reply's length. */
 static uint64_t closed(uint8_t *image, uint8_t *memory, uint8_t *room) {
     const uint8_t *kept = image + QS_IMAGE_KEPT;
     size_t n = image[QS_IMAGE_KEPT_NUMBER];
-    uint8_t own = (uint8_t)(0x40 + image[QS_IMAGE_ADDRESS]);
-    if (n < 3 || (kept[0] != own && kept[0] != 0xFF))
+    if (n < 3 || (kept[0] != address_byte(image) && kept[0] != 0xFF))
         return 0;
     struct work w = {image, memory, room + 2, kept + 2, n - 3, image[QS_IMAGE_TOTAL], UINT32_MAX >> (32 - image[QS_IMAGE_BITS])};
     uint8_t number = kept[1];
@@ -341,7 +381,7 @@ static uint64_t closed(uint8_t *image, uint8_t *memory, uint8_t *room) {
         number = QS_READ_STATUS;
         length = 1;
     }
-    room[0] = own;
+    room[0] = address_byte(image); /* after an accepted 55h the new one: 000, "Set Encoder Address" */
     room[1] = image[QS_IMAGE_WAITING] != 0 ? number | QS_WARNING_BIT : number;
     uint8_t sum = 0;
     for (size_t i = 0; i < length + 2; i++)
@@ -364,17 +404,20 @@ static bool is_over(const uint8_t *image, uint32_t tick) {
 
 /* ---- the calls ------------------------------------------------------------------------------------------------------------------------------------------ */
 
-uint64_t hand_fresh(uint32_t total, uint32_t bits, uint32_t address, uint32_t ticks, uint32_t pause, uint8_t *image, uint64_t image_length) {
-    if (image_length != QS_IMAGE_LENGTH || !plate_is_good(total, bits, address, ticks, pause))
+uint64_t hand_fresh(uint32_t total, uint32_t bits, uint32_t address, uint32_t ticks, uint32_t pause, const uint8_t *label, uint64_t label_length,
+                    uint8_t *image, uint64_t image_length) {
+    if (image_length != QS_IMAGE_LENGTH || label_length != QS_LABEL_LENGTH || !plate_is_good(total, bits, address, ticks, pause))
         return QS_R1;
     memset(image, 0, QS_IMAGE_LENGTH);
     image[QS_IMAGE_LAYOUT] = QS_LAYOUT_NUMBER;
     image[QS_IMAGE_TOTAL] = (uint8_t)total;
     image[QS_IMAGE_BITS] = (uint8_t)bits;
-    image[QS_IMAGE_ADDRESS] = (uint8_t)address;
+    image[QS_IMAGE_PLATE_ADDRESS] = (uint8_t)address;
     image[QS_IMAGE_TICKS] = (uint8_t)ticks;
     image[QS_IMAGE_PAUSE] = (uint8_t)pause;
+    memcpy(image + QS_IMAGE_LABEL, label, QS_LABEL_LENGTH);
     memset(image + QS_IMAGE_CODES, 0x55, 4);
+    image[QS_IMAGE_ADDRESS] = (uint8_t)address;
     return 0;
 }
 

@@ -6,6 +6,7 @@
 
 enum { LARGEST_RECORD = 8 };
 
+static const uint8_t label[QS_LABEL_LENGTH]; /* 00h on a tape: 02, "Req 01" */
 static uint8_t image[QS_IMAGE_LENGTH], memory[QS_MEMORY_LENGTH(112)], room[QS_REPLY_ROOM];
 static uint64_t memory_length;
 
@@ -36,7 +37,7 @@ static void print_reply(uint32_t tick, uint64_t length) {
 
 static uint64_t start(const uint8_t *body) {
     memory_length = QS_MEMORY_LENGTH(body[0]);
-    return CALL(fresh)(body[0], body[1], body[2], body[3], body[4], image, sizeof image);
+    return CALL(fresh)(body[0], body[1], body[2], body[3], body[4], label, sizeof label, image, sizeof image);
 }
 
 /* One record worked on the board: its reply's length, or a refusal. */

@@ -20,9 +20,9 @@ static uint8_t number; /* any byte, another one in each way */
 static volatile any_call entry;
 #define ENTRY(call) ((__typeof__(&call))entry)
 
-static void fresh(void) { ENTRY(qs_fresh)(total, BITS, ADDRESS, TICKS, pause_bits, own_image, image_length); }
+static void fresh(void) { ENTRY(qs_fresh)(total, BITS, PLATE_ADDRESS, TICKS, pause_bits, label, sizeof label, own_image, image_length); }
 static void restart(void) {
-    ENTRY(qs_restart)(total, BITS, ADDRESS, TICKS, pause_bits, image + QS_IMAGE_LASTING, QS_LASTING_LENGTH, own_image, image_length);
+    ENTRY(qs_restart)(total, BITS, PLATE_ADDRESS, TICKS, pause_bits, label, sizeof label, image + QS_IMAGE_LASTING, QS_LASTING_LENGTH, own_image, image_length);
 }
 static void character(void) { ENTRY(qs_character)(own_image, image_length, tick, number, number & 1, own_memory, memory_given, own_room, room_length); }
 static void poll(void) { ENTRY(qs_poll)(own_image, image_length, tick, own_memory, memory_given, own_room, room_length); }

@@ -6,10 +6,12 @@
 
 #include <string.h>
 
-enum { TOTAL = 112, SMALL_TOTAL = 8, BITS = 24, ADDRESS = 0, TICKS = 4, PAUSE = 55, SHORT_PAUSE = 22 };
+/* ADDRESS is in force; it is not the plate's, and not 0, so that a board that writes the counter too wide leaves another image. */
+enum { TOTAL = 112, SMALL_TOTAL = 8, BITS = 24, PLATE_ADDRESS = 7, ADDRESS = 3, TICKS = 4, PAUSE = 55, SHORT_PAUSE = 22 };
 
 static uint8_t image[QS_IMAGE_LENGTH], memory[QS_MEMORY_LENGTH(TOTAL)], room[QS_REPLY_ROOM];
 
+static uint8_t label[QS_LABEL_LENGTH];
 static uint8_t total;         /* blocks */
 static uint32_t pause_bits;   /* bit times of the pause */
 static uint64_t memory_length;
@@ -35,6 +37,7 @@ static void set_plate(uint8_t blocks, uint32_t bit_times) {
     pause_bits = bit_times;
     memory_length = QS_MEMORY_LENGTH(blocks);
     closing_tick = bit_times * TICKS;
+    fill(label, sizeof label);
     fill(room, sizeof room);
     fill(memory, sizeof memory);
     memset(memory + QS_BLOCK * total, 0, total);
@@ -43,8 +46,9 @@ static void set_plate(uint8_t blocks, uint32_t bit_times) {
 /* The image of that plate and state, with no frame open. */
 static void set_image(void) {
     const uint8_t codes[4] = {state->first_code, 0x1F, 0x20, 0x21};
-    qs_fresh(total, BITS, ADDRESS, TICKS, pause_bits, image, sizeof image);
-    memset(image + QS_IMAGE_COUNTER, state->counter, 3);
+    qs_fresh(total, BITS, PLATE_ADDRESS, TICKS, pause_bits, label, sizeof label, image, sizeof image);
+    image[QS_IMAGE_ADDRESS] = ADDRESS;
+    memset(image + QS_IMAGE_COUNTER, state->counter, QS_IMAGE_COUNTER_SIZE);
     memcpy(image + QS_IMAGE_WAITING, codes, codes_wait);
     image[QS_IMAGE_LOCKED] = state->locked;
 }

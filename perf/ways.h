@@ -5,7 +5,7 @@
 
 #include "state.h"
 
-enum { OWN = 0x40 + ADDRESS, ANOTHER = OWN + 1, EVERY = 0xFF, CODE = 0x55, WRONG = 0x56, MOST_DATA = 132 };
+enum { OWN = 0x40 + ADDRESS, ANOTHER = OWN + 1, LAST = 0x5F, EVERY = 0xFF, CODE = 0x55, WRONG = 0x56, MOST_DATA = 132 };
 enum { STATUS = 0xC8, NO_CODE_WANTED = 0xC0, READ_ONLY = 0x80 }; /* of fields of one block; STATUS wants Code0 and is write-enabled */
 
 static void (*closed)(const char *row); /* what is done with each way; it leaves memory as it was */
@@ -29,7 +29,10 @@ static const struct {
     {QS_MEMORY_STATUS, "4Eh Memory Status"},
     {QS_SET_ACCESS_CODE, "4Fh Set Access Code"},
     {QS_READ_STATUS, "50h Read Encoder Status"},
+    {QS_READ_TYPE_LABEL, "52h Read Type Label"},
     {QS_RESET, "53h Encoder Reset"},
+    {QS_SET_ADDRESS, "55h Set Encoder Address"},
+    {QS_READ_VERSION, "56h Read Version"},
 };
 
 static void open_frame(uint8_t command, const uint8_t *data, unsigned length) {
@@ -68,6 +71,7 @@ static void frames_that_are_no_request(void) {
         {"unknown command", QS_IMAGE_KEPT + 1, 0x41},
         {"unknown command", QS_IMAGE_KEPT + 1, 0x44},
         {"unknown command", QS_IMAGE_KEPT + 1, 0x54},
+        {"unknown command", QS_IMAGE_KEPT + 1, 0x57},
         {"unknown command", QS_IMAGE_KEPT + 1, 0xC2},
     };
     static const uint8_t data[MOST_DATA] = {0, 0, 128, CODE};
@@ -80,18 +84,18 @@ static void frames_that_are_no_request(void) {
     }
 }
 
-/* Two and nine bytes of data, right for no command; a store of nine has a count of five, and here it is 0. */
+/* A few bytes of data and nine, right for no command: 55h has two, and a store of nine has a count of five, which here is 0. */
 static void data_of_wrong_length(void) {
     static const uint8_t data[9] = {0};
     for (size_t i = 0; i < sizeof COMMANDS / sizeof *COMMANDS; i++) {
-        for (unsigned length = 2; length <= 9; length += 7) {
-            open_frame(COMMANDS[i].command, data, length);
-            closed("data of a wrong length");
-        }
+        open_frame(COMMANDS[i].command, data, COMMANDS[i].command == QS_SET_ADDRESS ? 1 : 2);
+        closed("data of a wrong length");
+        open_frame(COMMANDS[i].command, data, sizeof data);
+        closed("data of a wrong length");
     }
 }
 
-/* Requests that do not look at the table: taken, wrong code, position beyond 24 bits, code number over 3; locked where the state is. */
+/* Requests that do not look at the table: taken, wrong code, position beyond 24 bits, code number over 3, no address byte; locked where the state is. */
 static void plain_requests(void) {
     static const struct {
         uint8_t command, length, data[5];
@@ -108,7 +112,14 @@ static void plain_requests(void) {
         {QS_SET_ACCESS_CODE, 3, {3, WRONG, 0x66}},
         {QS_SET_ACCESS_CODE, 3, {4, CODE, 0x66}},
         {QS_READ_STATUS, 0, {0}},
+        {QS_READ_TYPE_LABEL, 0, {0}},
         {QS_RESET, 0, {0}},
+        {QS_SET_ADDRESS, 2, {OWN, CODE}},
+        {QS_SET_ADDRESS, 2, {LAST, CODE}},
+        {QS_SET_ADDRESS, 2, {LAST, WRONG}},
+        {QS_SET_ADDRESS, 2, {LAST + 1, CODE}},
+        {QS_SET_ADDRESS, 2, {0, CODE}},
+        {QS_READ_VERSION, 0, {0}},
     };
     for (size_t i = 0; i < sizeof REQUESTS / sizeof *REQUESTS; i++)
         ask(REQUESTS[i].command, REQUESTS[i].data, REQUESTS[i].length);

@@ -21,17 +21,21 @@ class Coverage:
     def __init__(self):
         self.replies = 0
         self.warnings = 0
+        self.moved = 0
         self.bad = 0
         self.commands = collections.Counter()
         self.errors = collections.Counter()
 
-    def add(self, output, wide_faults):
+    def add(self, tape, output, wide_faults):
+        # The plate comes first; its third number is the address.
+        plate_address = b"%02X" % (0x40 + tape[6] & 0xFF) if len(tape) > 6 else b""
         for line in output.split(b"\n")[1:-1]:
             words = line.split(b" ", 4)
             if words[0] == b"bad":
                 self.bad += 1
                 continue
             self.replies += 1
+            self.moved += words[1] != plate_address
             command = int(words[2], 16)
             self.warnings += command >> 7
             command &= 0x7F
@@ -48,13 +52,15 @@ class Coverage:
     def holes(self):
         return ([f"reply {command:02X}" for command in REPLY_COMMANDS
                  if not self.commands[command]]
-                + [f"error {code:02X}" for code in ERROR_CODES if not self.errors[code]])
+                + [f"error {code:02X}" for code in ERROR_CODES if not self.errors[code]]
+                + ["a reply from an address that 55h gave"] * (not self.moved))
 
     def __str__(self):
         commands = " ".join(f"{command:02X}:{self.commands[command]}" for command in REPLY_COMMANDS)
         errors = " ".join(f"{code:02X}:{self.errors[code]}" for code in ERROR_CODES)
         return (f"replies {commands}; errors {errors}; "
-                f"with warning {self.warnings}; bad tapes {self.bad}")
+                f"with warning {self.warnings}; from an address that 55h gave {self.moved}; "
+                f"bad tapes {self.bad}")
 
 
 def run(program, tape):
@@ -91,7 +97,7 @@ def main():
         tape, wide_faults = generate.make_tape(seed, index)
         size += len(tape)
         first, second = (run(program, tape) for program in programs)
-        coverage.add(first, wide_faults)
+        coverage.add(tape, first, wide_faults)
         if first != second:
             if not differing:
                 show_difference(seed, index, tape, first, second)

@@ -10,9 +10,11 @@ WRAP = 1 << 32
 CHARACTER = struct.Struct("<HHIBB")
 NUMBER = struct.Struct("<HHI")
 
-COMMANDS = (0x42, 0x43, 0x46, 0x47, 0x49, 0x4A, 0x4B, 0x4C, 0x4D, 0x4E, 0x4F, 0x50, 0x53)
-UNKNOWN = (0x00, 0x40, 0x41, 0x44, 0x45, 0x48, 0x51, 0x52, 0x54, 0x55, 0x56, 0x57, 0x67,
-           0x6A, 0xC2, 0xCE, 0xD0, 0xD3, 0xFF)
+COMMANDS = (0x42, 0x43, 0x46, 0x47, 0x49, 0x4A, 0x4B, 0x4C, 0x4D, 0x4E, 0x4F, 0x50, 0x52, 0x53,
+            0x55, 0x56)
+UNKNOWN = (0x00, 0x40, 0x41, 0x44, 0x45, 0x48, 0x51, 0x54, 0x57, 0x67, 0x6A, 0x6B, 0xC2, 0xCE,
+           0xD0, 0xD2, 0xD3, 0xD5, 0xD6, 0xFF)
+BROADCAST = 0xFF
 # Codes that are no error reply's: a reply 50h with one of them answers a request 50h.
 PLAIN_FAULTS = (0x01, 0x04, 0x05, 0x06, 0x07, 0x08, 0x08, 0x13, 0x1C, 0x1D, 0x1E, 0x1F, 0x20,
                 0x21, 0x23, 0x25, 0x80, 0xFE, 0xFF)
@@ -20,9 +22,10 @@ TICKS_PER_BIT = (1, 2, 4, 8, 16, 32, 64)
 GOOD_PLATE = (112, 24, 0, 4, 55)
 
 # How often each command is asked, by the theme of the tape.
-MIXED = dict(zip(COMMANDS, (6, 6, 4, 4, 3, 14, 14, 5, 22, 6, 5, 6, 2)))
-MEMORY = dict(zip(COMMANDS, (1, 1, 1, 1, 1, 22, 22, 5, 36, 6, 3, 2, 1)))
-STATUS = dict(zip(COMMANDS, (14, 14, 8, 10, 8, 4, 4, 2, 6, 2, 8, 16, 6)))
+MIXED = dict(zip(COMMANDS, (6, 6, 4, 4, 3, 14, 14, 5, 22, 6, 5, 6, 2, 2, 5, 2)))
+MEMORY = dict(zip(COMMANDS, (1, 1, 1, 1, 1, 22, 22, 5, 36, 6, 3, 2, 1, 1, 2, 1)))
+STATUS = dict(zip(COMMANDS, (14, 14, 8, 10, 8, 4, 4, 2, 6, 2, 8, 16, 4, 6, 6, 4)))
+ADDRESS = dict(zip(COMMANDS, (5, 4, 4, 4, 3, 4, 4, 2, 8, 5, 6, 6, 9, 6, 30, 7)))
 
 
 def xor(data):
@@ -73,7 +76,7 @@ class Tape:
 
 
 class Session:
-    """A run of requests to one board, aimed by a light picture of its codes and fields."""
+    """A run of requests to one board, aimed by a light picture of its address, codes and fields."""
 
     def __init__(self, rng, plate, weights, damage, tick, wide_faults=False):
         self.rng = rng
@@ -87,6 +90,13 @@ class Session:
         self.wide_faults = wide_faults
         self.codes = [0x55] * 4
         self.fields = []
+        # The address in force is `address`; `asked` is the one that the master believes in force,
+        # wrong for as many requests as it stays `unaware`.
+        self.asked = self.address
+        self.unaware = 0
+        self.former = [self.address]
+        # The picture without the open frame, which a power-on may drop.
+        self.settled = self.picture()
         self.locked = False
         self.open = False
         self.queued = 0
@@ -102,6 +112,9 @@ class Session:
 
     def free(self):
         return self.total - sum(map(blocks, self.fields))
+
+    def picture(self):
+        return list(self.codes), list(self.fields), self.address
 
     def code(self, number, right=0.88):
         """A code's value, or now and then another one."""
@@ -170,7 +183,18 @@ class Session:
             number = rng.choice((0, 1, 2, 3)) if self.chance(0.92) else rng.choice((4, 5, 255))
             new = rng.choice((0x55, 0x55, 0x00, 0x66, rng.randrange(256)))
             return bytes((number, self.code(number & 3), new))
+        if command == 0x55:
+            return bytes((self.new_address(), self.code(0)))
         return b""
+
+    def new_address(self):
+        """The new address byte of a 55h, or now and then one that is not allowed."""
+        rng = self.rng
+        if self.chance(0.4 if self.troubled else 0.85):
+            return 0x40 + rng.choice((self.address, (self.address + 1) % 32, self.former[-1],
+                                      0, 31, rng.randrange(32), rng.randrange(32)))
+        return rng.choice((0x3F, 0x60, 0x00, 0x80, 0xFF, self.address, 0x20 + self.address,
+                           0x60 + self.address, 0xC0 + self.address, rng.randrange(256)))
 
     def data_request(self, command):
         rng = self.rng
@@ -228,18 +252,40 @@ class Session:
         return (rng.choice((number + 1, 0xFF, number, rng.randrange(256))) & 0xFF,
                 rng.choice((status, status & 0x7F)), self.code(0))
 
+    def note_frame(self, data):
+        """Follows a frame that came whole in the picture, if the board takes it."""
+        if len(data) > 2 and data[0] in (0x40 + self.address, BROADCAST) and xor(data) == 0:
+            self.note_effect(data[1], data[2:-1])
+
     def note_effect(self, command, data):
-        """Follows an intact request in the picture; sloppy is good enough."""
+        """Follows a request in the picture; sloppy is good enough for all but the address, since
+        a board that is asked by a wrong one is silent for good."""
         if command == 0x4F and len(data) == 3:
             number, old, new = data
             if number < 4 and self.codes[number] == old:
                 self.codes[number] = new
         elif command == 0x4D and len(data) == 3:
             self.note_field(*data)
-        elif command == 0x50:
+        elif command == 0x50 and not data:
             self.queued = max(self.queued - 1, 0)
         elif command == 0x53 and not data:
             self.queued = 0
+        elif command == 0x55 and len(data) == 2:
+            self.note_address(*data)
+
+    def note_address(self, new, code):
+        if code != self.codes[0] or not 0x40 <= new <= 0x5F:
+            return
+        self.former.append(self.address)
+        self.address = new - 0x40
+        # A master that missed it goes on by the old address for a while.
+        self.unaware = self.rng.randint(2, 5) if self.chance(0.12) else 0
+
+    def notice_address(self):
+        """The master learns the address in force, if not now then in a while."""
+        self.unaware = max(self.unaware - 1, 0)
+        if not self.unaware:
+            self.asked = self.address
 
     def note_field(self, field, status, code):
         number = len(self.fields)
@@ -260,11 +306,12 @@ class Session:
     def address_byte(self):
         choice = self.rng.random()
         if choice < 0.84:
-            return 0x40 + self.address
+            return 0x40 + self.asked
         if choice < 0.95:
-            return 0xFF
+            return BROADCAST
         return self.rng.choice((0x40 + (self.address + 1) % 32, 0x60 + self.address,
-                                self.address, 0xC0 + self.address, self.rng.randrange(256)))
+                                self.address, 0xC0 + self.address, 0x40 + self.former[0],
+                                0x40 + self.former[-1], self.rng.randrange(256)))
 
     def short_gap(self):
         """A gap that keeps a frame open."""
@@ -315,6 +362,9 @@ class Session:
 
     def power_on(self):
         self.tape.power_on()
+        if self.open:
+            # The open frame is dropped, and what it would have changed stays.
+            self.codes, self.fields, self.address = self.settled
         self.locked = False
         self.open = False
         self.queued = 0
@@ -324,7 +374,8 @@ class Session:
         rng, tape = self.rng, self.tape
         gap = self.long_gap() - self.waited if self.open else self.short_gap()
         tape.character(gap, data[0], int(parity_at == 0))
-        self.open = True
+        self.settled = self.picture()
+        self.open = whole = True
         self.waited = 0
         style = rng.random()
         for place in range(1, len(data)):
@@ -337,9 +388,12 @@ class Session:
             else:
                 gap = self.short_gap()
             tape.character(gap, data[place], int(parity_at == place))
+            # After a power-on the rest is a frame of its own.
+            self.open = True
             if style > 0.85 and rng.random() < 0.05:
                 self.interrupt()
-        return self.open
+                whole = whole and self.open
+        return whole
 
     def interrupt(self):
         """Something between two characters."""
@@ -401,6 +455,18 @@ class Session:
             data = bytearray(rng.randbytes(rng.randint(1, 12)))
         return bytes(data)
 
+    def choose_command(self):
+        """A command by the tape's theme, and by what the board is in."""
+        rng = self.rng
+        command = rng.choices(self.commands, self.weights)[0]
+        if self.queued and self.chance(0.06):
+            command = 0x50
+        if command in (0x4A, 0x4B, 0x4C) and not self.fields and self.chance(0.8):
+            command = 0x4D
+        if self.locked and self.chance(0.30):
+            command = rng.choice((0x42, 0x42, 0x43, 0x43, 0x53, 0x53, 0x52, 0x56))
+        return command
+
     def request(self):
         """One request, sent whole or damaged, and what happens around it."""
         rng = self.rng
@@ -408,37 +474,36 @@ class Session:
             self.power_on()
         if self.chance(0.08):
             self.host_event()
-        command = rng.choices(self.commands, self.weights)[0]
-        if self.queued and self.chance(0.06):
-            command = 0x50
-        if command in (0x4A, 0x4B, 0x4C) and not self.fields and self.chance(0.8):
-            command = 0x4D
-        if self.locked and self.chance(0.25):
-            command = rng.choice((0x42, 0x43, 0x53))
+        self.notice_address()
         self.troubled = self.chance(0.06)
+        command = self.choose_command()
         data = self.request_data(command)
         if self.chance(0.015):
             command = rng.choice(UNKNOWN)
         if self.chance(0.015):
             data = rng.choice((data[:-1], data + b"\x55", data + rng.randbytes(3)))
-        address = self.address_byte()
-        bytes_sent = sealed(bytes((address, command)) + data)
-        parity_at, split_at = -1, 0
-        intact = address in (0x40 + self.address, 0xFF)
+        whole = sealed(bytes((self.address_byte(), command)) + data)
         if self.chance(self.damage):
-            intact = False
-            choice = rng.random()
-            if choice < 0.25:
-                parity_at = rng.randrange(len(bytes_sent))
-                if self.chance(0.3):
-                    bytes_sent = bytes_sent[:-1] + rng.randbytes(1)
-            elif choice < 0.40:
-                split_at = rng.randrange(1, len(bytes_sent))
-            else:
-                bytes_sent = self.spoil(bytes_sent)
-        if self.frame(bytes_sent, parity_at, split_at) and intact:
-            self.note_effect(command, data)
+            self.damaged_frame(whole)
+        elif self.frame(whole):
+            self.note_frame(whole)
         self.finish_frame()
+
+    def damaged_frame(self, data):
+        """A frame with a parity fault, in two pieces, or with other bytes."""
+        rng = self.rng
+        choice = rng.random()
+        if choice < 0.25:
+            if self.chance(0.3):
+                data = data[:-1] + rng.randbytes(1)
+            self.frame(data, parity_at=rng.randrange(len(data)))
+        elif choice < 0.40:
+            self.frame(data, split_at=rng.randrange(1, len(data)))
+        else:
+            data = self.spoil(data)
+            if self.frame(data):
+                # Other bytes may be a good frame too.
+                self.note_frame(data)
 
     def long_frame(self, length):
         """A frame of this many bytes, of any command, its checksum mostly right."""
@@ -457,10 +522,12 @@ class Session:
         head = bytes((field, 0, 128, self.codes[status >> 4 & 3]))
         self.send(0x4B, head + self.rng.randbytes(128))
 
-    def send(self, command, data):
-        """A request of the board's own, whole."""
-        if self.frame(sealed(bytes((0x40 + self.address, command)) + data)):
-            self.note_effect(command, data)
+    def send(self, command, data, address=None):
+        """A whole request, to the board unless another address byte is given."""
+        own = 0x40 + self.address
+        whole = sealed(bytes((own if address is None else address, command)) + data)
+        if self.frame(whole):
+            self.note_frame(whole)
         self.finish_frame()
 
     def reuse(self):
@@ -483,11 +550,40 @@ class Session:
         self.send(0x4D, bytes((field, stored, code)))
         self.send(0x4A, bytes((field, 0, size, code)))
 
+    def move(self):
+        """Gives the board a new address, then asks by the old one, the new one, another and all."""
+        rng = self.rng
+        old = self.address
+        self.send(0x55, bytes((0x40 + rng.randrange(32), self.codes[0])))
+        choice = rng.random()
+        if choice < 0.3:
+            self.power_on()
+        elif choice < 0.6:
+            self.send(0x53, b"")
+        asked = [0x40 + old, 0x40 + self.address, 0x40 + rng.randrange(32), BROADCAST]
+        rng.shuffle(asked)
+        for address in asked:
+            command = rng.choice((0x42, 0x46, 0x4E, 0x52, 0x55, 0x56))
+            self.send(command, self.request_data(command), address)
+
+    def move_neighbour(self):
+        """A 55h to another board, and that board's reply, which the whole bus hears."""
+        rng = self.rng
+        other = (self.address + rng.randint(1, 31)) % 32
+        new = rng.choice((self.address, rng.randrange(32), rng.randrange(32)))
+        self.send(0x55, bytes((0x40 + new, self.code(0))), 0x40 + other)
+        self.send(0x55, b"", 0x40 + new)
+
     def step_back(self):
         """The clock stepped back by a tick or a few."""
-        self.tape.tick = (self.tape.tick - self.rng.choice((1, 1, 2, 1000))) % WRAP
+        back = self.rng.choice((1, 1, 2, 1000))
+        self.tape.tick = (self.tape.tick - back) % WRAP
         self.tape.poll(0)
-        self.open = False
+        if back > self.waited:
+            self.open = False
+        else:
+            # Only as far as a poll since the last character.
+            self.waited -= back
 
 
 def choose_plate(rng, small=False):
@@ -508,6 +604,22 @@ def session_tape(rng, weights, damage, requests, small=False, wide=False):
         session.request()
         if session.chance(0.02):
             session.reuse()
+        if session.chance(0.01):
+            session.move()
+    return session.tape.bytes()
+
+
+def bus_tape(rng, damage, requests):
+    """A board that is moved often, on a bus with others."""
+    session = Session(rng, choose_plate(rng), ADDRESS, damage, choose_tick(rng))
+    for _ in range(requests):
+        session.request()
+        if session.chance(0.05):
+            session.move()
+        if session.chance(0.05):
+            session.move_neighbour()
+        if session.chance(0.03):
+            session.power_on()
     return session.tape.bytes()
 
 
@@ -665,6 +777,8 @@ def make_tape(seed, index):
         return session_tape(rng, STATUS, 0.04, rng.randint(60, 200)), False
     if slot < 32:
         return session_tape(rng, STATUS, 0.04, rng.randint(60, 200), wide=True), True
+    if slot < 36:
+        return bus_tape(rng, rng.choice((0.01, 0.04, 0.10)), rng.randint(40, 140)), False
     return session_tape(rng, MIXED, rng.choice((0.01, 0.04, 0.10)), rng.randint(40, 180)), False
 
 

@@ -11,7 +11,8 @@ import sys
 HERE = pathlib.Path(__file__).resolve().parent
 TOOLS = HERE.parent / "tools"
 sys.path.append(str(TOOLS))
-from tape import TextError, answers_to_come, tape_of  # noqa: E402
+from boards import has_boards, stored  # noqa: E402
+from texts import TextError, answers_to_come, tape_of  # noqa: E402
 
 FIRST = "tick reply\n"
 
@@ -125,12 +126,20 @@ tape("parity_of_255", "the frame before it is closed by the poll, not by the bad
 tape("bad_closes_nothing", "a bad record long after the last character closes no frame", plate() + frame(0, "40 4E 0E") + character(100000, 0x40, 2), "bad 39\n")
 
 
-# ---- the sessions: each text of tools/sessions, which names its replies
+# ---- the sessions: each text of tools/sessions, which names its replies; of several boards one tape each, NAME-BOARD
+
+
+def tapes_of(name, session):
+    """The tapes of a session by name, each with the text that must be printed."""
+    if has_boards(session):
+        return {f"{name}-{board}": told for board, told in stored(session).items()}
+    return {name: (tape_of(session), answers_to_come(session))}
+
 
 for path in sorted(TOOLS.glob("sessions/*.txt")):
-    session = path.read_text(encoding="utf-8")
     try:
-        tape(path.stem, "it stands in the text", tape_of(session), answers_to_come(session)[len(FIRST):])
+        for stored_name, (data, text) in tapes_of(path.stem, path.read_text(encoding="utf-8")).items():
+            tape(stored_name, "it stands in the text", data, text[len(FIRST):])
     except TextError as error:
         sys.exit(f"{path.name}: {error}")
 

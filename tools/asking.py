@@ -4,18 +4,24 @@ import re
 from typing import Dict, List, Optional, Union
 
 from bench import REFUSALS, Verdict
-from commands import BROADCAST, BY_NAME, CODES_BY_NAME, COMMANDS, COUNT, DATA, Part
-from records import Plate, xor_of
+from commands import ADDRESS, ADDRESS_BYTES, BROADCAST, BY_NAME, CODES_BY_NAME, COMMANDS, COUNT, DATA, Part
+from records import xor_of
 from written import WrittenError, bytes_of, hex_byte, number_of
 
 NAMED_ASK = re.compile(r"(?:to\s+(\S+)\s+)?([a-z]+(?:-[a-z]+)+)(?:\s+(.*))?")
 VERDICT_WORDS = re.compile(r"(done|error\s+(\S+)|refused\s+B([0-9]))(\s+with\s+warning)?")
 
 
+def address_byte(text: str) -> int:
+    return ADDRESS_BYTES[number_of(text, len(ADDRESS_BYTES), "address")]
+
+
 def argument(part: Part, text: str) -> bytes:
     """One argument of a named ask."""
     if part == DATA:
         return bytes_of(text)
+    if part == ADDRESS:
+        return bytes([address_byte(text)])
     if part.hexadecimal:
         return bytes([hex_byte(text, part.name)])
     return number_of(text, 1 << (8 * part.size), part.name).to_bytes(part.size, "big")
@@ -39,13 +45,16 @@ def arguments_of(parts: List[Part], text: str) -> Dict[Part, bytes]:
     return found
 
 
-def address_byte(plate: Plate, text: Optional[str]) -> int:
-    if text is None:
-        return plate.own_byte()
-    return BROADCAST if text == "all" else 0x40 + number_of(text, 32, "address")
+def asked_byte(own: Optional[int], text: Optional[str]) -> int:
+    """Whom a named ask speaks to: the board of the address byte `own` where it does not say; None where that is not one board."""
+    if text is not None:
+        return BROADCAST if text == "all" else address_byte(text)
+    if own is None:
+        raise WrittenError("several boards are on the line: `ask to ADDRESS ..` or `ask to all ..`")
+    return own
 
 
-def named_request(plate: Plate, address: Optional[str], name: str, text: str) -> bytes:
+def named_request(own: Optional[int], address: Optional[str], name: str, text: str) -> bytes:
     """The request that a named ask says, with its checksum."""
     if name not in BY_NAME:
         raise WrittenError(f"no command has the name {name}; there are {', '.join(BY_NAME)}")
@@ -56,15 +65,15 @@ def named_request(plate: Plate, address: Optional[str], name: str, text: str) ->
     lacking = [part.name for part in parts if part not in found]
     if lacking:
         raise WrittenError(f"{name} wants {', '.join(part.name for part in parts)}; not there: {', '.join(lacking)}")
-    request = bytes([address_byte(plate, address), BY_NAME[name]]) + b"".join(found[part] for part in parts)
+    request = bytes([asked_byte(own, address), BY_NAME[name]]) + b"".join(found[part] for part in parts)
     return request + bytes([xor_of(request)])
 
 
-def asked(plate: Plate, text: str) -> bytes:
+def asked(own: Optional[int], text: str) -> bytes:
     """The frame that an ask says, by name or in bytes, with its checksum."""
     named = NAMED_ASK.fullmatch(text)
     if named:
-        return named_request(plate, named.group(1), named.group(2), named.group(3) or "")
+        return named_request(own, named.group(1), named.group(2), named.group(3) or "")
     try:
         values = bytes_of(text)
     except WrittenError as error:

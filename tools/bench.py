@@ -18,7 +18,7 @@ REFUSALS = (
     "the request is not one the bench writes",
     "reply under 3 bytes",
     "checksum wrong",
-    "address not the asked one",
+    "address not the asked one, or in 55h's reply not the new one",
     "command neither the request's nor 50h",
     "data length not the command's",
     "a number that the reply repeats differs from the request's",

@@ -5,8 +5,10 @@ from typing import Dict, List, NamedTuple, Optional
 READ_STATUS = 0x50
 ERROR = 0x50  # the command byte of every error reply
 RESET = 0x53
+SET_ADDRESS = 0x55
 WARNING = 0x80
 BROADCAST = 0xFF
+ADDRESS_BYTES = range(0x40, 0x60)  # of the addresses 0 to 31
 
 
 class Part(NamedTuple):
@@ -20,6 +22,9 @@ class Part(NamedTuple):
 FIELD, OFFSET, COUNT = Part("field"), Part("offset"), Part("count")
 CODE, STATUS = Part("code", 1, True), Part("status", 1, True)
 POSITION, DATA, NUMBER = Part("position", 4), Part("data", 0), Part("code-number")
+ADDRESS = Part("address")  # people write the number, 0 to 31; the frame has its address byte
+LABEL = [Part("interface", 1, True), Part("encoder-type", 1, True), Part("memory-size"), Part("option-code", 1, True)]
+VERSION = [Part("serial-number", 9), Part("version", 20), Part("date", 8)]
 
 
 class Command(NamedTuple):
@@ -50,7 +55,10 @@ COMMANDS: Dict[int, Command] = {
     0x4E: Command("Memory Status", [], [Part("free-blocks"), Part("fields")]),
     0x4F: Command("Set Access Code", [NUMBER, Part("old-code", 1, True), Part("new-code", 1, True)], [NUMBER]),
     READ_STATUS: Command("Read Encoder Status", [], [Part("waiting", 1, True)]),
+    0x52: Command("Read Type Label", [], LABEL),
     RESET: Command("Encoder Reset", [], None),
+    SET_ADDRESS: Command("Set Encoder Address", [ADDRESS, CODE], []),
+    0x56: Command("Read Version", [], VERSION),
 }
 
 BY_NAME = {command.name(): byte for byte, command in COMMANDS.items()}
@@ -93,6 +101,15 @@ CODES: Dict[int, Code] = {
     0x24: Code("multiturn counter fault"),
 }
 
+# What an argument out of range is, by the request's command.
+WRONG_ARGUMENT = 0x0D
+WRONG_ARGUMENTS = {
+    0x43: "the position is beyond the position bits",
+    0x4A: "the count is 0 or over 128",
+    0x4F: "the code number is over 3",
+    SET_ADDRESS: "the new address byte is not 40h to 5Fh",
+}
+
 LOCKING = (0x22, 0x24)
 CODES_BY_NAME = {hyphened(code.name): byte for byte, code in CODES.items()}
 
@@ -102,9 +119,11 @@ def code_words(byte: int) -> str:
     return f"{byte:02X}h {CODES[byte].name}" if byte in CODES else f"{byte:02X}h, a code without a name"
 
 
-def error_words(byte: int) -> str:
-    """A code that the board answers with: `10h out of memory (the blocks are not there, or the field is not the last)`."""
+def error_words(byte: int, command: Optional[int] = None) -> str:
+    """A code that the board answers a command with: `10h out of memory (the blocks are not there, or the field is not the last)`."""
     answered = CODES[byte].answered if byte in CODES else ""
+    if byte == WRONG_ARGUMENT:
+        answered = WRONG_ARGUMENTS.get(command, answered)
     return code_words(byte) + (f" ({answered})" if answered else "")
 
 

@@ -11,7 +11,9 @@ A file named - is standard input. The time in front of a request is that of its 
 in front of a reply that of the character or poll that closed the request, in ticks of 1/38400 s and
 in milliseconds. Polls that close nothing are left out. Verdicts are those of the proved library.
 
-A session text is what tape.py takes (tape.py --help). Its `expect` lines are held to the replies.
+A session text is what tape.py takes (tape.py --help). Its `expect` lines are held to the replies. In a
+text of several boards each is run by itself and hears the others' replies; boards that talk at once
+are told as a clash.
 
 A log has one frame a line, its time, its direction and its bytes; what follows # is a comment:
 
@@ -22,33 +24,29 @@ A log has one frame a line, its time, its direction and its bytes; what follows 
 Only a request to all boards (FFh) may have several replies.
 
 The last line sums up. Exit status: 0 if all is well; 1 for a bad line, log or tape, a failed
-expectation, a reply that the bench refuses (B1 to B6), that is missing or out of place, and where a
-file or program cannot be used; 2 for a command line that is none of these.
+expectation, a reply that the bench refuses (B1 to B6), that is missing or out of place, a clash, and
+where a file or program cannot be used; 2 for a command line that is none of these.
 """
 
 import os
 import subprocess
 import sys
 from collections import Counter
-from typing import Callable, Dict, List, NamedTuple, Optional, Tuple
+from typing import Callable, Dict, List, Optional, Tuple
 
 import bench
-from asking import Wanted
 from bench import Judge, Verdict
-from commands import WARNING, fault_words
-from frames import Frame, frame_at, frames_of, happenings, silence_due
-from records import Bad, Fault, Measured, Plate, milliseconds, split
-from tape import Expectation, Session, read_session
+from boards import has_boards, read_script
+from bus import explain_bus
+from frames import Frame, address_after, frame_at, frames_of, happenings, silence_due
+from printed import Reply, holds, read_answers
+from records import Bad, Plate, split
+from texts import Expectation, Session, TextError, read_session
 from traffic import explain_log
-from words import Summary, entry, error_code, hex_lines, page_of, reply_words, request_words
+from words import Summary, call_words, entry, error_code, hex_lines, page_of, plate_line, reply_words, request_words
 from written import WrittenError, complain, is_text, put_out, read_file, text_of_bytes
 
 ANSWER = os.path.join("target", "bin", "answer")
-
-
-class Reply(NamedTuple):
-    tick: int
-    values: bytes
 
 
 # --- which reply answers which frame --------------------------------------------------------
@@ -85,12 +83,12 @@ def runs_of(frames: List[Frame]) -> List[List[Frame]]:
     return runs
 
 
-def shared_out(plate: Plate, run: List[Frame], replies: List[Reply], judge: Judge) -> List[int]:
+def shared_out(own: int, run: List[Frame], replies: List[Reply], judge: Judge) -> List[int]:
     """Which of the frames that close at one tick each reply answers: rather one that is to be answered, and rather one that it fits."""
 
     def score(frame: int, reply: int) -> int:
         fits = judge(run[frame].values, replies[reply].values).kind != "refused"
-        return 2 * (not silence_due(plate, run[frame])) + fits
+        return 2 * (not silence_due(own, run[frame])) + fits
 
     return in_order(len(run), len(replies), score)
 
@@ -99,6 +97,7 @@ def matched(plate: Plate, frames: List[Frame], replies: List[Reply], judge: Judg
     """As `paired`, where replies are missing or too many: tick by tick, and a reply at a tick at which no frame closes hides none behind it."""
     found: Dict[int, Reply] = {}
     strays: List[Reply] = []
+    own = plate.own_byte()
     waiting = list(reversed(replies))
     to_close = Counter(frame.closed for frame in frames)
     for run in runs_of(frames):
@@ -107,10 +106,25 @@ def matched(plate: Plate, frames: List[Frame], replies: List[Reply], judge: Judg
         here: List[Reply] = []
         while waiting and waiting[-1].tick == run[0].closed and len(here) < len(run):
             here.append(waiting.pop())
-        for reply, frame in zip(here, shared_out(plate, run, here, judge)):
+        for reply, frame in zip(here, shared_out(own, run, here, judge)):
             found[run[frame].first] = reply
+            own = address_after(own, run[frame].values, reply.values)
         to_close[run[0].closed] -= len(run)
     return found, strays + waiting[::-1]
+
+
+def one_by_one(plate: Plate, frames: List[Frame], replies: List[Reply]) -> Optional[Dict[int, Reply]]:
+    """The next reply to each frame that is to be answered, by the address in force when it closes; None where ticks or numbers differ."""
+    found: Dict[int, Reply] = {}
+    own = plate.own_byte()
+    for frame in frames:
+        if frame.closed is None or silence_due(own, frame):
+            continue
+        if len(found) == len(replies) or replies[len(found)].tick != frame.closed:
+            return None
+        reply = found[frame.first] = replies[len(found)]
+        own = address_after(own, frame.values, reply.values)
+    return found if len(found) == len(replies) else None
 
 
 def paired(plate: Plate, frames: List[Frame], replies: List[Reply], judge: Judge) -> Tuple[Dict[int, Reply], List[Reply]]:
@@ -118,31 +132,18 @@ def paired(plate: Plate, frames: List[Frame], replies: List[Reply], judge: Judge
 
     A board answers each frame that is to be answered, at the tick at which it closes, and no other: then the replies are theirs, one by one.
     """
-    due = [frame for frame in frames if frame.closed is not None and not silence_due(plate, frame)]
-    if [frame.closed for frame in due] == [reply.tick for reply in replies]:
-        return {frame.first: reply for frame, reply in zip(due, replies)}, []
-    return matched(plate, frames, replies, judge)
+    found = one_by_one(plate, frames, replies)
+    return matched(plate, frames, replies, judge) if found is None else (found, [])
 
 
 # --- the page -------------------------------------------------------------------------------
 
 
-def holds(wanted: Wanted, reply: Optional[Reply], verdict: Optional[Verdict]) -> bool:
-    """Whether what came is what was expected."""
-    if wanted is None or reply is None:
-        return wanted is None and reply is None
-    if isinstance(wanted, bytes):
-        return reply.values == wanted
-    if wanted.kind == "error":
-        return error_code(verdict, reply.values) == wanted.number and (reply.values[1] >= WARNING) == wanted.warning
-    return verdict == wanted
-
-
 class Teller:
-    """What tells a tape: its plate, which reply answers which frame, what is expected, the judge, and the sums so far."""
+    """What tells a tape: the address byte in force, which reply answers which frame, what is expected, the judge, and the sums so far."""
 
     def __init__(self, plate: Plate, replies: Dict[int, Reply], expectations: Dict[int, List[Expectation]], judge: Judge):
-        self.plate = plate
+        self.own = plate.own_byte()
         self.replies = replies
         self.expectations = expectations
         self.judge = judge
@@ -162,60 +163,32 @@ class Teller:
         if frame.closed is None:
             self.summary = self.summary.plus(Summary(frames=1))
             return entry(None, "", ["never closed: no reply"])
-        due = silence_due(self.plate, frame)
+        due = silence_due(self.own, frame)
         self.summary = self.summary.plus(Summary(frames=1, silences=1, wrong=int(not due)))
         return entry(frame.closed, "silence", ["" if due else "though a reply was due"])
 
     def reply(self, frame: Frame, reply: Reply, verdict: Verdict) -> List[str]:
         """A frame's reply, with the verdict."""
-        undue = silence_due(self.plate, frame)
+        undue = silence_due(self.own, frame)
         is_error = error_code(verdict, reply.values) is not None
         self.summary = self.summary.plus(Summary(frames=1, replies=1, errors=int(is_error), wrong=int(undue or verdict.is_wrong())))
         lines = hex_lines(reply.values) + reply_words(frame.values, reply.values, verdict)
         return entry(reply.tick, "reply", lines + ["a reply, though silence was due"] * undue)
 
     def frame(self, frame: Frame) -> List[str]:
-        """A frame, what came to it, and whether that was expected."""
-        words = request_words(frame.values, frame.parity, self.plate.own_byte())
+        """A frame, what came to it, and whether that was expected. An accepted 55h gives the address for the frames behind it."""
+        words = request_words(frame.values, frame.parity, self.own)
         page = entry(frame.start, "request", hex_lines(frame.values) + [words])
         reply = self.replies.get(frame.first)
         if reply is None:
             return page + self.silence(frame) + self.expected(frame, None)
         verdict = self.judge(frame.values, reply.values)
-        return page + self.reply(frame, reply, verdict) + self.expected(frame, verdict)
+        page += self.reply(frame, reply, verdict) + self.expected(frame, verdict)
+        self.own = address_after(self.own, frame.values, reply.values)
+        return page
 
     def happening(self, happening: object) -> List[str]:
-        if isinstance(happening, Frame):
-            return self.frame(happening)
-        if isinstance(happening, Measured):
-            return entry(None, "host", [f"measured position {happening.position}"])
-        if isinstance(happening, Fault):
-            return entry(None, "host", [f"notes fault {fault_words(happening.code)}"])
-        return entry(None, "host", ["power-on"])
-
-
-def plate_line(plate: Plate) -> str:
-    return (
-        f"Board of {plate.total} blocks, {plate.bits} position bits, address {plate.address} ({plate.own_byte():02X}h), "
-        f"{plate.ticks} ticks a bit; a gap of {plate.closing_gap()} ticks ({milliseconds(plate.closing_gap())}) closes a frame."
-    )
-
-
-def read_answers(text: str) -> Tuple[List[Reply], Optional[int]]:
-    """The answer program's lines: its replies and the place after `bad`, if it says so."""
-    lines = text.splitlines()
-    if not lines or lines[0] != "tick reply":
-        raise WrittenError("the answers do not start with the line `tick reply`")
-    replies = []
-    for number, line in enumerate(lines[1:], start=2):
-        words = line.split(" ")
-        try:
-            if words[0] == "bad" and len(words) == 2 and number == len(lines):
-                return replies, int(words[1])
-            replies.append(Reply(int(words[0]), bytes.fromhex("".join(words[1:]))))
-        except ValueError:
-            raise WrittenError(f"line {number} of the answers is no reply: {line}") from None
-    return replies, None
+        return self.frame(happening) if isinstance(happening, Frame) else entry(None, "host", [call_words(happening)])
 
 
 def bad_lines(bad: Optional[Bad], told: Optional[int]) -> List[str]:
@@ -289,32 +262,47 @@ def text_in(name: str, data: bytes) -> str:
         raise WrittenError(f"{name}: {error}") from None
 
 
-def session_of(name: str, data: bytes) -> Session:
-    """A file that is a session text or a tape."""
-    return read_session(text_in(name, data)) if is_text(data) else Session(data, [], [], [])
-
-
-def tell_session(name: str, answers: Callable[[bytes], str], judge: Judge) -> int:
-    """Tells a session or tape; of a text with bad lines only these."""
-    session = session_of(name, read_file(name))
-    for error in session.bad:
-        complain(f"explain.py: {name}: {error}")
-    if session.bad:
-        summary = Summary(bad=len(session.bad))
-        put_out((summary.line() + "\n").encode())
-        return summary.status()
-    page, summary = explain_tape(session, answers(session.tape), judge)
+def put_page(page: str, summary: Summary) -> int:
     put_out(page.encode("ascii", "backslashreplace"))
     return summary.status()
+
+
+def tell_bad_lines(name: str, bad: List[TextError]) -> int:
+    """Of a text with bad lines only these are told."""
+    for error in bad:
+        complain(f"explain.py: {name}: {error}")
+    summary = Summary(bad=len(bad))
+    return put_page(summary.line() + "\n", summary)
+
+
+def tell_boards(name: str, text: str, answers: Callable[[bytes], str], judge: Judge) -> int:
+    """Tells a session of several boards, each board's tape run by itself."""
+    script = read_script(text)
+    if script.bad:
+        return tell_bad_lines(name, script.bad)
+    try:
+        return put_page(*explain_bus(script, answers, judge))
+    except TextError as error:
+        return tell_bad_lines(name, [error])
+
+
+def tell_session(name: str, answers: Callable[[bytes], str], judge: Judge, printed_before: bool = False) -> int:
+    """Tells a session or tape. What was printed before is one board's, so that a session of several boards must be run."""
+    data = read_file(name)
+    text = text_in(name, data) if is_text(data) else None
+    if text is not None and has_boards(text):
+        if printed_before:
+            raise WrittenError(f"{name}: a text of several boards; tell each board's tape with its own answers")
+        return tell_boards(name, text, answers, judge)
+    session = Session(data, [], [], []) if text is None else read_session(text)
+    return tell_bad_lines(name, session.bad) if session.bad else put_page(*explain_tape(session, answers(session.tape), judge))
 
 
 def tell_log(name: str, judge: Judge) -> int:
     data = read_file(name)
     if not is_text(data):
         raise WrittenError(f"{name}: a log is text, and this is not")
-    page, summary = explain_log(text_in(name, data), judge)
-    put_out(page.encode("ascii", "backslashreplace"))
-    return summary.status()
+    return put_page(*explain_log(text_in(name, data), judge))
 
 
 def run(arguments: List[str]) -> int:
@@ -332,7 +320,7 @@ def run(arguments: List[str]) -> int:
     if not option and len(names) == 1:
         return tell_session(names[0], lambda tape: answers_of(built_program(), tape), bench.load(library))
     if not option and len(names) == 2:
-        return tell_session(names[0], lambda _: read_file(names[1]).decode("ascii", "replace"), bench.load(library))
+        return tell_session(names[0], lambda _: read_file(names[1]).decode("ascii", "replace"), bench.load(library), printed_before=True)
     complain(__doc__)
     return 2
 

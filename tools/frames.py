@@ -3,7 +3,7 @@
 from bisect import bisect_right
 from typing import Iterator, List, NamedTuple, Optional
 
-from commands import BROADCAST, RESET, layout_fits
+from commands import ADDRESS_BYTES, BROADCAST, RESET, SET_ADDRESS, WARNING, layout_fits
 from records import Character, Plate, Poll, PowerOn, Record, encode, gap, xor_of
 
 SHORTEST = 3
@@ -22,16 +22,30 @@ class Frame(NamedTuple):
     closed_at: Optional[int] = None
 
 
+def is_good(values: bytes, command: int) -> bool:
+    """Whether these are a frame of this command, its checksum right and its data of the command's length."""
+    return len(values) >= SHORTEST and xor_of(values) == 0 and values[1] == command and layout_fits(command, values[2:-1])
+
+
 def is_reset(values: bytes) -> bool:
     """Whether these are a good Encoder Reset, to which no board answers (000, table 29)."""
-    return len(values) >= SHORTEST and xor_of(values) == 0 and values[1] == RESET and layout_fits(RESET, values[2:-1])
+    return is_good(values, RESET)
 
 
-def silence_due(plate: Plate, frame: Frame) -> bool:
-    """Whether the board must keep silent: too short, another's, or a good Encoder Reset (01, step 1; 53h)."""
-    if len(frame.values) < SHORTEST or frame.values[0] not in (plate.own_byte(), BROADCAST):
+def silence_due(own: int, frame: Frame) -> bool:
+    """Whether a board of this address byte must keep silent: too short, another's, or a good Encoder Reset (01, step 1; 53h)."""
+    if len(frame.values) < SHORTEST or frame.values[0] not in (own, BROADCAST):
         return True
     return is_reset(frame.values) and not frame.parity
+
+
+def address_after(own: int, request: bytes, reply: bytes) -> int:
+    """The board's address byte after a request and its reply, if any: an accepted 55h gives the new one, and the reply has it already (000, table 30)."""
+    if not is_good(request, SET_ADDRESS) or request[0] not in (own, BROADCAST):
+        return own
+    new = request[2]
+    accepted = len(reply) == SHORTEST and xor_of(reply) == 0 and reply[0] == new and reply[1] % WARNING == SET_ADDRESS
+    return new if accepted and new in ADDRESS_BYTES else own
 
 
 class Cutter:

@@ -2,6 +2,7 @@
 """Sessions as text that a person writes, made into tapes of the answer program, and tapes told as text.
 
     tape.py write < text > tape
+    tape.py write NAME < text > tape    of a text of several boards the tape of this one
     tape.py read  < tape > text
 
 A text has one event a line; what follows # is a comment. The plate comes first and once:
@@ -9,7 +10,7 @@ A text has one event a line; what follows # is a comment. The plate comes first 
     plate total 112 bits 24 address 0 ticks 4 pause 55
     ask memory-status                 a request by name: frame, checksum and poll in one
     ask read-data field 0 offset 0 count 8 code 55
-    ask to all memory-status          to every board; `to 3` is address 3, left out it is the plate's
+    ask to all memory-status          to every board; `to 3` is address 3, left out it is the plate's, whatever 55h did
     ask 40 4E                         the same in bytes; the checksum is added, unless they end in theirs (404E0E)
     expect reply 40 4E 70 00 sum      what must come to the last ask or frame: these bytes,
     expect silence                    no reply,
@@ -38,29 +39,32 @@ with the reason. `expect` puts nothing on the tape: explain.py holds the replies
 
 A comment `# reply 40 4E 70 00 7E` behind an event names the reply that its first character, or
 the poll, is to bring. Every text of tools/sessions names all of its replies, so or by `expect`.
+
+Several boards on one line, each with a name, have their plates first. All hear every ask, and each
+hears the others' replies. What belongs to one board has its name in front:
+
+    board left: plate total 112 bits 24 address 0 ticks 4 pause 55
+    board right: plate total 8 bits 24 address 1 ticks 4 pause 55
+    ask to 1 memory-status            `to` is needed here; in bytes: ask 41 4E
+    board right: expect reply 41 4E 08 00 sum
+    ask to 2 memory-status
+    expect silence                    of all boards
+    board right: power-on             so too measured and fault
+
+Such a text has plate, ask, expect, measured, fault and power-on, and no others. Its tapes have the
+replies that it names.
 docs/TOOLS.md has the commands' names and arguments, and the codes' names.
 """
 
-import re
 import sys
-from typing import Dict, List, NamedTuple, Optional
+from typing import List
 
-from asking import Wanted, asked, wanted_of
-from bench import Verdict
-from commands import ERROR, WARNING
-from frames import frame_at, frames_of
-from records import TICKS, Character, Fault, Measured, Plate, Poll, PowerOn, Record, decode, encode, gap, hex_of, split, xor_of
-from written import WrittenError, bytes_of, complain, event_and_comment, hex_byte, number_of, put_out, read_file, text_of_bytes
+from boards import has_boards, stored
+from records import Character, Fault, Measured, Plate, Poll, Record, encode, gap, hex_of, split, xor_of  # encode and xor_of: for perf/run.py
+from texts import TextError, tape_of
+from written import WrittenError, complain, put_out, read_file, text_of_bytes
 
 RAW_BYTES_A_LINE = 32
-
-
-class TextError(Exception):
-    """A line of text that says no event."""
-
-    def __init__(self, line: int, message: str):
-        super().__init__(f"line {line}: {message}")
-        self.line = line
 
 
 # --- tape to text --------------------------------------------------------------------------
@@ -124,258 +128,27 @@ def text_of(tape: bytes) -> str:
     return "".join(line + "\n" for line in lines)
 
 
-# --- text to tape --------------------------------------------------------------------------
-
-
-class Expectation(NamedTuple):
-    """What must come to the frame whose last written character stands at a place of the tape."""
-
-    line: int
-    text: str
-    place: int
-    wanted: Wanted
-
-
-NUMBER = r"([0-9]+|0[xX][0-9a-fA-F]+)"
-TIMES = rf"(?:\s+at\s+{NUMBER})?(?:\s+every\s+{NUMBER})?"
-REPLY_WORD = "reply "
-
-
-class Writer:
-    """The tape so far, where on it the line is free, and what is expected."""
-
-    def __init__(self):
-        self.tape = bytearray()
-        self.plate: Optional[Plate] = None
-        self.last_character: Optional[int] = None
-        self.last_poll: Optional[int] = None
-        self.last_place: Optional[int] = None
-        self.expectations: List[Expectation] = []
-        self.line = 0
-
-    def put(self, record: Record):
-        if isinstance(record, Character):
-            self.last_character = record.tick
-            self.last_poll = None
-            self.last_place = len(self.tape)
-        if isinstance(record, Poll):
-            self.last_poll = record.tick
-        if isinstance(record, PowerOn):
-            self.last_character = None
-        self.tape += encode(record)
-
-    def free_tick(self) -> int:
-        """The tick of a frame's first character where the text leaves it out."""
-        if self.last_poll is not None:
-            return (self.last_poll + self.plate.character_ticks()) % TICKS
-        if self.last_character is not None:
-            return (self.last_character + self.plate.closing_gap()) % TICKS
-        return 0
-
-    def put_plate(self, found):
-        if self.plate:
-            raise WrittenError("a second plate")
-        plate = Plate(*(number_of(text, 256, name) for name, text in zip(Plate._fields, found.groups())))
-        if plate.fault():
-            raise WrittenError(f"the plate would be refused: {plate.fault()}")
-        self.plate = plate
-        self.put(plate)
-
-    def put_characters(self, at: Optional[str], every: Optional[str], values: bytes):
-        tick = self.free_tick() if at is None else number_of(at, TICKS, "tick")
-        spacing = self.plate.character_ticks() if every is None else number_of(every, TICKS, "spacing")
-        if not values:
-            raise WrittenError("a frame without bytes")
-        for place, value in enumerate(values):
-            self.put(Character((tick + place * spacing) % TICKS, value, False))
-
-    def put_frame(self, found):
-        at, every, text = found.groups()
-        self.put_characters(at, every, bytes_of(text))
-
-    def put_ask(self, found):
-        at, every, text = found.groups()
-        self.put_characters(at, every, asked(self.plate, text.strip()))
-        self.put(self.closing_poll())
-
-    def put_expect(self, found):
-        if self.last_place is None:
-            raise WrittenError("expect speaks of the last ask or frame, and there is none")
-        self.expectations.append(Expectation(self.line, found.group(1), self.last_place, wanted_of(found.group(1))))
-
-    def put_character(self, found):
-        at, value, parity = found.groups()
-        self.put(Character(number_of(at, TICKS, "tick"), hex_byte(value, "character"), parity is not None))
-
-    def closing_poll(self) -> Poll:
-        return Poll((self.last_character + self.plate.closing_gap()) % TICKS)
-
-    def put_poll(self, found):
-        at = found.group(1)
-        if at is None and self.last_character is None:
-            raise WrittenError("a poll without a tick needs a character before it")
-        self.put(self.closing_poll() if at is None else Poll(number_of(at, TICKS, "tick")))
-
-    def put_measured(self, found):
-        self.put(Measured(number_of(found.group(1), TICKS, "position")))
-
-    def put_fault(self, found):
-        self.put(Fault(hex_byte(found.group(1), "fault")))
-
-    def put_power_on(self, _found):
-        self.put(PowerOn())
-
-    def put_raw(self, found):
-        self.tape += bytes_of(found.group(1))
-
-    def put_line(self, line: str):
-        """One line of text without its comment; WrittenError if it says no event."""
-        word = re.match(r"[a-z-]*", line).group()
-        if word not in LINES:
-            raise WrittenError(f"no event starts like this: {line}")
-        shape, form, put = LINES[word]
-        found = form.fullmatch(line)
-        if not found:
-            raise WrittenError(f"not of the shape `{shape}`: {line}")
-        if self.plate is None and word not in ("plate", "raw"):
-            raise WrittenError("the plate comes first")
-        put(self, found)
-
-
-# Each word that starts a line: how such a line looks, to a person and to us, and what it does.
-LINES = {
-    "plate": (
-        "plate total T bits P address A ticks N pause N",
-        re.compile(r"plate\s+" + r"\s+".join(f"{name}\\s+{NUMBER}" for name in Plate._fields)),
-        Writer.put_plate,
-    ),
-    "ask": (
-        "ask [at TICK] [every TICKS] [to ADDRESS] NAME [ARGUMENT VALUE].. or ask BYTES",
-        re.compile(rf"ask{TIMES}(?:\s*:\s*|\s+)(.+)"),
-        Writer.put_ask,
-    ),
-    "expect": ("expect reply BYTES, silence, done, error CODE or refused B0", re.compile(r"expect\s+(.+)"), Writer.put_expect),
-    "frame": ("frame [at TICK] [every TICKS]: BYTES", re.compile(rf"frame{TIMES}\s*:\s*(.*)"), Writer.put_frame),
-    "character": (
-        "character at TICK: BYTE [parity]",
-        re.compile(rf"character\s+at\s+{NUMBER}\s*:\s*((?:0[xX])?[0-9a-fA-F]{{2}}[hH]?)(\s+parity)?"),
-        Writer.put_character,
-    ),
-    "poll": ("poll [TICK]", re.compile(rf"poll(?:\s+{NUMBER})?"), Writer.put_poll),
-    "measured": ("measured NUMBER", re.compile(rf"measured\s+{NUMBER}"), Writer.put_measured),
-    "fault": ("fault BYTE", re.compile(r"fault\s+((?:0[xX])?[0-9a-fA-F]{2}[hH]?)"), Writer.put_fault),
-    "power-on": ("power-on", re.compile(r"power-on"), Writer.put_power_on),
-    "raw": ("raw: BYTES", re.compile(r"raw\s*:\s*(.*)"), Writer.put_raw),
-}
-
-
-# --- a whole session ------------------------------------------------------------------------
-
-
-class NamedReply(NamedTuple):
-    """A reply that a comment names, and the place of the record that is to bring it."""
-
-    line: int
-    place: int
-    values: bytes
-
-
-class Session(NamedTuple):
-    """A text read: its tape, what it expects, the replies its comments name, and its bad lines."""
-
-    tape: bytes
-    expectations: List[Expectation]
-    replies: List[NamedReply]
-    bad: List[TextError]
-
-
-def named_reply(writer: Writer, start: int, event: str, comment: str) -> NamedReply:
-    """The reply that a comment names: brought by the event's first character, by its poll, or by the poll of an ask."""
-    record, _, _ = decode(writer.tape, start)
-    if not isinstance(record, (Character, Poll)):
-        raise WrittenError("only a character or a poll brings a reply")
-    place = len(writer.tape) - len(encode(Poll(0))) if event.startswith("ask") else start
-    return NamedReply(writer.line, place, bytes_of(comment[len(REPLY_WORD) :]))
-
-
-def read_session(text: str) -> Session:
-    """The whole text. A bad line is told and left out; a bad plate ends it."""
-    writer = Writer()
-    replies: List[NamedReply] = []
-    bad: List[TextError] = []
-    for number, line in enumerate(text.splitlines(), start=1):
-        event, comment = event_and_comment(line)
-        if not event:
-            continue
-        writer.line, start = number, len(writer.tape)
-        try:
-            writer.put_line(event)
-            if comment.startswith(REPLY_WORD):
-                replies.append(named_reply(writer, start, event, comment))
-        except WrittenError as error:
-            bad.append(TextError(number, str(error)))
-            if writer.plate is None:
-                break
-    return Session(bytes(writer.tape), writer.expectations, replies, bad)
-
-
-def good_session(text: str) -> Session:
-    """The whole text, or the TextError of its first bad line."""
-    session = read_session(text)
-    if session.bad:
-        raise session.bad[0]
-    return session
-
-
-def tape_of(text: str) -> bytes:
-    """The tape that a text says."""
-    return good_session(text).tape
-
-
-def expected_bytes(plate: Plate, wanted: Wanted) -> Optional[bytes]:
-    """The reply that an expectation comes to, no bytes for silence; None where it leaves bytes open."""
-    if not isinstance(wanted, Verdict):
-        return wanted or b""
-    if wanted.kind != "error":
-        return None
-    reply = bytes([plate.own_byte(), ERROR + WARNING * wanted.warning, wanted.number])
-    return reply + bytes([xor_of(reply)])
-
-
-def replies_to_come(session: Session) -> Dict[int, bytes]:
-    """Each reply that a text names, by comment or by expect, at the place of the record that is to bring it; no bytes for silence."""
-    records, _ = split(session.tape)
-    frames = frames_of(records)
-    replies = {reply.place: reply.values for reply in session.replies}
-    expected = [(expected_bytes(records[0], expectation.wanted), expectation) for expectation in session.expectations]
-    for values, expectation in sorted(expected, key=lambda pair: pair[0] is None):
-        frame = frame_at(frames, expectation.place)
-        if frame is None or frame.closed_at is None:
-            raise TextError(expectation.line, "nothing closes the frame that this speaks of")
-        if values is None and frame.closed_at not in replies:
-            raise TextError(expectation.line, "no bytes are named for this reply: a stored session needs `expect reply`")
-        if values is not None and replies.setdefault(frame.closed_at, values) != values:
-            raise TextError(expectation.line, f"another reply is named already: {hex_of(replies[frame.closed_at]) or 'silence'}")
-    return replies
-
-
-def answers_to_come(text: str) -> str:
-    """What an answer program is to print of a text that names every reply (01, "The answer program")."""
-    session = good_session(text)
-    replies = replies_to_come(session)
-    ticks = {place: decode(session.tape, place)[0].tick for place in replies}
-    return "tick reply\n" + "".join(f"{ticks[place]} {hex_of(replies[place])}\n" for place in sorted(replies) if replies[place])
-
-
 # --- the command line -----------------------------------------------------------------------
+
+
+def written(text: str, board: str) -> bytes:
+    """The tape that a text says; of a text of several boards that of the board."""
+    if not has_boards(text):
+        if board:
+            raise WrittenError(f"a text of one board, which has no name: {board}")
+        return tape_of(text)
+    tapes = stored(text)
+    if board not in tapes:
+        raise WrittenError(f"whose tape? `tape.py write NAME`; there are {', '.join(tapes)}")
+    return tapes[board][0]
 
 
 def run(arguments: List[str]) -> int:
     if arguments == ["read"]:
         put_out(text_of(read_file("-")).encode())
         return 0
-    if arguments == ["write"]:
-        put_out(tape_of(text_of_bytes(read_file("-"))))
+    if arguments[:1] == ["write"] and len(arguments) < 3:
+        put_out(written(text_of_bytes(read_file("-")), "".join(arguments[1:])))
         return 0
     if arguments in (["help"], ["-h"], ["--help"]):
         put_out(__doc__.encode())

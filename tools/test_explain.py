@@ -10,9 +10,11 @@ import bench
 import commands
 import explain
 import frames
-import tape
+import records
+import texts
 import traffic
 import words
+from printed import read_answers
 from test_tape import PLATE_LINE, ROOT, SESSIONS, SHEET_TAPE, put, run_tool, session
 
 HEADER = os.path.join(ROOT, "host", "quicksetter.h")
@@ -24,7 +26,7 @@ JUDGE = bench.load()
 
 def sealed(text):
     values = bytes.fromhex(text)
-    return values + bytes([tape.xor_of(values)])
+    return values + bytes([records.xor_of(values)])
 
 
 READ = sealed("40 4A 01 05 02 55")
@@ -63,11 +65,38 @@ JUDGED = (
     (sealed("40 4C 01"), sealed("40 4C 02 E0"), "refused B6"),
     (sealed("40 4D 01 E0 55"), sealed("40 4D 01 E1"), "refused B6"),
     (sealed("40 4F 02 55 66"), sealed("40 4F 03"), "refused B6"),
+    (sealed("40 52"), sealed("40 52 E4 FF 80 00"), "done"),
+    (sealed("40 52"), sealed("40 52 E4 FF 80"), "refused B5"),
+    (sealed("40 52 00"), sealed("40 52 E4 FF 80 00"), "refused B0"),
+    (sealed("40 56"), sealed("40 D6" + "00" * 37), "done with warning"),
+    (sealed("40 56"), sealed("40 56" + "00" * 36), "refused B5"),
+)
+
+# The reply to 55h carries the new address byte, an error reply the asked one.
+SET_TO_5 = sealed("40 55 45 55")
+JUDGED_55H = (
+    (SET_TO_5, sealed("45 55"), "done"),
+    (SET_TO_5, sealed("45 D5"), "done with warning"),
+    (SET_TO_5, sealed("40 55"), "refused B3"),
+    (SET_TO_5, sealed("46 D5"), "refused B3"),
+    (SET_TO_5, sealed("45 55 00"), "refused B5"),
+    (SET_TO_5, sealed("40 50 0F"), "error 0Fh"),
+    (SET_TO_5, sealed("45 50 0F"), "refused B3"),
+    (SET_TO_5, sealed("45 4E 70 00"), "refused B3"),
+    (SET_TO_5, sealed("40 4E 70 00"), "refused B4"),
+    (sealed("40 55 40 55"), sealed("40 55"), "done"),
+    (sealed("40 55 60 55"), sealed("60 55"), "refused B3"),
+    (sealed("40 55 60 55"), sealed("40 50 0D"), "error 0Dh"),
+    (sealed("FF 55 45 55"), sealed("45 55"), "done"),
+    (sealed("FF 55 45 55"), sealed("46 55"), "refused B3"),
+    (sealed("FF 55 45 55"), sealed("5F D0 0D"), "error 0Dh with warning"),
+    (sealed("FF 55 FF 55"), sealed("FF 55"), "refused B3"),
+    (sealed("40 55 45"), sealed("45 55"), "refused B0"),
 )
 
 
 def test_judge():
-    for request, reply, verdict in JUDGED:
+    for request, reply, verdict in JUDGED + JUDGED_55H:
         assert JUDGE(request, reply).words() == verdict, (request.hex(), reply.hex(), JUDGE(request, reply))
 
 
@@ -108,7 +137,7 @@ def test_verdicts_come_from_the_library():
 
 
 def told(lines, answers):
-    return explain.explain_tape(tape.good_session(PLATE_LINE + lines), "tick reply\n" + answers, JUDGE)
+    return explain.explain_tape(texts.good_session(PLATE_LINE + lines), "tick reply\n" + answers, JUDGE)
 
 
 def explained(lines, answers):
@@ -121,11 +150,11 @@ def summed(lines, answers):
 
 def replies_by_frame(lines, answers):
     """Each frame's second byte, with the reply that it is given."""
-    records, _ = tape.split(tape.tape_of(PLATE_LINE + lines))
-    replies, _ = explain.read_answers("tick reply\n" + answers)
-    cut = frames.frames_of(records)
-    pairs, strays = explain.paired(records[0], cut, replies, JUDGE)
-    found = [(frame.values[1], tape.hex_of(pairs[frame.first].values)) for frame in cut if frame.first in pairs]
+    written_down, _ = records.split(texts.tape_of(PLATE_LINE + lines))
+    replies, _ = read_answers("tick reply\n" + answers)
+    cut = frames.frames_of(written_down)
+    pairs, strays = explain.paired(written_down[0], cut, replies, JUDGE)
+    found = [(frame.values[1], records.hex_of(pairs[frame.first].values)) for frame in cut if frame.first in pairs]
     return found, [reply.tick for reply in strays]
 
 
@@ -174,6 +203,53 @@ def test_stray_replies_hide_no_others():
     assert summed(two, right.format("500 40 40\n"))[:6] == (2, 3, 0, 0, 1, 0)
 
 
+def test_the_address_in_force_decides():
+    """An accepted 55h gives the address by which the frames that close later are paired, also one that its closing character opened."""
+    moved, status = "396 45 55 10\n", "{} 45 4E 08 00 03\n"
+    text = "ask 40 55 45 55\nask 40 4E\nask 45 4E\n"
+    pairs = [(0x55, "45 55 10"), (0x4E, "45 4E 08 00 03")]
+    assert replies_by_frame(text, moved + status.format(1100)) == (pairs, [])
+    assert summed(text, moved + status.format(1100)) == words.Summary(frames=3, replies=2, silences=1)
+    assert summed(text, "396 40 50 0F 1F\n748 40 4E 08 00 06\n") == words.Summary(frames=3, replies=2, errors=1, silences=1)
+    # The same where a reply is lacking or too many, so that ticks alone do not tell.
+    assert replies_by_frame(text + "ask 45 46\n", moved + status.format(1100)) == (pairs, [])
+    assert replies_by_frame(text, moved + "500 40 40\n" + status.format(1100)) == (pairs, [500])
+    assert summed(text + "ask 45 46\n", moved + status.format(1100))[:5] == (4, 2, 0, 2, 1)
+    assert summed(text, moved + "748 40 4E 08 00 06\n")[:5] == (3, 2, 0, 1, 2)
+    opened = "frame at 0: 40 55 45 55 05\nframe at 396: {}\npoll\n"
+    assert summed(opened.format("45 4E sum"), moved + status.format(704)) == words.Summary(frames=2, replies=2)
+    assert summed(opened.format("40 4E sum"), moved) == words.Summary(frames=2, replies=1, silences=1)
+
+
+def test_the_address_in_force_at_one_tick():
+    """Two unknown commands close at one tick: the one to the new address has the reply, whether the 55h closed there too or before."""
+    at_once = "frame at {0} every 4: 40 44 04\nframe at {0} every 4: 45 44 01\npoll {0}\n"
+    pairs = [(0x55, "45 55 10"), (0x44, "45 50 0B 1E")]
+    together = "frame at 0: 40 55 45 55 05\n" + at_once.format(396)
+    assert replies_by_frame(together, "396 45 55 10\n396 45 50 0B 1E\n") == (pairs, [])
+    assert summed(together, "396 45 55 10\n396 45 50 0B 1E\n") == words.Summary(frames=3, replies=2, errors=1, silences=1)
+    before = "ask 40 55 45 55\n" + at_once.format(1000)
+    for stray, left in (("", []), ("500 40 40\n", [500])):
+        assert replies_by_frame(before, "396 45 55 10\n" + stray + "1000 45 50 0B 1E\n") == (pairs, left)
+        assert summed(before, "396 45 55 10\n" + stray + "1000 45 50 0B 1E\n")[:5] == (3, 2 + len(left), 1, 1, len(left))
+
+
+def test_what_changes_no_address():
+    """A 55h that is refused, not answered, another's, or answered with another address than the new one."""
+    for request, answer in (
+        ("40 55 45 54", "396 40 50 0F 1F\n"),
+        ("40 55 60 55", "396 40 50 0D 1D\n"),
+        ("40 55 60 55", "396 60 55 35\n"),
+        ("40 55 45 55", ""),
+        ("40 55 45 55", "396 40 55 15\n"),
+        ("41 55 45 55", "396 45 55 10\n"),
+    ):
+        page = explained(f"ask {request}\nask 45 4E\n", answer)
+        assert page.count("for address byte 45h, not ours (40h)\n") == 1, (request, page)
+    assert "for address byte 45h" not in explained("ask FF 55 45 55\nask 45 4E\n", "396 45 D5 90\n748 45 CE 08 00 83\n")
+    assert "not ours (45h)\n" in explained("ask 40 55 45 55\nask 40 53\npower-on\nask at 5000 40 4E\n", "396 45 55 10\n")
+
+
 def test_in_order_is_the_best_choice():
     dice = random.Random(2)
     for _ in range(300):
@@ -196,12 +272,12 @@ def subsets(count):
 def test_sessions_are_explained():
     for name in SESSIONS:
         text = session(name)
-        answers = tape.answers_to_come(text)
-        page, summary = explain.explain_tape(tape.good_session(text), answers, JUDGE)
+        answers = texts.answers_to_come(text)
+        page, summary = explain.explain_tape(texts.good_session(text), answers, JUDGE)
         assert summary.status() == 0 and "though" not in page and "to no frame" not in page, name
         assert page.count("bench: ") == answers.count("\n") - 1 == summary.replies, name
     text = session("pallet-night")
-    page, _ = explain.explain_tape(tape.good_session(text), tape.answers_to_come(text), JUDGE)
+    page, _ = explain.explain_tape(texts.good_session(text), texts.answers_to_come(text), JUDGE)
     assert "bench: error 10h\n" in page and "bench: refused" not in page
     assert "4Dh Create Data Field: create or modify: field 0, status C1h (exists, write-enabled, no code wanted, code number 0, 2 blocks), code 55h\n" in page
     assert '\n                                    field 0, offset 0, count 16, data 4C 4F 54' in page and '"LOT 0417 MOTOR 9"\n' in page
@@ -260,6 +336,40 @@ def test_faulty_frames():
     assert "136 bytes, longer than 135\n" in explained("frame at 0 every 1: " + "40 40 " * 68 + "\npoll\n", "")
 
 
+def test_address_and_label_commands():
+    """55h's new address and why it is refused; the four label bytes and the three texts taken apart."""
+    for lines, answer, line in (
+        ("ask 40 55 45 55\n", "396 45 55 10", "55h Set Encoder Address: new address 5 (45h), code 55h"),
+        ("ask 40 55 45 55\n", "396 45 55 10", "the board has address 5 (45h) from here on"),
+        ("ask 40 55 60 55\n", "396 40 50 0D 1D", "55h Set Encoder Address: new address byte 60h, which is not 40h to 5Fh, code 55h"),
+        ("ask 40 55 60 55\n", "396 40 50 0D 1D", "error 0Dh wrong argument (the new address byte is not 40h to 5Fh)"),
+        ("ask 40 4F 04 55 55\n", "440 40 50 0D 1D", "error 0Dh wrong argument (the code number is over 3)"),
+        ("ask 40 55 45 54\n", "396 40 50 0F 1F", "error 0Fh wrong access code (not the code that is wanted)"),
+        ("ask 40 55 45\n", "352 40 50 0C 1C", "55h Set Encoder Address: 1 bytes of data are not its length"),
+        ("ask 40 52\n", "308 40 52 E4 FF 80 00 89", "52h Read Type Label"),
+        ("ask 40 52\n", "308 40 52 E4 FF 80 00 89", f"{INTERFACE}, encoder type FFh (there is an extended type label), {MEMORY}, option code 00h"),
+        ("ask 40 52\n", "308 40 52 00 27 00 01 34", f"{FIRST_INTERFACE}, encoder type 27h, memory size 0 blocks (0 bytes), option code 01h"),
+        ("ask 40 56\n", f"308 {records.hex_of(VERSION)}", 'serial number "0417-0009", version "QS 0.3" 00*14, date "16.11.24"'),
+        ("ask 40 56\n", f"308 {records.hex_of(sealed('40 56' + '00' * 37))}", "serial number 00*9, version 00*20, date 00*8"),
+    ):
+        page, summary = told(lines, answer + "\n")
+        assert f"{line}\n" in page and summary.status() == 0, (line, page)
+
+
+INTERFACE = "interface E4h (9600 baud, 8 data bits, even parity, timeout 55 bit times, standard slave)"
+FIRST_INTERFACE = "interface 00h (600 baud, 8 data bits, no parity, timeout 22 bit times, bus slave)"
+MEMORY = "memory size 128 blocks (2048 bytes)"
+VERSION = sealed("40 56" + (b"0417-0009" + b"QS 0.3".ljust(20, b"\x00") + b"16.11.24").hex())
+
+
+def test_label_bytes_without_a_meaning():
+    meaningless = "a data rate without a meaning, 8 data bits, a parity without a meaning"
+    assert words.interface_words(0x17) == f"interface 17h ({meaningless}, timeout 22 bit times, bus slave)"
+    assert "odd parity" in words.interface_words(0x30) and "38400 baud" in words.interface_words(0x06)
+    for text, told_so in ((b"A\x00B", "41 00 42"), (b'A"B', "41 22 42"), (b"\xff\x00", "FF 00*1"), (b" ~", '" ~"'), (b"", "")):
+        assert words.text_words(text) == told_so, text
+
+
 def test_error_codes_are_the_documents():
     with open(HEADER, encoding="utf-8") as file:
         answered = {int(code, 16) for code in re.findall(r"#define QS_ERROR_\w+ 0x(\w\w)", file.read())}
@@ -268,7 +378,7 @@ def test_error_codes_are_the_documents():
 
 
 def test_bad_tape_is_told():
-    bad_tape = tape.Session(tape.tape_of(PLATE_LINE) + b"\x05", [], [], [])
+    bad_tape = texts.Session(texts.tape_of(PLATE_LINE) + b"\x05", [], [], [])
     cases = (
         ("tick reply\nbad 9\n", "The tape is bad at place 9: a lone last byte.\n\n"),
         ("tick reply\n", "The answer program does not say so.\n\n"),
@@ -277,16 +387,16 @@ def test_bad_tape_is_told():
     for answers, line in cases:
         page, summary = explain.explain_tape(bad_tape, answers, JUDGE)
         assert line in page and summary.bad == 1 and summary.status() == 1
-    good = explain.explain_tape(tape.good_session(PLATE_LINE), "tick reply\nbad 8\n", JUDGE)
+    good = explain.explain_tape(texts.good_session(PLATE_LINE), "tick reply\nbad 8\n", JUDGE)
     assert "The answer program calls it bad at place 8.\n" in good[0] and good[1].status() == 1
-    empty = explain.explain_tape(tape.good_session(""), "tick reply\n", JUDGE)
+    empty = explain.explain_tape(texts.good_session(""), "tick reply\n", JUDGE)
     assert empty == (words.Summary().line() + "\n", words.Summary()) and empty[1].status() == 0
 
 
 def test_documents_tell_what_is():
     """README's part of the demo is the page's, and docs/TOOLS.md has every command, and every code that the board answers with, by name."""
     text = session("pallet-night")
-    page, _ = explain.explain_tape(tape.good_session(text), tape.answers_to_come(text), JUDGE)
+    page, _ = explain.explain_tape(texts.good_session(text), texts.answers_to_come(text), JUDGE)
     with open(os.path.join(ROOT, "README.md"), encoding="utf-8") as file:
         shown = file.read().partition("A part of what it tells:\n\n")[2].partition("A session is text")[0]
     assert shown.count("\n") > 10 and shown.replace("\n    ", "\n")[4:].strip("\n") in page, shown
@@ -307,6 +417,10 @@ EXPECTED = (
     ("ask 40 4E", "308 40 D0 03 93", ("error 03h with warning", "reply 40D00393"), ("error 03", "done with warning")),
     ("ask 40 44", "308 40 50 0B 1B", ("error unknown-command", "refused B0"), ("error 0A", "done", "refused B1")),
     ("ask 40 50", "308 40 50 08 18", ("done", "reply 40 50 08 sum"), ("error 08", "silence")),
+    ("ask 40 55 45 55", "396 45 55 10", ("done", "reply 45 55 sum"), ("done with warning", "error 0D", "refused B3", "silence")),
+    ("ask 40 55 45 55", "396 40 55 15", ("refused B3", "reply 40 55 15"), ("done", "error 55")),
+    ("ask 40 55 60 55", "396 40 50 0D 1D", ("error wrong-argument",), ("done", "error 0F", "refused B3")),
+    ("ask read-type-label", "308 40 52 00 00 00 00 12", ("done", "reply 40 52 00*4 12"), ("error 0B", "refused B0", "silence")),
     ("ask to 1 memory-status", "", ("silence",), ("done", "reply 41", "error 01", "refused B1")),
     ("ask to all memory-status", "308 FF 4E 08 00 B9", ("refused B3",), ("done", "refused B0")),
     ("frame: 40 4E 0E\npoll", "308 40 4E 08 00 06", ("done",), ("silence",)),
@@ -338,13 +452,13 @@ def test_each_stored_expectation_is_checked():
     turned = 0
     for name in SESSIONS:
         lines = session(name).splitlines()
-        answers = tape.answers_to_come(session(name))
+        answers = texts.answers_to_come(session(name))
         for number, line in enumerate(lines):
             if not line.startswith("expect "):
                 continue
             wrong = "expect done" if line == "expect silence" else "expect silence"
             text = "\n".join(lines[:number] + [wrong] + lines[number + 1 :])
-            _, summary = explain.explain_tape(tape.good_session(text), answers, JUDGE)
+            _, summary = explain.explain_tape(texts.good_session(text), answers, JUDGE)
             assert (summary.failed, summary.status()) == (1, 1), (name, line)
             turned += 1
     assert turned > 40
@@ -388,6 +502,8 @@ def test_logs_that_are_not_well():
         ("0 > 40 4E 0E\n1 < 41 4E 70 00 7F\n", "bench: refused B3, address not the asked one", words.Summary(frames=1, replies=1, wrong=1)),
         ("0 > FF 4E B1\n1 < FF 4E 70 00 C1\n", "bench: refused B3, address not the asked one", words.Summary(frames=1, replies=1, wrong=1)),
         ("0 > 40 4E 0E\n1 > 40 46 06\n2 < 40 4E 70 00 7E\n", "bench: refused B4", words.Summary(frames=2, replies=1, silences=1, wrong=1)),
+        ("0 > 40 55 45 55 05\n1 < 40 55 15\n", "bench: refused B3, address not the asked one, or", words.Summary(frames=1, replies=1, wrong=1)),
+        ("0 > FF 55 45 55 BA\n1 < 46 55 13\n", "bench: refused B3, address not the asked one, or", words.Summary(frames=1, replies=1, wrong=1)),
         ("1 < 40 4E 70 00 7E\n", "to no request", words.Summary(replies=1, wrong=1)),
         ("0 > 40 50 10\n1 < 40 50 00 10\n2 < 40 50 00 10\n", "to no request", words.Summary(frames=1, replies=2, wrong=1)),
         ("", "No line of this log has a frame.", words.Summary(bad=1)),
@@ -402,4 +518,16 @@ def test_logs_that_are_not_well():
         page, summary = traffic.explain_log(text, JUDGE)
         assert line in page and summary == summed_up and summary.status() == 1, (text, page)
     assert "silence   no reply is logged\n" in traffic.explain_log("0 > 40 53 14\n", JUDGE)[0]
+
+
+def test_log_of_a_new_address():
+    """A log does not say which boards are there, so each reply is held to its request alone."""
+    log = "0 > 41 55 45 55 04\n12 < 45 55 10\n20 > 41 4E 0F\n30 > 45 52 17\n40 < 45 52 E4 FF 80 00 8C\n50 > 45 55 60 55 25\n60 < 45 50 0D 18\n"
+    page, summary = traffic.explain_log(log, JUDGE)
+    assert summary == words.Summary(frames=4, replies=3, errors=1, silences=1) and summary.status() == 0
+    assert "new address 5 (45h), code 55h\n" in page and "the board has address 5 (45h) from here on\n" in page
+    assert f"{INTERFACE}, " in page and "(the new address byte is not 40h to 5Fh)\n" in page
+
+
+def test_times_of_a_log():
     assert "the time goes back\n" in traffic.explain_log("5 > 40 4E 0E\n4 < 40 4E 70 00 7E\n", JUDGE)[0]

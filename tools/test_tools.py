@@ -1,5 +1,5 @@
 #!/usr/bin/env python3
-"""Tests of the tools: those of test_tape.py and test_explain.py, and here the command line, bad files and the answer program.
+"""Tests of the tools: those of test_tape.py, test_explain.py and test_boards.py, and here the command line, bad files and the answer program.
 
     test_tools.py             the tools alone, with the judge of target/libquicksetter.so
     test_tools.py PROGRAM     also the sessions, run through this answer program
@@ -12,15 +12,20 @@ import sys
 import tempfile
 
 import bench
+import boards
+import bus
 import explain
 import tape
+import test_boards
 import test_explain
 import test_tape
+import texts
 import traffic
 import words
 import written
+from test_boards import PLATES
 from test_explain import BACK_AT_308, JUDGE, LOG
-from test_tape import ASKED, HERE, PLATE_LINE, SESSIONS, SHEET_TAPE, SHEET_TEXT, path_of, put, run_tool, session
+from test_tape import ASKED, BUSES, HERE, PLATE_LINE, SESSIONS, SHEET_TAPE, SHEET_TEXT, path_of, put, run_tool, session
 
 
 def test_command_line():
@@ -34,9 +39,27 @@ def test_command_line():
     assert b"12.4 ms < 40 4E 70 00 7E" in run_tool("explain.py", ["-h"], b"")[1]
     for arguments in ([], ["one", "two", "three"], ["--log"], ["--run", "one"], ["--library"], ["--other", "one"]):
         assert run_tool("explain.py", arguments, b"")[::2] == (2, explain.__doc__.encode() + b"\n"), arguments
-    assert run_tool("tape.py", [], b"")[0] == 2 and run_tool("tape.py", ["write", "more"], b"")[0] == 2
+    assert run_tool("tape.py", [], b"")[0] == 2 and run_tool("tape.py", ["write", "a", "b"], b"")[0] == 2
     status, _, said = run_tool("explain.py", ["-", os.devnull], SHEET_TAPE)
     assert (status, said) == (1, b"explain.py: the answers do not start with the line `tick reply`\n")
+
+
+def test_command_line_of_several_boards():
+    text = session("two-boards").encode()
+    tapes = boards.stored(session("two-boards"))
+    assert run_tool("tape.py", ["write", "b"], text) == (0, tapes["b"][0], b"")
+    for arguments in (["write"], ["write", "c"]):
+        assert run_tool("tape.py", arguments, text) == (1, b"", b"tape.py: whose tape? `tape.py write NAME`; there are a, b\n")
+    assert run_tool("tape.py", ["write", "a"], SHEET_TEXT.encode()) == (1, b"", b"tape.py: a text of one board, which has no name: a\n")
+    status, tape_of_a, said = run_tool("tape.py", ["write", "a"], PLATES.encode() + b"poll\n")
+    assert (status, tape_of_a) == (1, b"") and said.startswith(b"tape.py: line 3: poll is for a text of one board")
+    with tempfile.TemporaryDirectory() as folder:
+        tape_file, answers = put(folder, "b.tape", tapes["b"][0]), put(folder, "b.out", tapes["b"][1].encode())
+        assert run_tool("explain.py", [tape_file, answers], b"")[0] == 0
+        status, page, said = run_tool("explain.py", ["-", answers], text)
+        assert (status, page, said) == (1, b"", b"explain.py: -: a text of several boards; tell each board's tape with its own answers\n")
+        status, page, said = run_tool("explain.py", ["--run", "/bin/cat", "-"], PLATES.encode() + b"poll\npower-on\n")
+        assert status == 1 and b" 2 bad lines," in page and said.count(b"\n") == 2
 
 
 def test_exit_status():
@@ -49,8 +72,8 @@ def test_exit_status():
             (ask + b"expect done\n", 0, b"0 failed expectations"),
             (ask + b"expect silence\n", 1, b"1 failed expectation\n"),
             (ask + b"oops\nexpect\n", 1, b"summary: 0 frames, 0 replies, 0 errors, 0 silences, 0 wrong or missing replies, 2 bad lines"),
-            (tape.tape_of(PLATE_LINE + "ask memory-status\n"), 0, b"summary: 1 frame, 1 reply,"),
-            (tape.tape_of(PLATE_LINE + "ask memory-status\n") + b"\x05", 1, b"1 bad line,"),
+            (texts.tape_of(PLATE_LINE + "ask memory-status\n"), 0, b"summary: 1 frame, 1 reply,"),
+            (texts.tape_of(PLATE_LINE + "ask memory-status\n") + b"\x05", 1, b"1 bad line,"),
             (ask + b"ask memory-status\n", 1, b"1 wrong or missing reply,"),
         ):
             found, page, _ = run_tool("explain.py", ["-", answered], given)
@@ -164,8 +187,15 @@ def test_scrambled_texts():
     dice = random.Random(4)
     lines = [line for name in SESSIONS for line in session(name).splitlines()] + [f"ask {named}" for named, _ in ASKED]
     logs = LOG.splitlines()
+    shared = [line for name in BUSES for line in session(name).splitlines()]
+    for _ in range(500):
+        script = boards.read_script(PLATES + scrambled(dice, shared))
+        try:
+            bus.explain_bus(script, lambda _: "tick reply\n308 40 4E 08 00 06\n", JUDGE)
+        except texts.TextError:
+            continue
     for _ in range(1500):
-        found = tape.read_session(PLATE_LINE + scrambled(dice, lines))
+        found = texts.read_session(PLATE_LINE + scrambled(dice, lines))
         explain.explain_tape(found, "tick reply\n", JUDGE)
         traffic.explain_log(scrambled(dice, logs), JUDGE)
         try:
@@ -177,13 +207,21 @@ def test_scrambled_texts():
 def test_program(program):
     for name in SESSIONS:
         text = session(name)
-        answers = explain.answers_of(program, tape.tape_of(text))
-        assert answers == tape.answers_to_come(text), f"{name}: {answers}"
+        answers = explain.answers_of(program, texts.tape_of(text))
+        assert answers == texts.answers_to_come(text), f"{name}: {answers}"
         status, page, said = run_tool("explain.py", ["--run", program, path_of(name)], b"")
         assert (status, said) == (0, b"") and b"FAILED" not in page and page.rstrip().endswith(b" 0 failed expectations"), name
+    for name in BUSES:
+        for board, (stored_tape, answers) in boards.stored(session(name)).items():
+            assert explain.answers_of(program, stored_tape) == answers, (name, board)
+        status, page, said = run_tool("explain.py", ["--run", program, path_of(name)], b"")
+        assert (status, said) == (0, b"") and b"FAILED" not in page, name
+    taken = PLATES + "ask to 1 set-encoder-address address 0 code 55\nboard b: expect done\nask to 0 memory-status\n"
+    status, page, _ = run_tool("explain.py", ["--run", program, "-"], taken.encode())
+    assert status == 1 and b"which it took for a request" in page and b"clash     boards a and b answer at once" in page
     is_built = os.path.isfile(os.path.join(bench.ROOT, explain.ANSWER))
     assert run_tool("explain.py", [path_of("pallet-night")], b"")[0] == (0 if is_built else 1)
-    torn = tape.tape_of(PLATE_LINE) + b"\x05"
+    torn = texts.tape_of(PLATE_LINE) + b"\x05"
     assert explain.answers_of(program, torn) == "tick reply\nbad 9\n"
     assert run_tool("explain.py", ["--run", program, "-"], torn)[0] == 1
     one_tick = "frame at 0: 40 53 13\nframe at 308 every 4: 40 4E 0E\nexpect reply 40 4E 08 00 06\npoll 308\n"
@@ -195,7 +233,8 @@ def test_program(program):
 
 
 def main(arguments):
-    found = [each for module in (test_tape, test_explain, sys.modules[__name__]) for each in vars(module).items()]
+    modules = (test_tape, test_explain, test_boards, sys.modules[__name__])
+    found = [each for module in modules for each in vars(module).items()]
     tests = [check for name, check in found if name.startswith("test_") and callable(check) and check is not test_program]
     for check in tests:
         check()

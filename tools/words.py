@@ -1,13 +1,16 @@
 """Frames, replies and verdicts in words, and the page on which they stand: time, what it is, what it says."""
 
-from typing import List, NamedTuple, Optional
+from typing import Callable, Dict, List, NamedTuple, Optional
 
 from bench import NOT_A_REQUEST, REFUSALS, Verdict
-from commands import BROADCAST, COMMANDS, ERROR, WARNING, Part, code_words, error_words, layout_fits, pieces
+from commands import ADDRESS_BYTES, BROADCAST, COMMANDS, ERROR, SET_ADDRESS, WARNING, Part, code_words, error_words, fault_words, layout_fits, pieces
 from frames import KEPT_BYTES, SHORTEST
-from records import hex_of, milliseconds, xor_of
+from records import Fault, Measured, Plate, Record, hex_of, milliseconds, xor_of
 
 BYTES_A_LINE = 24
+DATA_RATES = dict(enumerate((600, 1200, 2400, 4800, 9600, 19200, 38400)))
+PARITIES = {0: "no parity", 2: "even parity", 3: "odd parity"}
+BLOCK = 16
 
 
 # --- data -----------------------------------------------------------------------------------
@@ -26,19 +29,67 @@ def status_words(status: int) -> str:
     return f"status {status:02X}h ({', '.join(parts)})"
 
 
+def address_words(byte: int) -> str:
+    """An address byte as people read it: `address 5 (45h)`."""
+    if byte not in ADDRESS_BYTES:
+        return f"address byte {byte:02X}h, which is not 40h to 5Fh"
+    return f"address {ADDRESS_BYTES.index(byte)} ({byte:02X}h)"
+
+
+def interface_words(settings: int) -> str:
+    """The type label's first byte taken apart (000, table 28)."""
+    rate, parity = settings % 8, settings >> 4 & 3
+    parts = [
+        f"{DATA_RATES[rate]} baud" if rate in DATA_RATES else "a data rate without a meaning",
+        "8 data bits",
+        PARITIES.get(parity, "a parity without a meaning"),
+        f"timeout {55 if settings & 0x40 else 22} bit times",
+        "standard slave" if settings & 0x80 else "bus slave",
+    ]
+    return f"interface {settings:02X}h ({', '.join(parts)})"
+
+
+def type_words(encoder_type: int) -> str:
+    return f"encoder type {encoder_type:02X}h" + (" (there is an extended type label)" if encoder_type == 0xFF else "")
+
+
+def memory_words(blocks: int) -> str:
+    return f"memory size {blocks} blocks ({blocks * BLOCK} bytes)"
+
+
+def text_words(text: bytes) -> str:
+    """Text as a session writes it, `"V1.0" 00*16`: in quotation marks where all of it is printable, else in hex, and how many 00h follow."""
+    letters = text.rstrip(b"\x00")
+    printable = all(32 <= byte < 127 and byte != ord('"') for byte in letters)
+    shown = [f'"{letters.decode()}"' if printable else hex_of(letters)] if letters else []
+    zeros = len(text) - len(letters)
+    return " ".join(shown + ([f"00*{zeros}"] if zeros else []))
+
+
 def data_words(data: bytes) -> str:
     text = "".join(chr(byte) if 32 <= byte < 127 else "." for byte in data)
     return f'data {hex_of(data)} "{text}"'
 
 
+# What parts say that are more than a number.
+SAID: Dict[str, Callable[[bytes], str]] = {
+    "address": lambda data: f"new {address_words(data[0])}",
+    "data": data_words,
+    "status": lambda data: status_words(data[0]),
+    "waiting": lambda data: f"oldest waiting code {code_words(data[0])}" if data[0] else "no code waits",
+    "interface": lambda data: interface_words(data[0]),
+    "encoder-type": lambda data: type_words(data[0]),
+    "memory-size": lambda data: memory_words(data[0]),
+    "serial-number": lambda data: f"serial number {text_words(data)}",
+    "version": lambda data: f"version {text_words(data)}",
+    "date": lambda data: f"date {text_words(data)}",
+}
+
+
 def part_words(part: Part, data: bytes) -> str:
     """One part of a request's or reply's data in words."""
-    if part.name == "data":
-        return data_words(data)
-    if part.name == "status":
-        return status_words(data[0])
-    if part.name == "waiting":
-        return f"oldest waiting code {code_words(data[0])}" if data[0] else "no code waits"
+    if part.name in SAID:
+        return SAID[part.name](data)
     name = part.name.replace("-", " ")
     return f"{name} {data[0]:02X}h" if part.hexadecimal else f"{name} {int.from_bytes(data, 'big')}"
 
@@ -99,10 +150,12 @@ def answer_words(request: bytes, reply: bytes, verdict: Verdict) -> str:
     """What a reply with a right checksum says, whether or not the bench takes it."""
     code = error_code(verdict, reply)
     if code is not None:
-        return f"error {error_words(code)}"
+        return f"error {error_words(code, request[1] if len(request) >= SHORTEST else None)}"
     command = reply[1] % WARNING
     if len(request) < SHORTEST or command != request[1] or command not in COMMANDS:
         return ""
+    if command == SET_ADDRESS and verdict.kind == "done":
+        return f"the board has {address_words(reply[0])} from here on"
     return parts_words(COMMANDS[command].reply or [], reply[2:-1])
 
 
@@ -115,6 +168,23 @@ def reply_words(request: bytes, reply: bytes, verdict: Verdict) -> List[str]:
             lines.append("warning bit: a fault code waits")
     lines.append(verdict_words(verdict))
     return [line for line in lines if line]
+
+
+# --- the host -------------------------------------------------------------------------------
+
+
+def plate_line(plate: Plate) -> str:
+    return (
+        f"Board of {plate.total} blocks, {plate.bits} position bits, {address_words(plate.own_byte())}, "
+        f"{plate.ticks} ticks a bit; a gap of {plate.closing_gap()} ticks ({milliseconds(plate.closing_gap())}) closes a frame."
+    )
+
+
+def call_words(call: Record) -> str:
+    """One of the host's other calls."""
+    if isinstance(call, Measured):
+        return f"measured position {call.position}"
+    return f"notes fault {fault_words(call.code)}" if isinstance(call, Fault) else "power-on"
 
 
 # --- the page -------------------------------------------------------------------------------

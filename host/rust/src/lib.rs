@@ -2,26 +2,29 @@
 
 pub mod dice;
 
-use second::{Plate, Refusal, State, Verdict};
+use second::{Label, Plate, Refusal, State, Verdict, LABEL_LENGTH};
 
 /// Length of the image, and the places of its parts (host/quicksetter.h).
-pub const IMAGE_LENGTH: usize = 171;
-pub const LAYOUT_NUMBER: u8 = 1;
+pub const IMAGE_LENGTH: usize = 212;
+pub const LAYOUT_NUMBER: u8 = 2;
 pub const PLATE: usize = 1;
-pub const LASTING: usize = 6;
-pub const CODES: usize = 6;
-pub const COUNTER: usize = 10;
-pub const OFFSET: usize = 14;
-pub const MEASURED: usize = 18;
-pub const WAITING: usize = 22;
-pub const LOCKED: usize = 26;
-pub const OPEN: usize = 27;
-pub const LONGER: usize = 28;
-pub const PARITY: usize = 29;
-pub const LAST: usize = 30;
-pub const SUM: usize = 34;
-pub const KEPT_NUMBER: usize = 35;
-pub const KEPT: usize = 36;
+pub const PLATE_ADDRESS: usize = 3;
+pub const LABEL: usize = 6;
+pub const LASTING: usize = 47;
+pub const CODES: usize = 47;
+pub const COUNTER: usize = 51;
+pub const ADDRESS: usize = 54;
+pub const OFFSET: usize = 55;
+pub const MEASURED: usize = 59;
+pub const WAITING: usize = 63;
+pub const LOCKED: usize = 67;
+pub const OPEN: usize = 68;
+pub const LONGER: usize = 69;
+pub const PARITY: usize = 70;
+pub const LAST: usize = 71;
+pub const SUM: usize = 75;
+pub const KEPT_NUMBER: usize = 76;
+pub const KEPT: usize = 77;
 
 /// The bytes of the image that must last.
 pub const LASTING_LENGTH: usize = MEASURED - LASTING;
@@ -33,6 +36,8 @@ extern "C" {
         address: u32,
         ticks: u32,
         pause: u32,
+        label: *const u8,
+        label_length: u64,
         image: *mut u8,
         image_length: u64,
     ) -> u64;
@@ -42,6 +47,8 @@ extern "C" {
         address: u32,
         ticks: u32,
         pause: u32,
+        label: *const u8,
+        label_length: u64,
         lasting: *const u8,
         lasting_length: u64,
         image: *mut u8,
@@ -121,9 +128,18 @@ pub enum Call {
     PowerOn,
 }
 
-/// A fresh image by the library.
-pub fn fresh(p: &Plate, image: &mut [u8]) -> Result<usize, Refusal> {
-    // SAFETY: the slice is valid for its length, and nothing else is lent.
+/// The plate's label as it crosses to C.
+pub fn label_of(p: &Plate) -> [u8; LABEL_LENGTH] {
+    let mut bytes = [0; LABEL_LENGTH];
+    let (type_label, version) = bytes.split_at_mut(p.label.type_label().len());
+    type_label.copy_from_slice(p.label.type_label());
+    version.copy_from_slice(p.label.version());
+    bytes
+}
+
+/// A fresh image by the library. The label comes by itself, so that one of a wrong length can be tried; the plate's own is not looked at.
+pub fn fresh(p: &Plate, label: &[u8], image: &mut [u8]) -> Result<usize, Refusal> {
+    // SAFETY: both slices are valid for their lengths, and the one that is written is exclusive.
     result_of(unsafe {
         qs_fresh(
             p.total_blocks,
@@ -131,15 +147,22 @@ pub fn fresh(p: &Plate, image: &mut [u8]) -> Result<usize, Refusal> {
             p.address,
             p.ticks_per_bit,
             p.pause,
+            label.as_ptr(),
+            label.len() as u64,
             image.as_mut_ptr(),
             image.len() as u64,
         )
     })
 }
 
-/// An image by the library, from the bytes that lasted.
-pub fn restart(p: &Plate, lasting: &[u8], image: &mut [u8]) -> Result<usize, Refusal> {
-    // SAFETY: both slices are valid for their lengths, and the one that is written is exclusive.
+/// An image by the library, from the bytes that lasted; the label as for a fresh one.
+pub fn restart(
+    p: &Plate,
+    label: &[u8],
+    lasting: &[u8],
+    image: &mut [u8],
+) -> Result<usize, Refusal> {
+    // SAFETY: the three slices are valid for their lengths, and the one that is written is exclusive.
     result_of(unsafe {
         qs_restart(
             p.total_blocks,
@@ -147,6 +170,8 @@ pub fn restart(p: &Plate, lasting: &[u8], image: &mut [u8]) -> Result<usize, Ref
             p.address,
             p.ticks_per_bit,
             p.pause,
+            label.as_ptr(),
+            label.len() as u64,
             lasting.as_ptr(),
             lasting.len() as u64,
             image.as_mut_ptr(),
@@ -288,13 +313,12 @@ pub fn reply_length(request: &[u8], begun: &[u8]) -> Result<usize, Refusal> {
     }
 }
 
-fn number_at(image: &[u8], place: usize) -> u32 {
-    u32::from_le_bytes([
-        image[place],
-        image[place + 1],
-        image[place + 2],
-        image[place + 3],
-    ])
+/// The number of these bytes, low byte first.
+fn number_of(bytes: &[u8]) -> u32 {
+    bytes
+        .iter()
+        .rev()
+        .fold(0, |number, &byte| number << 8 | u32::from(byte))
 }
 
 /// The second program's plate of an image, within its limits or not.
@@ -306,20 +330,37 @@ fn plate_of(image: &[u8]) -> Plate {
         address: number(2),
         ticks_per_bit: number(3),
         pause: number(4),
+        label: Label::new(&image[LABEL..LASTING]).expect("a label's length"),
     }
 }
 
+fn byte(number: u32) -> u8 {
+    u8::try_from(number).expect("a number within its limit")
+}
+
 /// The head of an image with this plate.
-pub fn head_of(p: &Plate) -> [u8; LASTING] {
-    let byte = |number: u32| u8::try_from(number).expect("a plate number within its limit");
-    [
+pub fn head_of(p: &Plate) -> Vec<u8> {
+    let mut head = vec![
         LAYOUT_NUMBER,
         byte(p.total_blocks),
         byte(p.position_bits),
         byte(p.address),
         byte(p.ticks_per_bit),
         byte(p.pause),
-    ]
+    ];
+    head.extend(label_of(p));
+    head
+}
+
+/// The second program's state of a board that was off, from the bytes that lasted, within their limits or not.
+pub fn rested(p: &Plate, lasting: &[u8]) -> State {
+    let part = |from: usize, to: usize| &lasting[from - LASTING..to - LASTING];
+    let mut state = State::fresh(p);
+    state.codes.copy_from_slice(part(CODES, COUNTER));
+    state.counter = number_of(part(COUNTER, ADDRESS));
+    state.address = number_of(part(ADDRESS, OFFSET));
+    state.offset = number_of(part(OFFSET, MEASURED));
+    state
 }
 
 /// The second program's plate and state of an image; none where its length, its layout number or a flag is beyond its limit, which they cannot say.
@@ -330,11 +371,9 @@ pub fn state_of(image: &[u8]) -> Option<(Plate, State)> {
     {
         return None;
     }
-    let mut state = State::fresh();
-    state.codes.copy_from_slice(&image[CODES..COUNTER]);
-    state.counter = number_at(image, COUNTER);
-    state.offset = number_at(image, OFFSET);
-    state.measured = number_at(image, MEASURED);
+    let plate = plate_of(image);
+    let mut state = rested(&plate, &image[LASTING..MEASURED]);
+    state.measured = number_of(&image[MEASURED..WAITING]);
     state.waiting.copy_from_slice(&image[WAITING..LOCKED]);
     // A code behind an empty place leaves 00h among the waiting ones, which is beyond the limits.
     state.waiting_number = state
@@ -346,18 +385,19 @@ pub fn state_of(image: &[u8]) -> Option<(Plate, State)> {
     state.open = image[OPEN] == 1;
     state.longer = image[LONGER] == 1;
     state.parity = image[PARITY] == 1;
-    state.last_stamp = number_at(image, LAST);
+    state.last_stamp = number_of(&image[LAST..SUM]);
     state.xor = image[SUM];
     state.kept_number = usize::from(image[KEPT_NUMBER]);
     state.kept.copy_from_slice(&image[KEPT..]);
-    Some((plate_of(image), state))
+    Some((plate, state))
 }
 
 /// What the image is to be after a call that was not refused: its head as before, the state's meaning, and the header's rules for places without one.
 pub fn image_after(call: Call, before: &[u8], state: &State) -> Vec<u8> {
     let mut image = before.to_vec();
     image[CODES..COUNTER].copy_from_slice(&state.codes);
-    image[COUNTER..OFFSET].copy_from_slice(&state.counter.to_le_bytes());
+    image[COUNTER..ADDRESS].copy_from_slice(&state.counter.to_le_bytes()[..ADDRESS - COUNTER]);
+    image[ADDRESS] = byte(state.address);
     image[OFFSET..MEASURED].copy_from_slice(&state.offset.to_le_bytes());
     image[MEASURED..WAITING].copy_from_slice(&state.measured.to_le_bytes());
     image[WAITING..LOCKED].fill(0);

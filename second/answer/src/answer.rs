@@ -2,7 +2,7 @@
 
 use std::io::{self, BufRead, ErrorKind, Write};
 
-use crate::{board, Plate, State, REPLY_ROOM};
+use crate::{board, Label, Plate, State, REPLY_ROOM};
 
 /// No record that fits has more after its length than a character: kind 2, tick 4, value, parity.
 const LONGEST: usize = 8;
@@ -101,6 +101,7 @@ fn parse_record(bytes: &[u8]) -> Option<Record> {
                 address: address.into(),
                 ticks_per_bit: ticks_per_bit.into(),
                 pause: pause.into(),
+                label: Label::BLANK,
             })
         }
         [2, 0, t0, t1, t2, t3, value, parity @ 0..=1] => Record::Character {
@@ -123,7 +124,7 @@ impl Board {
     fn fresh(plate: Plate) -> Board {
         Board {
             plate,
-            state: State::fresh(),
+            state: State::fresh(&plate),
             memory: vec![0; plate.memory_length()],
             room: [0; REPLY_ROOM],
         }

@@ -1,7 +1,7 @@
 //! The bench: writes requests and judges the replies to them.
 
 use crate::request::Request;
-use crate::{checksum, Refusal};
+use crate::{address_byte, checksum, is_board_address, Refusal, BROADCAST_BYTE};
 
 /// The number that asks for the broadcast address (reading 23).
 pub const BROADCAST: u32 = 255;
@@ -9,6 +9,7 @@ pub const BROADCAST: u32 = 255;
 pub const REQUEST_ROOM: usize = 135;
 
 const ERROR_COMMAND: u8 = 0x50;
+const SET_ADDRESS: u8 = 0x55;
 const WARNING_BIT: u8 = 0x80;
 
 /// What an accepted reply says.
@@ -31,7 +32,7 @@ pub fn write_request(
     if room.len() < REQUEST_ROOM {
         return Err(Refusal::R4);
     }
-    let address = address_byte(address).ok_or(Refusal::R5)?;
+    let address = asked_byte(address).ok_or(Refusal::R5)?;
     parse_writable(command, data).ok_or(Refusal::R5)?;
     let end = 2 + data.len();
     room[0] = address;
@@ -50,11 +51,11 @@ pub fn judge(request: &[u8], reply: &[u8]) -> Result<Verdict, Refusal> {
     if checksum(reply) != 0 {
         return Err(Refusal::B2);
     }
-    if !answers_for(request[0], *address) {
-        return Err(Refusal::B3);
-    }
     let warning = command & WARNING_BIT != 0;
     let command = command & !WARNING_BIT;
+    if !answers_for(request[0], &asked, command, *address) {
+        return Err(Refusal::B3);
+    }
     if command != request[1] && command != ERROR_COMMAND {
         return Err(Refusal::B4);
     }
@@ -98,20 +99,24 @@ fn judge_error(data: &[u8], warning: bool) -> Result<Verdict, Refusal> {
 }
 
 /// The address byte for "an address 0 to 31 or broadcast".
-fn address_byte(address: u32) -> Option<u8> {
+fn asked_byte(address: u32) -> Option<u8> {
     match address {
-        0..=31 => Some(0x40 + address as u8),
-        BROADCAST => Some(0xFF),
+        0..=31 => Some(address_byte(address)),
+        BROADCAST => Some(BROADCAST_BYTE),
         _ => None,
     }
 }
 
-/// Whether a reply from `address` answers a request to `asked` (B3).
-fn answers_for(asked: u8, address: u8) -> bool {
-    if asked == 0xFF {
-        matches!(address, 0x40..=0x5F)
-    } else {
-        address == asked
+/// Whether a reply of this command from `address` answers a request to `asked` (B3).
+fn answers_for(asked: u8, request: &Request, command: u8, address: u8) -> bool {
+    match request {
+        // The good reply carries the new address, an error reply "the old one" (02, Req 01). No
+        // board has an address other than 40h to 5Fh (reading 1.12).
+        Request::SetAddress { address: new, .. } if command == SET_ADDRESS => {
+            address == *new && is_board_address(address)
+        }
+        _ if asked == BROADCAST_BYTE => is_board_address(address),
+        _ => address == asked,
     }
 }
 
@@ -131,7 +136,7 @@ fn parse_writable(command: u8, data: &[u8]) -> Option<Request<'_>> {
 
 /// A request and its data, if it is "exactly the bytes of one request the bench would write" (B0).
 fn parse_request(bytes: &[u8]) -> Option<(Request<'_>, &[u8])> {
-    let [0x40..=0x5F | 0xFF, command, data @ .., _checksum] = bytes else {
+    let [0x40..=0x5F | BROADCAST_BYTE, command, data @ .., _checksum] = bytes else {
         return None;
     };
     if checksum(bytes) != 0 {

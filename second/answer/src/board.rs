@@ -2,12 +2,11 @@
 
 use crate::request::Request;
 use crate::work::{work, Answer, ErrorCode};
-use crate::{checksum, Plate, Refusal, State};
+use crate::{checksum, Plate, Refusal, State, BROADCAST_BYTE};
 
 /// The least room for a reply: address, command, three numbers, 128 bytes, checksum.
 pub const REPLY_ROOM: usize = 134;
 
-const BROADCAST_BYTE: u8 = 0xFF;
 const ERROR_COMMAND: u8 = 0x50;
 const WARNING_BIT: u8 = 0x80;
 
@@ -106,20 +105,21 @@ fn close_when_due(
 }
 
 /// "A closed frame is then judged in this order": step 1, and the reply to the other steps.
+/// "Frames are judged by the address in force when they close" (02, Req 01).
 fn judge_frame(plate: &Plate, state: &mut State, memory: &mut [u8], room: &mut [u8]) -> usize {
     let bytes = state.kept;
     let [address, command, data @ .., _checksum] = &bytes[..state.kept_number] else {
         return 0;
     };
-    if *address != plate.address_byte() && *address != BROADCAST_BYTE {
+    if *address != state.address_byte() && *address != BROADCAST_BYTE {
         return 0;
     }
     match work_frame(plate, state, *command, data, memory, &mut room[2..]) {
-        Ok(Answer::Data(length)) => finish_reply(plate, state, *command, length, room),
+        Ok(Answer::Data(length)) => finish_reply(state, *command, length, room),
         Ok(Answer::Silence) => 0,
         Err(code) => {
             room[2] = code as u8;
-            finish_reply(plate, state, ERROR_COMMAND, 1, room)
+            finish_reply(state, ERROR_COMMAND, 1, room)
         }
     }
 }
@@ -147,21 +147,16 @@ fn work_frame(
 }
 
 /// Puts address, command and checksum around the reply data; "the reply always carries the board's
-/// own address", and bit 7 "is set exactly if the fault queue is not empty after the request has
-/// been worked". Answers the reply's length.
-fn finish_reply(
-    plate: &Plate,
-    state: &State,
-    command: u8,
-    data_length: usize,
-    room: &mut [u8],
-) -> usize {
+/// own address", so that the one to an accepted 55h "will already use the new Slave address" (000,
+/// Set Encoder Address); bit 7 "is set exactly if the fault queue is not empty after the request
+/// has been worked". Answers the reply's length.
+fn finish_reply(state: &State, command: u8, data_length: usize, room: &mut [u8]) -> usize {
     let warning = if state.queue().is_empty() {
         0
     } else {
         WARNING_BIT
     };
-    room[0] = plate.address_byte();
+    room[0] = state.address_byte();
     room[1] = command | warning;
     let end = 2 + data_length;
     room[end] = checksum(&room[..end]);

@@ -1,6 +1,7 @@
 //! The library: the board (plate, state, memory), the bench, and the reader of tapes behind the answer program.
 //!
-//! Lines in quotation marks are document 01's own words; "reading N" is entry N of the readings.
+//! Lines in quotation marks are document 01's own words, or those of the paper named beside them;
+//! "reading N" is entry N of the readings, 1.N one of those of document 02's request 01.
 
 #![forbid(unsafe_code)]
 
@@ -8,6 +9,7 @@ pub mod answer;
 pub mod bench;
 pub mod board;
 mod fields;
+mod label;
 mod plate;
 mod refusal;
 mod request;
@@ -16,6 +18,7 @@ mod work;
 
 pub use bench::{data_part, judge, write_request, Verdict, BROADCAST, REQUEST_ROOM};
 pub use board::{character, fault, measured, poll, power_on, within_limits, REPLY_ROOM};
+pub use label::{Label, LABEL_LENGTH};
 pub use plate::Plate;
 pub use refusal::Refusal;
 pub use request::Request;
@@ -25,4 +28,18 @@ pub use work::ErrorCode;
 /// "The checksum is the XOR of all bytes before it" (01; 000, 2.3.3).
 pub(crate) fn checksum(bytes: &[u8]) -> u8 {
     bytes.iter().fold(0, |sum, byte| sum ^ byte)
+}
+
+/// "Broadcast FFh is taken too."
+pub(crate) const BROADCAST_BYTE: u8 = 0xFF;
+
+/// Whether the whole byte is a board's address: "valid from 40h (default) to 5Fh" (000, Set Encoder
+/// Address).
+pub(crate) fn is_board_address(byte: u8) -> bool {
+    matches!(byte, 0x40..=0x5F)
+}
+
+/// "Board address byte: 40h + a", for an address 0 to 31.
+pub(crate) fn address_byte(address: u32) -> u8 {
+    0x40 + address as u8
 }

@@ -1,4 +1,6 @@
-//! The plate: the numbers of a board that are given once.
+//! The plate: the numbers and the label of a board, given once.
+
+use crate::Label;
 
 /// "Plate, given once". The numbers come in wide, so that none loses bits on the way (reading 30).
 #[derive(Clone, Copy, Debug, PartialEq, Eq)]
@@ -7,12 +9,15 @@ pub struct Plate {
     pub total_blocks: u32,
     /// P, 1 to 32.
     pub position_bits: u32,
-    /// a, 0 to 31.
+    /// a, 0 to 31: the address of the fresh board. From then on the state's is in force
+    /// (reading 1.6).
     pub address: u32,
     /// 1, 2, 4, 8, 16, 32 or 64.
     pub ticks_per_bit: u32,
     /// 22 or 55 bit times.
     pub pause: u32,
+    /// "The label bytes, serial number and program version join the plate" (02, Req 01).
+    pub label: Label,
 }
 
 impl Plate {
@@ -28,11 +33,6 @@ impl Plate {
     /// "Memory is lent: 16T data bytes, then T status bytes."
     pub fn memory_length(&self) -> usize {
         17 * self.total_blocks as usize
-    }
-
-    /// "Board address byte: 40h + a."
-    pub fn address_byte(&self) -> u8 {
-        0x40 + self.address as u8
     }
 
     /// 2^P - 1, which takes a number mod 2^P.

@@ -3,7 +3,7 @@
 /// The numbers of 01's table "Named refusals".
 #[derive(Clone, Copy, Debug, PartialEq, Eq)]
 pub enum Refusal {
-    /// A plate or state number beyond its limit.
+    /// A plate or state number beyond its limit, or a label that is not 41 bytes.
     R1,
     /// Memory not 17T bytes.
     R2,
@@ -19,7 +19,8 @@ pub enum Refusal {
     B1,
     /// Checksum wrong.
     B2,
-    /// Address not the asked one; for broadcast, not 40h to 5Fh.
+    /// Address not the asked one; for broadcast, not 40h to 5Fh; in a good reply to 55h, not the
+    /// new one.
     B3,
     /// Command without bit 7 is neither the request's nor 50h.
     B4,

@@ -2,7 +2,7 @@
 
 use crate::work::ErrorCode;
 
-/// A request of 01's table with its data in their places.
+/// A request of 01's table, or of 02's Req 01, with its data in their places.
 #[derive(Clone, Copy, Debug, PartialEq, Eq)]
 pub enum Request<'d> {
     ReadPosition,
@@ -43,7 +43,13 @@ pub enum Request<'d> {
         new: u8,
     },
     ReadStatus,
+    ReadTypeLabel,
     Reset,
+    SetAddress {
+        address: u8,
+        code: u8,
+    },
+    ReadVersion,
 }
 
 impl<'d> Request<'d> {
@@ -86,8 +92,11 @@ impl<'d> Request<'d> {
             (0x4E, []) => Request::MemoryStatus,
             (0x4F, &[number, old, new]) => Request::SetAccessCode { number, old, new },
             (0x50, []) => Request::ReadStatus,
+            (0x52, []) => Request::ReadTypeLabel,
             (0x53, []) => Request::Reset,
-            (0x42 | 0x43 | 0x46 | 0x47 | 0x49..=0x50 | 0x53, _) => {
+            (0x55, &[address, code]) => Request::SetAddress { address, code },
+            (0x56, []) => Request::ReadVersion,
+            (0x42 | 0x43 | 0x46 | 0x47 | 0x49..=0x50 | 0x52 | 0x53 | 0x55 | 0x56, _) => {
                 return Err(ErrorCode::WrongLength)
             }
             _ => return Err(ErrorCode::UnknownCommand),
@@ -101,13 +110,15 @@ impl<'d> Request<'d> {
         match self {
             Request::SetPosition { .. }
             | Request::IncrementCounter
-            | Request::ResetCounter { .. } => Some(0),
+            | Request::ResetCounter { .. }
+            | Request::SetAddress { .. } => Some(0),
             Request::SetAccessCode { .. } | Request::ReadStatus => Some(1),
             Request::FieldStatus { .. } | Request::CreateField { .. } | Request::MemoryStatus => {
                 Some(2)
             }
             Request::ReadCounter | Request::StoreData { .. } => Some(3),
-            Request::ReadPosition => Some(4),
+            Request::ReadPosition | Request::ReadTypeLabel => Some(4),
+            Request::ReadVersion => Some(37),
             Request::ReadData { count, .. } => Some(3 + usize::from(*count)),
             Request::Reset => None,
         }

@@ -1,12 +1,13 @@
-//! The board's state: codes, counter, position, fault queue and the frame being received.
+//! The board's state: address, codes, counter, position, fault queue and the frame being received.
 
-use crate::Plate;
+use crate::{address_byte, Plate};
 
 /// "Up to 135 bytes are kept."
 pub const KEPT_LIMIT: usize = 135;
 /// "A queue of four."
 pub const QUEUE_LIMIT: usize = 4;
 
+const ADDRESS_LIMIT: u32 = 31;
 const COUNTER_LIMIT: u32 = 0xFF_FFFF;
 const COUNTER_OVERFLOW: u8 = 0x08;
 
@@ -17,6 +18,9 @@ const COUNTER_OVERFLOW: u8 = 0x08;
 /// `kept` and `last_stamp` stay as they are.
 #[derive(Clone, Debug, PartialEq, Eq)]
 pub struct State {
+    /// The address in force, 0 to 31: "the last one an accepted 55h gave, else the plate's"
+    /// (02, Req 01).
+    pub address: u32,
     /// Code0 to Code3.
     pub codes: [u8; 4],
     /// At most FFFFFFh.
@@ -48,9 +52,10 @@ pub struct State {
 }
 
 impl State {
-    /// "Fresh state": codes 55h, all else nothing.
-    pub fn fresh() -> State {
+    /// "Fresh state": the plate's address, codes 55h, all else nothing.
+    pub fn fresh(plate: &Plate) -> State {
         State {
+            address: plate.address,
             codes: [0x55; 4],
             counter: 0,
             offset: 0,
@@ -70,7 +75,8 @@ impl State {
 
     /// "State limits", else R1.
     pub fn within_limits(&self, plate: &Plate) -> bool {
-        self.counter <= COUNTER_LIMIT
+        self.address <= ADDRESS_LIMIT
+            && self.counter <= COUNTER_LIMIT
             && self.offset <= plate.position_mask()
             && self.waiting_number <= QUEUE_LIMIT
             && self.queue_is_proper()
@@ -97,6 +103,11 @@ impl State {
             plain.last_stamp = 0;
         }
         plain
+    }
+
+    /// The byte of the address in force.
+    pub fn address_byte(&self) -> u8 {
+        address_byte(self.address)
     }
 
     /// The waiting codes, oldest first.
@@ -190,7 +201,8 @@ impl State {
         self.parity = false;
     }
 
-    /// "Power-on empties the queue, drops an open frame and unlocks; all else stays."
+    /// "Power-on empties the queue, drops an open frame and unlocks; all else stays", the address
+    /// too (reading 1.5).
     pub fn power_on(&mut self) {
         self.empty_queue();
         self.drop_frame();

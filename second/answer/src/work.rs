@@ -2,7 +2,7 @@
 
 use crate::fields::{Field, Fields, Status};
 use crate::request::Request;
-use crate::{Plate, State};
+use crate::{is_board_address, Plate, State};
 
 /// The codes of error replies.
 #[derive(Clone, Copy, Debug, PartialEq, Eq)]
@@ -89,6 +89,10 @@ pub fn work(
             set_access_code(state, number, old, new, reply)
         }
         Request::ReadStatus => send(reply, &[state.take_oldest_fault()]),
+        // 52h and 56h have no checks of their own (reading 1.9).
+        Request::ReadTypeLabel => send(reply, plate.label.type_label()),
+        Request::ReadVersion => send(reply, plate.label.version()),
+        Request::SetAddress { address, code } => set_address(state, address, code),
         Request::Reset => {
             // Nothing else, and no response (readings 1 and 2).
             state.empty_queue();
@@ -217,4 +221,13 @@ fn set_access_code(state: &mut State, number: u8, old: u8, new: u8, reply: &mut 
     ensure(old == *stored, ErrorCode::WrongCode)?;
     *stored = new;
     send(reply, &[number])
+}
+
+/// 55h: "0Fh, then 0Dh for an address byte that the table does not allow" (02, Req 01; 000,
+/// table 30).
+fn set_address(state: &mut State, address: u8, code: u8) -> Worked {
+    ensure(code == state.codes[0], ErrorCode::WrongCode)?;
+    ensure(is_board_address(address), ErrorCode::WrongArgument)?;
+    state.address = u32::from(address & 0x1F);
+    Ok(Answer::Data(0))
 }

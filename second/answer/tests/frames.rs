@@ -84,10 +84,10 @@ fn length_comes_before_the_commands_own_checks() {
     assert_eq!(rig.error(&[0x40, 0x42]), 0x02);
     assert_eq!(rig.error(&[0x40, 0xC2]), 0x0B);
     assert_eq!(rig.error(&[0x40, 0x48]), 0x0B);
-    for command in [0x43, 0x49, 0x4A, 0x4B, 0x4C, 0x4D, 0x4F] {
+    for command in [0x43, 0x49, 0x4A, 0x4B, 0x4C, 0x4D, 0x4F, 0x55] {
         assert_eq!(rig.error(&[0x40, command]), 0x0C);
     }
-    for command in [0x46, 0x47, 0x4E, 0x50, 0x53] {
+    for command in [0x46, 0x47, 0x4E, 0x50, 0x52, 0x53, 0x56] {
         assert_eq!(rig.error(&[0x40, command, 0x55]), 0x0C);
     }
 }
@@ -110,7 +110,7 @@ fn power_on_drops_the_frame_and_unlocks() {
     rig.note(0x22).unwrap();
     rig.note(0x1D).unwrap();
     rig.characters(&[0x40, 0x4E]);
-    power_on(&rig.plate, &mut rig.state).unwrap();
+    rig.power_on();
     assert_eq!((rig.state.open, rig.state.locked), (false, false));
     // The next character opens a frame whatever the gap.
     rig.line("40 46 06", "40 46 00 00 01 07");
@@ -135,7 +135,7 @@ fn states_that_never_arise_are_worked_literally() {
 #[test]
 fn refusals_in_their_order() {
     let plate = sheet_plate(2);
-    let fresh = State::fresh();
+    let fresh = State::fresh(&plate);
     let bad_plate = Plate { pause: 54, ..plate };
     let mut bad_state = fresh.clone();
     bad_state.offset = 1 << 24;
@@ -201,7 +201,7 @@ fn limits_of_plate_and_state() {
         Plate { pause: 23, ..plate },
     ];
     for bad in plates {
-        assert!(!within_limits(&bad, &State::fresh()), "{bad:?}");
+        assert!(!within_limits(&bad, &State::fresh(&plate)), "{bad:?}");
     }
     let full = Plate {
         total_blocks: 1,
@@ -209,7 +209,8 @@ fn limits_of_plate_and_state() {
         address: 31,
         ..plate
     };
-    let mut state = State::fresh();
+    let mut state = State::fresh(&plate);
+    state.address = 31;
     state.counter = 0xFF_FFFF;
     state.offset = u32::MAX;
     state.waiting = [1, 2, 3, 4];
@@ -217,7 +218,9 @@ fn limits_of_plate_and_state() {
     state.kept_number = 135;
     assert!(within_limits(&full, &state));
     assert!(!within_limits(&plate, &state));
-    let bad: [fn(&mut State); 6] = [
+    let bad: [fn(&mut State); 8] = [
+        |state| state.address = 32,
+        |state| state.address = u32::MAX,
         |state| state.counter += 1,
         |state| state.waiting_number = 5,
         |state| state.waiting[3] = 1,
@@ -230,6 +233,9 @@ fn limits_of_plate_and_state() {
         spoil(&mut state);
         assert!(!within_limits(&full, &state));
     }
+    // A state of another address than the plate's is not refused.
+    state.address = 0;
+    assert!(within_limits(&full, &state));
     // Queue places beyond their number do not count.
     state.waiting_number = 1;
     state.waiting = [1, 1, 0, 0x22];

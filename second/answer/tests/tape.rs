@@ -56,6 +56,45 @@ fn all_kinds_of_events() {
     );
 }
 
+/// The records of characters, one tick apart from this one on.
+fn characters(tick: u8, bytes: &str) -> String {
+    let records = hex(bytes).into_iter().zip(tick..);
+    let texts =
+        records.map(|(value, tick)| format!("08 00 02 00 {tick:02X} 00 00 00 {value:02X} 00"));
+    texts.collect::<Vec<_>>().join(" ")
+}
+
+#[test]
+fn a_new_address_is_in_force_from_the_closing_character_on() {
+    // 22 bit times of 1 tick, address 1.
+    let plate = "07 00 01 00 70 18 01 01 16";
+    let traffic = [
+        plate,
+        &characters(0, "41 55 45 55 04"),
+        &characters(0x20, "45 52 17"),
+        &characters(0x40, "41 4E 0F"),
+        &characters(0x60, "FF 4E B1"),
+        "06 00 03 00 80 00 00 00",
+        "02 00 06 00",
+        &characters(0x90, "45 46 03"),
+        "06 00 03 00 B0 00 00 00",
+    ];
+    let replies = [
+        "32 45 55 10",
+        "64 45 52 00 00 00 00 17",
+        // The frame for the old address, closed at 96, has none.
+        "128 45 4E 70 00 7B",
+        "176 45 46 00 00 00 03",
+    ];
+    assert_eq!(answer(&traffic), replies.join("\n") + "\n");
+}
+
+#[test]
+fn the_version_on_a_tape_is_37_times_zero() {
+    let printed = answer(&[PLATE, &characters(0, "40 56 16"), POLL]);
+    assert_eq!(printed, format!("308 40 56{} 16\n", " 00".repeat(37)));
+}
+
 #[test]
 fn bad_first_records() {
     for record in [

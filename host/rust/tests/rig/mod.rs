@@ -2,16 +2,31 @@
 
 #![allow(dead_code)]
 
+pub mod board;
+
 use quicksetter_host::dice::Dice;
 use second::Plate;
 
-pub const COMMANDS: [u8; 13] = [
-    0x42, 0x43, 0x46, 0x47, 0x49, 0x4A, 0x4B, 0x4C, 0x4D, 0x4E, 0x4F, 0x50, 0x53,
+pub const COMMANDS: [u8; 16] = [
+    0x42, 0x43, 0x46, 0x47, 0x49, 0x4A, 0x4B, 0x4C, 0x4D, 0x4E, 0x4F, 0x50, 0x52, 0x53, 0x55, 0x56,
 ];
+
+/// 02, Req 01.
+pub const NEW_COMMANDS: [u8; 3] = [0x52, 0x55, 0x56];
+
+/// The address byte of a request to every board.
+pub const EVERY_BOARD: u8 = 0xFF;
+
+/// Address bytes at the ends of what a board can have, and others that look like one.
+pub const EDGE_ADDRESSES: [u8; 10] = [0x00, 0x1F, 0x20, 0x3F, 0x40, 0x5F, 0x60, 0x7F, 0xC0, 0xFF];
 
 /// What a sender knows of the board, so that most of its requests are accepted.
 pub struct Known<'a> {
     pub plate: &'a Plate,
+    /// The board's address byte.
+    pub address: u8,
+    /// The one that it had before.
+    pub former: u8,
     pub codes: &'a [u8],
     pub memory: &'a [u8],
 }
@@ -78,6 +93,7 @@ fn request_data(dice: &mut Dice, known: &Known, command: u8) -> Vec<u8> {
         0x4C => vec![known.field(dice)],
         0x4D => change_data(dice, known),
         0x4F => code_data(dice, known),
+        0x55 => address_data(dice, known),
         _ => vec![],
     }
 }
@@ -146,6 +162,23 @@ fn code_data(dice: &mut Dice, known: &Known) -> Vec<u8> {
     vec![number as u8, old, new]
 }
 
+/// New address byte and code of 55h.
+fn address_data(dice: &mut Dice, known: &Known) -> Vec<u8> {
+    let wanted = match dice.below(10) {
+        0 => dice.byte(),
+        1 => dice.one_of(&EDGE_ADDRESSES),
+        2 => known.address,
+        3 => known.former,
+        _ => some_address(dice),
+    };
+    vec![wanted, known.code(dice, 0)]
+}
+
+/// The address byte of some board.
+pub fn some_address(dice: &mut Dice) -> u8 {
+    0x40 + dice.below(32) as u8
+}
+
 /// The bytes with their checksum behind.
 pub fn sealed(mut bytes: Vec<u8>) -> Vec<u8> {
     let sum = bytes.iter().fold(0, |sum, byte| sum ^ byte);
@@ -153,14 +186,14 @@ pub fn sealed(mut bytes: Vec<u8>) -> Vec<u8> {
     bytes
 }
 
-/// A whole frame: mostly to this board and with its right checksum.
+/// A whole frame: mostly to this board and with its right checksum, now and then to the address that it had before.
 pub fn frame(dice: &mut Dice, known: &Known) -> Vec<u8> {
     let (command, data) = request(dice, known);
-    let own = 0x40 + known.plate.address as u8;
     let address = match dice.below(20) {
         0 => dice.byte(),
-        1..=3 => 0xFF,
-        _ => own,
+        1..=3 => EVERY_BOARD,
+        4 => known.former,
+        _ => known.address,
     };
     let mut bytes = vec![address, command];
     bytes.extend(data);

@@ -2,7 +2,9 @@
 
 #![allow(dead_code)]
 
-use second::{character, fault, measured, poll, Plate, Refusal, State, REPLY_ROOM};
+use second::{
+    character, fault, measured, poll, power_on, Label, Plate, Refusal, State, REPLY_ROOM,
+};
 
 pub struct Rig {
     pub plate: Plate,
@@ -19,6 +21,7 @@ pub fn sheet_plate(total_blocks: u32) -> Plate {
         address: 0,
         ticks_per_bit: 4,
         pause: 55,
+        label: Label::BLANK,
     }
 }
 
@@ -39,7 +42,7 @@ impl Rig {
     pub fn new(plate: Plate) -> Rig {
         Rig {
             plate,
-            state: State::fresh(),
+            state: State::fresh(&plate),
             memory: vec![0; plate.memory_length()],
             tick: 0,
         }
@@ -119,6 +122,10 @@ impl Rig {
 
     pub fn measure(&mut self, position: u32) {
         measured(&self.plate, &mut self.state, position).expect("not refused");
+    }
+
+    pub fn power_on(&mut self) {
+        power_on(&self.plate, &mut self.state).expect("not refused");
     }
 }
 
