@@ -105,7 +105,7 @@ def case_of(second, tape, events):
     for line in printed[1:]:
         tick, *values = line.split(" ")
         replies.append("(%s)" % as_list([tick] + ["0x" + value for value in values]))
-    fields = "total = %d; bits = %d; address = %d; ticks = %d; pause = %d" % tuple(plate)
+    fields = "total = %d; bits = %d; address = %d; ticks = %d; pause = %d; label = zeros labelLength" % tuple(plate)
     claim = "T (prints (record { %s }) (%s) (%s))" % (fields, as_list(calls), as_list(replies))
     return claim, len(calls), len(replies)
 

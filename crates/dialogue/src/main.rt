@@ -1,4 +1,6 @@
 // Dialogues of the bench with the board, told line by line: the example of document 002, the pallet night, and others on the bus.
+ghost use Prim.Native.Nat.{_≤_};
+ghost use Rattle.meaning.specs.State.{lastAddress};
 mod words;
 
 use board::Board;
@@ -9,7 +11,9 @@ use wire::codes::LONGEST_REQUEST;
 use words::say;
 
 // Address 0, pause 55, 4 ticks a bit, 24 position bits, 8 blocks.
-fn plate() -> Plate {
+fn plate() -> Plate
+    ensures { λ r. ⌜ r .address ≤ lastAddress ⌝ }
+{
     Plate {
         total: 8,
         bits: 24,
@@ -96,7 +100,8 @@ fn others() {
     board = ask(board, 255, 0x4E, b"", &mut memory);
     board = ask(board, 1, 0x4E, b"", &mut memory);
     board = ask(board, 32, 0x4E, b"", &mut memory);
-    let noted = board::fault(plate(), &blank, board, 0x1E);
+    let label = [0u8; LABEL_LENGTH];
+    let noted = board::fault(plate(), &label, board, 0x1E);
     board = noted.board;
     board = ask(board, 0, 0x46, b"", &mut memory);
     board = ask(board, 0, 0x4C, b"\x05", &mut memory);
