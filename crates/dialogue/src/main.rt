@@ -1,6 +1,7 @@
 // Dialogues of the bench with the board, told line by line: the example of document 002, the pallet night, and others on the bus.
 ghost use Prim.Native.Nat.{_≤_};
 ghost use Rattle.meaning.specs.State.{lastAddress};
+
 mod words;
 
 use board::Board;

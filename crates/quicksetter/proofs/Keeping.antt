@@ -10,7 +10,8 @@ use lib.ListN.{length}
 use Rattle.meaning.specs.Bytes.{pick, among, arg}
 use Rattle.meaning.specs.State.{Plate, State, withQueue, withMeasured, withLock, withLine, queued, noted, poweredOn, locks}
 use Rattle.meaning.specs.Commands.{Command, c42, c43, c46, c47, c49, c4A, c4B, c4C, c4D, c4E, c4F, c50, c52, c53, c55, c56, unknown, commandOf}
-use Rattle.meaning.specs.Commands.{Answer, refuse, accept, quiet, error, readPosition, setPosition, readCounter, stepCounter, clearCounter, onField, readField, storeField, fieldStatus, create, modify, delete, shapeField, memoryStatus, setCode, readFault, readLabel, reset, setAddress, readVersion, worked}
+use Rattle.meaning.specs.Commands.{Answer, refuse, accept, quiet, error, readPosition, setPosition, readCounter, stepCounter, clearCounter}
+use Rattle.meaning.specs.Commands.{onField, readField, storeField, fieldStatus, create, modify, delete, shapeField, memoryStatus, setCode, readFault, readLabel, reset, setAddress, readVersion, worked}
 use Rattle.meaning.specs.Characters.{Frame, over, closed, taken}
 use Rattle.meaning.specs.Frames.{commandByte, dataOf, ours, judged, short, elsewhere, answered, ending, sealed, message, still, outcome, leaves, work, resting, close, upTo}
 use Rattle.meaning.specs.Run.{Call, character, poll, measured, fault, power-on, step}

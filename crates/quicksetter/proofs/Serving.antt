@@ -30,6 +30,11 @@ use Rattle.quicksetter.proofs.Heads.{ours-length, head-length, core-of-
 use Rattle.quicksetter.proofs.Closing.{as-long, at-most, refused-in, servable, request-in, put-away}
 use Rattle.quicksetter.proofs.Wholes.{joined, core-workable}
 
+-- the label bytes, lent out of the image
+pub label-there : (img : List ℕ) → take 41 (drop 6 img) ≡ labelIn img
+unfolding part
+label-there img = refl
+
 -- what a command changes leaves a possible address
 pub effect-low : {x : Effect} {core core′ : List ℕ} → PutsEffect x core core′ → Bounded x → stateIn core .address ≤ 31 → stateIn core′ .address ≤ 31
 effect-low {x} {core} q b low = rw (ap (λ (s : meaning.State). s .address) (q .holds none)) (still-low x (stateWith (stateIn core) none) b low)
@@ -41,10 +46,6 @@ module _ (p : Plate) (img : List ℕ) (e : isOurs img ≡ true) (q : p ≡ plate
 
   all : length img ≡ 212
   all = ours-length img e
-
-  pub label-there : take 41 (drop 6 img) ≡ labelIn img
-  unfolding part
-  label-there = refl
 
   pub lent-servable : (m w : List ℕ) {c end : ℕ} → Servable p (labelIn img) c end (coreIn img) m w → Servable p (labelIn img) c end core m w
   lent-servable m w s = rw (lent-core img all) s

@@ -50,7 +50,8 @@ fine c =
     let after-if1 = after-plate-in .before .before in
     let start = after-if1 .before .before .before .before .before .before in
     workable _ (now (start .args .memory)) (now (start .args .room)) (ours (after-if1)) (after-plate-in .plate-in .ensures)
-    (none-applies _ _ _ _ (sym (after-is-possible .is-possible .ensures _ (ours-label _ (ours (after-if1)))) ∙ not-false _ (after-if2 .if2 .left)) (sym (after-is-sound .is-sound .ensures) ∙ not-false _ (after-if3 .if3 .left)) (c .before .if4 .left ∙ after-memory-length .memory-length .ensures) (c .if5 .left))
+    (none-applies _ _ _ _ (sym (after-is-possible .is-possible .ensures _ (ours-label _ (ours (after-if1)))) ∙ not-false _ (after-if2 .if2 .left))
+    (sym (after-is-sound .is-sound .ensures) ∙ not-false _ (after-if3 .if3 .left)) (c .before .if4 .left ∙ after-memory-length .memory-length .ensures) (c .if5 .left))
 
 is-ours-requires : tie.Need-is-ours-requires
 is-ours-requires c κs = search needs

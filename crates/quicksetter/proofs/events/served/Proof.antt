@@ -162,7 +162,9 @@ on-state-requires c κs =
     let after-needs-memory = after-if1 .before in
     let start = after-needs-memory .before .before .before .before in
     let may = lent-servable _ (now (start .args .image)) (start .pre .ours) (start .pre .plate) (now (start .args .memory)) (now (start .args .room)) (start .pre .core) in
-    rw (label-there (start .args .plate) (now (start .args .image)) (start .pre .ours) (start .pre .plate)) (changeable (start .args .plate) (labelIn (now (start .args .image))) _ _ (now (start .args .memory)) (now (start .args .room)) (rw (after-state-in .state-in .ensures, after-data-part2 .data-part2 .ensures .0) (may .works)) (sym (after-needs-memory .needs-memory .ensures) ∙ after-if1 .if1 .left))
+    rw (label-there (now (start .args .image)))
+    (changeable (start .args .plate) (labelIn (now (start .args .image))) _ _ (now (start .args .memory)) (now (start .args .room))
+    (rw (after-state-in .state-in .ensures, after-data-part2 .data-part2 .ensures .0) (may .works)) (sym (after-needs-memory .needs-memory .ensures) ∙ after-if1 .if1 .left))
 
 sub-put-effect : tie.Need-sub-put-effect
 sub-put-effect c = search needs
@@ -182,7 +184,7 @@ put-effect-requires c κs =
     let after-state-in = after-data-part2 .before .before in
     let start = after-state-in .before .before .before .before .before .before .before .before .before in
     let may = lent-servable _ (now (start .args .image)) (start .pre .ours) (start .pre .plate) (now (start .args .memory)) (now (start .args .room)) (start .pre .core) in
-    let there = sym (label-there (start .args .plate) (now (start .args .image)) (start .pre .ours) (start .pre .plate)) in
+    let there = sym (label-there (now (start .args .image))) in
     let worked = rw (after-state-in .state-in .ensures, after-data-part2 .data-part2 .ensures .0) at (after-on-state .on-state .ensures (plateOf (start .args .plate) (labelIn (now (start .args .image)))) (now (start .args .memory)) refl there) in
     (worked .row .placed, record { all = good _ (may .bytes) .all; lock = good _ (may .bytes) .locked })
 
@@ -207,7 +209,7 @@ own-requires-2 c κs =
     let after-state-in = after-data-part2 .before .before in
     let start = after-state-in .before .before .before .before .before .before .before .before .before in
     let may = lent-servable _ (now (start .args .image)) (start .pre .ours) (start .pre .plate) (now (start .args .memory)) (now (start .args .room)) (start .pre .core) in
-    let there = sym (label-there (start .args .plate) (now (start .args .image)) (start .pre .ours) (start .pre .plate)) in
+    let there = sym (label-there (now (start .args .image))) in
     let worked = rw (after-state-in .state-in .ensures, after-data-part2 .data-part2 .ensures .0) at (after-on-state .on-state .ensures (plateOf (start .args .plate) (labelIn (now (start .args .image)))) (now (start .args .memory)) refl there) in
     let low = effect-low (after-put-effect .put-effect .ensures) (worked .row .placed) (may .works .address) in
     (search needs, rw (lent-again _ (now (start .args .image)) (start .pre .ours) (start .pre .plate) (may .bytes) (after-put-effect .put-effect .ensures)) low)
@@ -222,7 +224,7 @@ send-requires-2 c κs =
     let after-state-in = after-data-part2 .before .before in
     let start = after-state-in .before .before .before .before .before .before .before .before .before in
     let may = lent-servable _ (now (start .args .image)) (start .pre .ours) (start .pre .plate) (now (start .args .memory)) (now (start .args .room)) (start .pre .core) in
-    let there = sym (label-there (start .args .plate) (now (start .args .image)) (start .pre .ours) (start .pre .plate)) in
+    let there = sym (label-there (now (start .args .image))) in
     let worked = rw (after-state-in .state-in .ensures, after-data-part2 .data-part2 .ensures .0) at (after-on-state .on-state .ensures (plateOf (start .args .plate) (labelIn (now (start .args .image)))) (now (start .args .memory)) refl there) in
     sendable _ _ _ _ _ (worked .row .answer) (still-wide (plateOf (start .args .plate) (labelIn (now (start .args .image)))) _ _ _ _ _ (may .works .room) worked)
 
@@ -243,7 +245,7 @@ returns-2 c =
     let after-state-in = after-data-part2 .before .before in
     let start = after-state-in .before .before .before .before .before .before .before .before .before in
     let may = lent-servable _ (now (start .args .image)) (start .pre .ours) (start .pre .plate) (now (start .args .memory)) (now (start .args .room)) (start .pre .core) in
-    let there = sym (label-there (start .args .plate) (now (start .args .image)) (start .pre .ours) (start .pre .plate)) in
+    let there = sym (label-there (now (start .args .image))) in
     let worked = rw (after-state-in .state-in .ensures, after-data-part2 .data-part2 .ensures .0) at (after-on-state .on-state .ensures (plateOf (start .args .plate) (labelIn (now (start .args .image)))) (now (start .args .memory)) refl there) in
     let again = lent-again _ (now (start .args .image)) (start .pre .ours) (start .pre .plate) (may .bytes) (after-put-effect .put-effect .ensures) in
     let sends = after-send .send2 .ensures _ (rw again at (after-own .own2 .ensures)) (rw again at (after-waits .waits2 .ensures)) in
