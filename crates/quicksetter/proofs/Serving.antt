@@ -25,10 +25,10 @@ use Rattle.image.specs.Image.{isOurs, isCore, headIn, coreIn, plateOfHead, labe
 use Rattle.image.specs.Writes.{PutsEffect, PutsFrame}
 use Rattle.image.proofs.Round.{good}
 use Rattle.quicksetter.specs.Calls.{plateHeld}
-use Rattle.quicksetter.specs.Cores.{dataTo, Unrefused, Servable, ServedIn, ClosedIn, ImageUnrefused, ImageAnswerable, ImageServable, ImageServed, ImageAnswered, ImageShuts}
+use Rattle.quicksetter.specs.Cores.{dataTo, Unrefused, Servable, ServedIn, ClosedIn, ImageUnrefused, ImageServable, ImageServed, ImageAnswered, ImageShuts}
 use Rattle.quicksetter.proofs.Heads.{ours-length, head-length, core-of-whole, lent-core, core-back}
 use Rattle.quicksetter.proofs.Closing.{as-long, at-most, refused-in, servable, request-in, put-away}
-use Rattle.quicksetter.proofs.Wholes.{joined, core-workable}
+use Rattle.quicksetter.proofs.Wholes.{joined}
 
 -- the label bytes, lent out of the image
 pub label-there : (img : List ℕ) → take 41 (drop 6 img) ≡ labelIn img
@@ -47,8 +47,8 @@ module _ (p : Plate) (img : List ℕ) (e : isOurs img ≡ true) (q : p ≡ plate
   all : length img ≡ 212
   all = ours-length img e
 
-  pub lent-servable : (m w : List ℕ) {c end : ℕ} → Servable p (labelIn img) c end (coreIn img) m w → Servable p (labelIn img) c end core m w
-  lent-servable m w s = rw (lent-core img all) s
+  pub lent-servable : (m w : List ℕ) {c end : ℕ} → Servable (plateOfHead img) (labelIn img) c end (coreIn img) m w → Servable p (labelIn img) c end core m w
+  lent-servable m w s = rw (q, lent-core img all) s
 
   -- what is left of the lent core, as it was or written anew, is left of the image's
   module _ (Leaves : meaning.Plate → List ℕ → List ℕ → Type 0) {core′ : List ℕ} (h : Leaves (plateOf p (labelIn img)) core core′) where
@@ -92,16 +92,19 @@ module _ (p : Plate) (img : List ℕ) (e : isOurs img ≡ true) (q : p ≡ plate
         let Leaves : meaning.Plate → List ℕ → List ℕ → Type 0 = λ x before after. ServedIn x c (dataTo end before) before m w r after m′ w′ in
         record { core = core-left Leaves h; head = head-left Leaves h }
 
--- an image that is not refused, whose plate was read: its open frame by its judgement
-module _ (p : Plate) (img m w : List ℕ) (a : ImageAnswerable p img (length m) (length w)) where
+-- an image that is not refused: its open frame by its judgement
+module _ (img m w : List ℕ) (u : ImageUnrefused img (length m) (length w)) where
+  abbrev p : Plate
+  p = plateOfHead img
+
   abbrev lent : List ℕ
   lent = take 165 (drop 47 img)
 
   whole : length img ≡ 212
-  whole = ours-length img (a .image .ours)
+  whole = ours-length img (u .ours)
 
-  pub fine : Unrefused (plateOf p (labelIn img)) lent (length m) (length w)
-  fine = core-workable img m w (a .image .ours) (a .plate) (a .image .core)
+  pub fine : Unrefused (plateHeld img) lent (length m) (length w)
+  fine = rw (lent-core img whole) (u .core)
 
   module _ {f : OpenFrame} (e : f ≡ frameIn lent) where
     abbrev kept : List ℕ
@@ -111,18 +114,17 @@ module _ (p : Plate) (img m w : List ℕ) (a : ImageAnswerable p img (length m) 
     pub refusal-answered : (j : Judgement) (own : ℕ) {r : ℕ} {w′ : List ℕ} → ((i : ℕ) → arg lent i < 256) → own ≡ ownByte (stateWith (stateIn lent) none)
         → judgementOf own (frameOf f kept) ≡ j → asking j ≡ false → Refused (stateIn lent) (codeToAnswer j) w r w′ → ImageAnswered img m w r img m w′
     refusal-answered j own small o k n h =
-        record { core = rw (a .plate, lent-core img whole) at (refused-in p (labelIn img) lent m w fine e j own small o k n h); head = joined img }
+        record { core = rw (lent-core img whole) at (refused-in p (labelIn img) lent m w fine e j own small o k n h); head = joined img }
 
     module _ (own : ℕ) {c : ℕ} (j : judgementOf own (frameOf f kept) ≡ Request c) where
-      pub request-servable : ImageServable p c (30 + f .len) img m w
-      request-servable =
-          record { plate = a .plate; ours = a .image .ours; core = rw (lent-core img whole) at (servable p (labelIn img) lent m w fine e own j) }
+      pub request-servable : ImageServable c (30 + f .len) img m w
+      request-servable = record { ours = u .ours; core = rw (lent-core img whole) at (servable p (labelIn img) lent m w fine e own j) }
 
       pub request-answered : {r : ℕ} {img′ m′ w′ : List ℕ} → own ≡ ownByte (stateWith (stateIn lent) none) → ImageServed c (30 + f .len) img m w r img′ m′ w′
           → ImageAnswered img m w r img′ m′ w′
       request-answered {r} {img′} {m′} {w′} o s =
-          let h : ServedIn (plateOf p (labelIn img)) c (dataTo (30 + f .len) lent) lent m w r (coreIn img′) m′ w′ = rw (a .plate, lent-core img whole) (s .core) in
-          record { core = rw (a .plate, lent-core img whole) at (request-in p (labelIn img) lent m w fine e own j o h); head = s .head }
+          let h : ServedIn (plateHeld img) c (dataTo (30 + f .len) lent) lent m w r (coreIn img′) m′ w′ = rw (lent-core img whole) (s .core) in
+          record { core = rw (lent-core img whole) at (request-in p (labelIn img) lent m w fine e own j o h); head = s .head }
 
 -- the frame was answered, and is put away
 module _ (img m w : List ℕ) (u : ImageUnrefused img (length m) (length w)) {r : ℕ} {mid m′ w′ : List ℕ} (a : ImageAnswered img m w r mid m′ w′) where

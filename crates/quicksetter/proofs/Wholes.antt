@@ -17,7 +17,7 @@ use Rattle.image.specs.Image.{isOurs, isCore, headIn, coreIn, plateOfHead, labe
 use Rattle.image.specs.Writes.{Takes}
 use Rattle.image.proofs.Round.{good}
 use Rattle.quicksetter.specs.Calls.{plateHeld, stateHeld, Called}
-use Rattle.quicksetter.specs.Cores.{refusalIn, Unrefused, ImageUnrefused, ImageShuts, ImagePolls}
+use Rattle.quicksetter.specs.Cores.{refusalIn, ImageUnrefused, ImageShuts, ImagePolls}
 use Rattle.quicksetter.proofs.Heads.{ours-length, head-length, core-of-whole, lent-core, core-back, called-of}
 use Rattle.quicksetter.proofs.Refusing.{refused-as, refused-alone, unrefused}
 use Rattle.quicksetter.proofs.Closing.{nothing-over, core-again, then-taken}
@@ -52,9 +52,6 @@ module _ (img m w : List ℕ) (e : isOurs img ≡ true) {p : line.Plate} (q : p 
 
   pub over-so : (tick : ℕ) {r : Bool} → r ≡ over (plateOf p (labelIn img)) (heldIn (take 165 (drop 47 img))) tick → r ≡ over (plateHeld img) (stateHeld img) tick
   over-so tick r = rw (q, lent-core img all) at r
-
-  pub core-workable : {n k : ℕ} → Unrefused (plateHeld img) (coreIn img) n k → Unrefused (plateOf p (labelIn img)) (take 165 (drop 47 img)) n k
-  core-workable u = rw (q, lent-core img all) u
 
 -- of an image that is not refused
 module _ (img m w : List ℕ) (u : ImageUnrefused img (length m) (length w)) (tick : ℕ) where

@@ -88,15 +88,9 @@ pub record ImageUnrefused (img : List ℕ) (memory room : ℕ) : Type 0 where
   pub ours : isOurs img ≡ true
   pub core : Unrefused (plateHeld img) (coreIn img) memory room
 
--- .. and its plate was read
-pub record ImageAnswerable (p : Plate) (img : List ℕ) (memory room : ℕ) : Type 0 where
-  pub plate : p ≡ plateOfHead img
-  pub image : ImageUnrefused img memory room
-
-pub record ImageServable (p : Plate) (c end : ℕ) (img m w : List ℕ) : Type 0 where
-  pub plate : p ≡ plateOfHead img
+pub record ImageServable (c end : ℕ) (img m w : List ℕ) : Type 0 where
   pub ours : isOurs img ≡ true
-  pub core : Servable p (labelIn img) c end (coreIn img) m w
+  pub core : Servable (plateOfHead img) (labelIn img) c end (coreIn img) m w
 
 pub record ImageServed (c end : ℕ) (img m w : List ℕ) (r : ℕ) (img′ m′ w′ : List ℕ) : Type 0 where
   pub core : ServedIn (plateHeld img) c (dataTo end (coreIn img)) (coreIn img) m w r (coreIn img′) m′ w′

@@ -1,9 +1,9 @@
 // A character and a poll of an image (01, "Characters become frames").
 ghost use mathlib.Core.Path.{_≡_};
-ghost use Prim.Native.Nat.{ℕ, _≤_};
+ghost use mathlib.Core.List.{List};
+ghost use Prim.Native.Nat.{ℕ, _+_, _≤_};
 ghost use lib.ListN.{length};
 ghost use Rattle.meaning.specs.Bytes.{differ};
-ghost use mathlib.Core.List.{List};
 ghost use Rattle.meaning.specs.State.{labelLength, lastAddress, apart, none, ownByte};
 ghost use Rattle.meaning.specs.Characters.{over};
 ghost use Rattle.meaning.specs.Demands.{waits};
@@ -11,9 +11,9 @@ ghost use Rattle.meaning.specs.Run as run;
 ghost use Rattle.line.specs.Line.{plateOf};
 ghost use Rattle.state.specs.Queue.{queueOf};
 ghost use Rattle.state.specs.State.{stateWith};
-ghost use Rattle.image.specs.Image.{coreLength, stateIn, heldIn};
+ghost use Rattle.image.specs.Image.{keptAt, coreLength, stateIn, heldIn};
 ghost use Rattle.quicksetter.specs.Calls.{Called};
-ghost use Rattle.quicksetter.specs.Cores.{possible, ImageUnrefused, ImageServable, ImageServed, ImageAnswerable, ImageAnswered, ImageShuts, ImagePolls};
+ghost use Rattle.quicksetter.specs.Cores.{possible, ImageUnrefused, ImageServable, ImageServed, ImageAnswered, ImageShuts, ImagePolls};
 use crate::given::REFUSED;
 use image::ADDRESS;
 use image::CODES;
@@ -85,29 +85,24 @@ fn own(core: &[u8]) -> u8
     wire::own_byte(core[ADDRESS])
 }
 
-// A request, worked on the state that the image's core holds; its bytes end before that place of the core. Only what changes of the state is written.
-fn served(
-    image: &mut [u8],
-    plate: Plate,
-    command: u8,
-    end: usize,
-    memory: &mut [u8],
-    room: &mut [u8],
-) -> u8
-    requires { ⌜ ImageServable plate command end (now image) (now memory) (now room) ⌝ }
-    ensures { λ r. ⌜ ImageServed command end (now (image .entry)) (now (memory .entry)) (now (room .entry)) r (now (image .exit)) (now (memory .exit)) (now (room .exit)) ⌝ }
+// A request, worked on the state that the image's core holds; `len` bytes of it are kept. Only what changes of the state is written. The plate is
+// read where it is needed, so that no call hands it on.
+fn served(image: &mut [u8], command: u8, len: usize, memory: &mut [u8], room: &mut [u8]) -> u8
+    requires { ⌜ ImageServable command (keptAt + len) (now image) (now memory) (now room) ⌝ }
+    ensures { λ r. ⌜ ImageServed command (keptAt + len) (now (image .entry)) (now (memory .entry)) (now (room .entry)) r (now (image .exit)) (now (memory .exit)) (now (room .exit)) ⌝ }
 {
+    let plate = image::plate_in(image);
     if board::needs_memory(command) {
         let core = &image[CORE..LENGTH];
         let codes = &core[CODES..COUNTER];
-        let request = wire::data_part(&core[KEPT..end]);
+        let request = wire::data_part(&core[KEPT..KEPT + len]);
         let answer = board::on_memory(plate.total as usize, codes, command, request, memory, room);
         return board::send(own(core), waits(core), command, answer, room);
     }
     let core = &image[CORE..LENGTH];
     let label = &image[LABEL..CORE];
     let state = image::state_in(core);
-    let request = wire::data_part(&core[KEPT..end]);
+    let request = wire::data_part(&core[KEPT..KEPT + len]);
     let worked = board::on_state(plate.bits, label, state, command, request, room);
     let effect = worked.effect;
     let answer = worked.answer;
@@ -117,13 +112,14 @@ fn served(
 }
 
 // The open frame, judged, worked and answered. The number is the reply's length.
-fn answered(image: &mut [u8], plate: Plate, memory: &mut [u8], room: &mut [u8]) -> u8
-    requires { ⌜ ImageAnswerable plate (now image) (length (now memory)) (length (now room)) ⌝ }
+fn answered(image: &mut [u8], memory: &mut [u8], room: &mut [u8]) -> u8
+    requires { ⌜ ImageUnrefused (now image) (length (now memory)) (length (now room)) ⌝ }
     ensures { λ r. ⌜ ImageAnswered (now (image .entry)) (now (memory .entry)) (now (room .entry)) r (now (image .exit)) (now (memory .exit)) (now (room .exit)) ⌝ }
 {
     let core = &image[CORE..LENGTH];
     let frame = image::frame_in(core);
-    let end = KEPT + frame.len as usize;
+    let len = frame.len as usize;
+    let end = KEPT + len;
     let own = own(core);
     if line::is_silent(own, &core[KEPT..end]) {
         return 0;
@@ -133,16 +129,15 @@ fn answered(image: &mut [u8], plate: Plate, memory: &mut [u8], room: &mut [u8]) 
         let state = image::state_in(core);
         return board::refuse(state, judgement.code(), room);
     };
-    served(image, plate, command, end, memory, room)
+    served(image, command, len, memory, room)
 }
 
-// The open frame is over: it is answered and put away. The plate is read where it is needed, so that no call hands it on.
+// The open frame is over: it is answered and put away.
 fn shut(image: &mut [u8], memory: &mut [u8], room: &mut [u8]) -> u8
     requires { ⌜ ImageUnrefused (now image) (length (now memory)) (length (now room)) ⌝ }
     ensures { λ r. ⌜ ImageShuts (now (image .entry)) (now (memory .entry)) (now (room .entry)) r (now (image .exit)) (now (memory .exit)) (now (room .exit)) ⌝ }
 {
-    let plate = image::plate_in(image);
-    let sent = answered(image, plate, memory, room);
+    let sent = answered(image, memory, room);
     image::put_frame(OpenFrame::none(), &mut image[CORE..LENGTH]);
     sent
 }

@@ -36,13 +36,13 @@ part-core-start c = search needs
 part-core-end : tie.Need-part-core-end
 part-core-end c =
     let start = c .before .before .before .before in
-    omega (arith, ours-length _ (start .pre .image .ours))
+    omega (arith, ours-length _ (start .pre .ours))
 
 frame-in-requires : tie.Need-frame-in-requires
 frame-in-requires c κs = search needs
 
-cast-end : tie.Need-cast-end
-cast-end c = search needs
+cast-len : tie.Need-cast-len
+cast-len c = search needs
 
 add-end : tie.Need-add-end
 add-end c = search needs
@@ -50,7 +50,7 @@ add-end c = search needs
 own-requires : tie.Need-own-requires
 own-requires c κs =
     let start = c .before .before .before .before .before .before .before in
-    let u = fine (start .args .plate) (now (start .args .image)) (now (start .args .memory)) (now (start .args .room)) (start .pre) in
+    let u = fine (now (start .args .image)) (now (start .args .memory)) (now (start .args .room)) (start .pre) in
     (omega (arith, good _ (u .bytes) .all), low-own _ _ _ (now (start .args .memory)) (now (start .args .room)) u)
 
 sub-is-silent : tie.Need-sub-is-silent
@@ -63,7 +63,7 @@ part-is-silent-end : tie.Need-part-is-silent-end
 part-is-silent-end c =
     let after-frame-in = c .before .before in
     let start = after-frame-in .before .before .before .before .before .before in
-    let u = fine (start .args .plate) (now (start .args .image)) (now (start .args .memory)) (now (start .args .room)) (start .pre) in
+    let u = fine (now (start .args .image)) (now (start .args .memory)) (now (start .args .room)) (start .pre) in
     omega (arith, at-most _ _ _ (now (start .args .memory)) (now (start .args .room)) u (after-frame-in .frame-in .ensures), good _ (u .bytes) .all)
 
 is-silent-requires : tie.Need-is-silent-requires
@@ -81,8 +81,8 @@ returns c =
     let start = after-slice-known .before in
     let over = passed-over (after-own .own .result) (frameOf (after-frame-in .frame-in .result) (take (keptAt + after-frame-in .frame-in .result .len - keptAt) (drop keptAt (take 165 (drop 47 (now (start .args .image)))))))
     (sym (after-is-silent .is-silent .ensures) ∙ c .if1 .taken) in
-    let small = lent-small _ (start .pre .image .ours) (λ i. (after-slice-known .slice-known .given i) .fits) in
-    refusal-answered (start .args .plate) (now (start .args .image)) (now (start .args .memory)) (now (start .args .room)) (start .pre) (after-frame-in .frame-in .ensures) _ _ small (after-own .own .ensures) refl (over .0) (fault-silent _ _ (eq-eqb _ _ (over .1)))
+    let small = lent-small _ (start .pre .ours) (λ i. (after-slice-known .slice-known .given i) .fits) in
+    refusal-answered (now (start .args .image)) (now (start .args .memory)) (now (start .args .room)) (start .pre) (after-frame-in .frame-in .ensures) _ _ small (after-own .own .ensures) refl (over .0) (fault-silent _ _ (eq-eqb _ _ (over .1)))
 
 sub-judged : tie.Need-sub-judged
 sub-judged c = search needs
@@ -94,7 +94,7 @@ part-judged-end : tie.Need-part-judged-end
 part-judged-end c =
     let after-frame-in = c .before .before .before .before .before in
     let start = after-frame-in .before .before .before .before .before .before in
-    let u = fine (start .args .plate) (now (start .args .image)) (now (start .args .memory)) (now (start .args .room)) (start .pre) in
+    let u = fine (now (start .args .image)) (now (start .args .memory)) (now (start .args .room)) (start .pre) in
     omega (arith, at-most _ _ _ (now (start .args .memory)) (now (start .args .room)) u (after-frame-in .frame-in .ensures), good _ (u .bytes) .all)
 
 judged-requires : tie.Need-judged-requires
@@ -113,7 +113,7 @@ refuse-requires : tie.Need-refuse-requires
 refuse-requires c κs =
     let after-state-in = c .before .before in
     let start = after-state-in .before .before .before .before .before .before .before .before .before .before .before .before .before .before .before in
-    rw (after-state-in .state-in .ensures) (may-answer _ _ _ (now (start .args .memory)) (now (start .args .room)) (fine (start .args .plate) (now (start .args .image)) (now (start .args .memory)) (now (start .args .room)) (start .pre)))
+    rw (after-state-in .state-in .ensures) (may-answer _ _ _ (now (start .args .memory)) (now (start .args .room)) (fine (now (start .args .image)) (now (start .args .memory)) (now (start .args .room)) (start .pre)))
 
 same-length-2 : tie.Need-same-length-2
 same-length-2 c = search needs
@@ -132,8 +132,8 @@ returns-2 c =
     let after-frame-in = after-own .before .before in
     let after-slice-known = after-frame-in .before .before .before .before .before in
     let start = after-slice-known .before in
-    let small = lent-small _ (start .pre .image .ours) (λ i. (after-slice-known .slice-known .given i) .fits) in
-    refusal-answered (start .args .plate) (now (start .args .image)) (now (start .args .memory)) (now (start .args .room)) (start .pre) (after-frame-in .frame-in .ensures) (after-judged .judged .result) _ small (after-own .own .ensures) (sym (after-judged .judged .ensures))
+    let small = lent-small _ (start .pre .ours) (λ i. (after-slice-known .slice-known .given i) .fits) in
+    refusal-answered (now (start .args .image)) (now (start .args .memory)) (now (start .args .room)) (start .pre) (after-frame-in .frame-in .ensures) (after-judged .judged .result) _ small (after-own .own .ensures) (sym (after-judged .judged .ensures))
     (no-request (after-judged .judged .result) (after-match .match .keys2)) (rw (after-state-in .state-in .ensures, after-code .code .ensures) at (after-refuse .refuse .ensures))
 
 served-requires : tie.Need-served-requires
@@ -143,7 +143,7 @@ served-requires c κs =
     let after-own = after-judged .before .before .before .before .before in
     let after-frame-in = after-own .before .before in
     let start = after-frame-in .before .before .before .before .before .before in
-    request-servable (start .args .plate) (now (start .args .image)) (now (start .args .memory)) (now (start .args .room)) (start .pre) (after-frame-in .frame-in .ensures) _ (sym (after-judged .judged .ensures) ∙ after-judgement .judgement .given .1)
+    request-servable (now (start .args .image)) (now (start .args .memory)) (now (start .args .room)) (start .pre) (after-frame-in .frame-in .ensures) _ (sym (after-judged .judged .ensures) ∙ after-judgement .judgement .given .1)
 
 same-length-4 : tie.Need-same-length-4
 same-length-4 c = search needs
@@ -162,7 +162,7 @@ returns-3 c =
     let after-own = after-judged .before .before .before .before .before in
     let after-frame-in = after-own .before .before in
     let start = after-frame-in .before .before .before .before .before .before in
-    request-answered (start .args .plate) (now (start .args .image)) (now (start .args .memory)) (now (start .args .room)) (start .pre) (after-frame-in .frame-in .ensures) _ (sym (after-judged .judged .ensures) ∙ after-judgement .judgement .given .1)
+    request-answered (now (start .args .image)) (now (start .args .memory)) (now (start .args .room)) (start .pre) (after-frame-in .frame-in .ensures) _ (sym (after-judged .judged .ensures) ∙ after-judgement .judgement .given .1)
     (after-own .own .ensures) (after-served .served .ensures)
 
 pub answered-spec : {M : Type 1} → statement M
@@ -173,7 +173,7 @@ answered-spec =
     part-core-start
     part-core-end
     frame-in-requires
-    cast-end
+    cast-len
     add-end
     own-requires
     sub-is-silent

@@ -22,11 +22,17 @@ use Rattle.board.proofs.send.Reads as send-reads
 use Rattle.board.proofs.needs_memory.Reads as needs-memory-reads
 use Rattle.board.proofs.on_memory.Reads as on-memory-reads
 use Rattle.board.proofs.on_state.Reads as on-state-reads
+use Rattle.image.proofs.plate_in.Reads as plate-in-reads
 use Rattle.image.proofs.state_in.Reads as state-in-reads
 use Rattle.image.proofs.put_effect.Reads as put-effect-reads
 use Rattle.quicksetter.proofs.events.own.Reads as own-reads
 use Rattle.quicksetter.proofs.events.waits.Reads as waits-reads
 use Rattle.wire.proofs.data_part.Reads as data-part-reads
+
+plate-in-requires : tie.Need-plate-in-requires
+plate-in-requires c κs =
+    let start = c .before .before .before .before in
+    omega (arith, ours-length _ (start .pre .ours))
 
 needs-memory-requires : tie.Need-needs-memory-requires
 needs-memory-requires c κs = search needs
@@ -39,7 +45,8 @@ part-core-start c = search needs
 
 part-core-end : tie.Need-part-core-end
 part-core-end c =
-    let start = c .before .before .before .before .before .before in
+    let after-plate-in = c .before .before .before in
+    let start = after-plate-in .before .before .before .before .before in
     omega (arith, ours-length _ (start .pre .ours))
 
 sub-codes : tie.Need-sub-codes
@@ -50,6 +57,9 @@ part-codes-start c = search needs
 
 part-codes-end : tie.Need-part-codes-end
 part-codes-end c = search needs
+
+add-data-part : tie.Need-add-data-part
+add-data-part c = search needs
 
 sub-data-part : tie.Need-sub-data-part
 sub-data-part c = search needs
@@ -71,14 +81,17 @@ on-memory-requires c κs =
     let after-data-part = c .before .before .before in
     let after-if1 = after-data-part .before .before .before .before .before in
     let after-needs-memory = after-if1 .before in
-    let start = after-needs-memory .before .before .before .before in
-    let may = lent-servable _ (now (start .args .image)) (start .pre .ours) (start .pre .plate) _ _ (start .pre .core) in
-    memory-lent (start .args .plate) (labelIn (now (start .args .image))) (stateIn (take 165 (drop 47 (now (start .args .image))))) _ _ _ (rw (after-data-part .data-part .ensures .0) (may .works)) _ (four-lent _ (may .bytes)) (sym (after-needs-memory .needs-memory .ensures) ∙ after-if1 .if1 .taken)
+    let after-plate-in = after-needs-memory .before in
+    let start = after-plate-in .before .before .before .before .before in
+    let may = lent-servable _ (now (start .args .image)) (start .pre .ours) (after-plate-in .plate-in .ensures) _ _ (start .pre .core) in
+    memory-lent (after-plate-in .plate-in .result) (labelIn (now (start .args .image))) (stateIn (take 165 (drop 47 (now (start .args .image))))) _ _ _
+    (rw (after-data-part .data-part .ensures .0) (may .works)) _ (four-lent _ (may .bytes)) (sym (after-needs-memory .needs-memory .ensures) ∙ after-if1 .if1 .taken)
 
 own-requires : tie.Need-own-requires
 own-requires c κs =
-    let start = c .before .before .before .before .before .before .before .before .before .before .before .before .before .before .before .before .before .before in
-    let may = lent-servable _ (now (start .args .image)) (start .pre .ours) (start .pre .plate) (now (start .args .memory)) (now (start .args .room)) (start .pre .core) in
+    let after-plate-in = c .before .before .before .before .before .before .before .before .before .before .before .before .before .before .before in
+    let start = after-plate-in .before .before .before .before .before in
+    let may = lent-servable _ (now (start .args .image)) (start .pre .ours) (after-plate-in .plate-in .ensures) (now (start .args .memory)) (now (start .args .room)) (start .pre .core) in
     (omega (arith, good _ (may .bytes) .all), may .works .address)
 
 waits-requires : tie.Need-waits-requires
@@ -88,9 +101,10 @@ send-requires : tie.Need-send-requires
 send-requires c κs =
     let after-on-memory = c .before .before .before .before .before .before .before in
     let after-data-part = after-on-memory .before .before .before .before in
-    let start = after-data-part .before .before .before .before .before .before .before .before .before .before in
-    let may = lent-servable _ (now (start .args .image)) (start .pre .ours) (start .pre .plate) (now (start .args .memory)) (now (start .args .room)) (start .pre .core) in
-    let tells = rw (after-data-part .data-part .ensures .0) at (after-on-memory .on-memory .ensures (plateOf (start .args .plate) (labelIn (now (start .args .image)))) (stateWith (stateIn (take 165 (drop 47 (now (start .args .image))))) none) refl (codes-lent _ (may .bytes))) in
+    let after-plate-in = after-data-part .before .before .before .before .before .before .before in
+    let start = after-plate-in .before .before .before .before .before in
+    let may = lent-servable _ (now (start .args .image)) (start .pre .ours) (after-plate-in .plate-in .ensures) (now (start .args .memory)) (now (start .args .room)) (start .pre .core) in
+    let tells = rw (after-data-part .data-part .ensures .0) at (after-on-memory .on-memory .ensures (plateOf (after-plate-in .plate-in .result) (labelIn (now (start .args .image)))) (stateWith (stateIn (take 165 (drop 47 (now (start .args .image))))) none) refl (codes-lent _ (may .bytes))) in
     sendable _ _ _ _ _ (tells .works .answer) (search needs)
 
 same-length : tie.Need-same-length
@@ -109,13 +123,14 @@ returns c =
     let after-own = after-waits .before in
     let after-on-memory = after-own .before .before .before .before .before in
     let after-data-part = after-on-memory .before .before .before .before in
-    let after-slice-known = after-data-part .before .before .before .before .before .before .before .before .before in
+    let after-plate-in = after-data-part .before .before .before .before .before .before .before in
+    let after-slice-known = after-plate-in .before .before .before .before in
     let start = after-slice-known .before in
-    let may = lent-servable _ (now (start .args .image)) (start .pre .ours) (start .pre .plate) (now (start .args .memory)) (now (start .args .room)) (start .pre .core) in
-    let tells = rw (after-data-part .data-part .ensures .0) at (after-on-memory .on-memory .ensures (plateOf (start .args .plate) (labelIn (now (start .args .image)))) (stateWith (stateIn (take 165 (drop 47 (now (start .args .image))))) none) refl (codes-lent _ (may .bytes))) in
+    let may = lent-servable _ (now (start .args .image)) (start .pre .ours) (after-plate-in .plate-in .ensures) (now (start .args .memory)) (now (start .args .room)) (start .pre .core) in
+    let tells = rw (after-data-part .data-part .ensures .0) at (after-on-memory .on-memory .ensures (plateOf (after-plate-in .plate-in .result) (labelIn (now (start .args .image)))) (stateWith (stateIn (take 165 (drop 47 (now (start .args .image))))) none) refl (codes-lent _ (may .bytes))) in
     let serves = told-served _ _ _ _ _ _ (may .works .room) tells (after-send .send .ensures (stateIn (take 165 (drop 47 (now (start .args .image))))) (after-own .own .ensures) (after-waits .waits .ensures)) in
     let small = lent-small _ (start .pre .ours) (λ i. (after-slice-known .slice-known .given i) .fits) in
-    served-still _ (now (start .args .image)) (start .pre .ours) (start .pre .plate) _ _ _ _ (asked-in _ _ _ _ _ _ (may .bytes) small serves)
+    served-still _ (now (start .args .image)) (start .pre .ours) (after-plate-in .plate-in .ensures) _ _ _ _ (asked-in _ _ _ _ _ _ (may .bytes) small serves)
 
 sub-core-2 : tie.Need-sub-core-2
 sub-core-2 c = search needs
@@ -125,7 +140,8 @@ part-core-start-2 c = search needs
 
 part-core-end-2 : tie.Need-part-core-end-2
 part-core-end-2 c =
-    let start = c .before .before .before .before .before .before in
+    let after-plate-in = c .before .before .before in
+    let start = after-plate-in .before .before .before .before .before in
     omega (arith, ours-length _ (start .pre .ours))
 
 sub-label : tie.Need-sub-label
@@ -136,11 +152,15 @@ part-label-start c = search needs
 
 part-label-end : tie.Need-part-label-end
 part-label-end c =
-    let start = c .before .before .before .before .before .before .before in
+    let after-plate-in = c .before .before .before .before in
+    let start = after-plate-in .before .before .before .before .before in
     omega (arith, ours-length _ (start .pre .ours))
 
 state-in-requires : tie.Need-state-in-requires
 state-in-requires c κs = search needs
+
+add-data-part-2 : tie.Need-add-data-part-2
+add-data-part-2 c = search needs
 
 sub-data-part-2 : tie.Need-sub-data-part-2
 sub-data-part-2 c = search needs
@@ -160,10 +180,11 @@ on-state-requires c κs =
     let after-state-in = after-data-part2 .before .before in
     let after-if1 = after-state-in .before .before .before .before in
     let after-needs-memory = after-if1 .before in
-    let start = after-needs-memory .before .before .before .before in
-    let may = lent-servable _ (now (start .args .image)) (start .pre .ours) (start .pre .plate) (now (start .args .memory)) (now (start .args .room)) (start .pre .core) in
+    let after-plate-in = after-needs-memory .before in
+    let start = after-plate-in .before .before .before .before .before in
+    let may = lent-servable _ (now (start .args .image)) (start .pre .ours) (after-plate-in .plate-in .ensures) (now (start .args .memory)) (now (start .args .room)) (start .pre .core) in
     rw (label-there (now (start .args .image)))
-    (changeable (start .args .plate) (labelIn (now (start .args .image))) _ _ (now (start .args .memory)) (now (start .args .room))
+    (changeable (after-plate-in .plate-in .result) (labelIn (now (start .args .image))) _ _ (now (start .args .memory)) (now (start .args .room))
     (rw (after-state-in .state-in .ensures, after-data-part2 .data-part2 .ensures .0) (may .works)) (sym (after-needs-memory .needs-memory .ensures) ∙ after-if1 .if1 .left))
 
 sub-put-effect : tie.Need-sub-put-effect
@@ -174,7 +195,8 @@ part-put-effect-start c = search needs
 
 part-put-effect-end : tie.Need-part-put-effect-end
 part-put-effect-end c =
-    let start = c .before .before .before .before .before .before .before .before .before .before .before .before .before .before .before in
+    let after-plate-in = c .before .before .before .before .before .before .before .before .before .before .before .before in
+    let start = after-plate-in .before .before .before .before .before in
     omega (arith, ours-length _ (start .pre .ours))
 
 put-effect-requires : tie.Need-put-effect-requires
@@ -182,10 +204,11 @@ put-effect-requires c κs =
     let after-on-state = c .before .before .before in
     let after-data-part2 = after-on-state .before .before in
     let after-state-in = after-data-part2 .before .before in
-    let start = after-state-in .before .before .before .before .before .before .before .before .before in
-    let may = lent-servable _ (now (start .args .image)) (start .pre .ours) (start .pre .plate) (now (start .args .memory)) (now (start .args .room)) (start .pre .core) in
+    let after-plate-in = after-state-in .before .before .before .before .before .before in
+    let start = after-plate-in .before .before .before .before .before in
+    let may = lent-servable _ (now (start .args .image)) (start .pre .ours) (after-plate-in .plate-in .ensures) (now (start .args .memory)) (now (start .args .room)) (start .pre .core) in
     let there = sym (label-there (now (start .args .image))) in
-    let worked = rw (after-state-in .state-in .ensures, after-data-part2 .data-part2 .ensures .0) at (after-on-state .on-state .ensures (plateOf (start .args .plate) (labelIn (now (start .args .image)))) (now (start .args .memory)) refl there) in
+    let worked = rw (after-state-in .state-in .ensures, after-data-part2 .data-part2 .ensures .0) at (after-on-state .on-state .ensures (plateOf (after-plate-in .plate-in .result) (labelIn (now (start .args .image)))) (now (start .args .memory)) refl there) in
     (worked .row .placed, record { all = good _ (may .bytes) .all; lock = good _ (may .bytes) .locked })
 
 sub-after : tie.Need-sub-after
@@ -197,9 +220,10 @@ part-after-start c = search needs
 part-after-end : tie.Need-part-after-end
 part-after-end c =
     let after-put-effect = c .before .before .before in
-    let start = after-put-effect .before .before .before .before .before .before .before .before .before .before .before .before .before .before .before .before .before in
-    let may = lent-servable _ (now (start .args .image)) (start .pre .ours) (start .pre .plate) (now (start .args .memory)) (now (start .args .room)) (start .pre .core) in
-    omega (arith, written-long _ (now (start .args .image)) (start .pre .ours) (start .pre .plate) (may .bytes) (after-put-effect .put-effect .ensures))
+    let after-plate-in = after-put-effect .before .before .before .before .before .before .before .before .before .before .before .before .before .before in
+    let start = after-plate-in .before .before .before .before .before in
+    let may = lent-servable _ (now (start .args .image)) (start .pre .ours) (after-plate-in .plate-in .ensures) (now (start .args .memory)) (now (start .args .room)) (start .pre .core) in
+    omega (arith, written-long _ (now (start .args .image)) (start .pre .ours) (after-plate-in .plate-in .ensures) (may .bytes) (after-put-effect .put-effect .ensures))
 
 own-requires-2 : tie.Need-own-requires-2
 own-requires-2 c κs =
@@ -207,12 +231,13 @@ own-requires-2 c κs =
     let after-on-state = after-put-effect .before .before .before .before in
     let after-data-part2 = after-on-state .before .before in
     let after-state-in = after-data-part2 .before .before in
-    let start = after-state-in .before .before .before .before .before .before .before .before .before in
-    let may = lent-servable _ (now (start .args .image)) (start .pre .ours) (start .pre .plate) (now (start .args .memory)) (now (start .args .room)) (start .pre .core) in
+    let after-plate-in = after-state-in .before .before .before .before .before .before in
+    let start = after-plate-in .before .before .before .before .before in
+    let may = lent-servable _ (now (start .args .image)) (start .pre .ours) (after-plate-in .plate-in .ensures) (now (start .args .memory)) (now (start .args .room)) (start .pre .core) in
     let there = sym (label-there (now (start .args .image))) in
-    let worked = rw (after-state-in .state-in .ensures, after-data-part2 .data-part2 .ensures .0) at (after-on-state .on-state .ensures (plateOf (start .args .plate) (labelIn (now (start .args .image)))) (now (start .args .memory)) refl there) in
+    let worked = rw (after-state-in .state-in .ensures, after-data-part2 .data-part2 .ensures .0) at (after-on-state .on-state .ensures (plateOf (after-plate-in .plate-in .result) (labelIn (now (start .args .image)))) (now (start .args .memory)) refl there) in
     let low = effect-low (after-put-effect .put-effect .ensures) (worked .row .placed) (may .works .address) in
-    (search needs, rw (lent-again _ (now (start .args .image)) (start .pre .ours) (start .pre .plate) (may .bytes) (after-put-effect .put-effect .ensures)) low)
+    (search needs, rw (lent-again _ (now (start .args .image)) (start .pre .ours) (after-plate-in .plate-in .ensures) (may .bytes) (after-put-effect .put-effect .ensures)) low)
 
 waits-requires-2 : tie.Need-waits-requires-2
 waits-requires-2 c κs = search needs
@@ -222,11 +247,12 @@ send-requires-2 c κs =
     let after-on-state = c .before .before .before .before .before .before .before .before .before .before .before in
     let after-data-part2 = after-on-state .before .before in
     let after-state-in = after-data-part2 .before .before in
-    let start = after-state-in .before .before .before .before .before .before .before .before .before in
-    let may = lent-servable _ (now (start .args .image)) (start .pre .ours) (start .pre .plate) (now (start .args .memory)) (now (start .args .room)) (start .pre .core) in
+    let after-plate-in = after-state-in .before .before .before .before .before .before in
+    let start = after-plate-in .before .before .before .before .before in
+    let may = lent-servable _ (now (start .args .image)) (start .pre .ours) (after-plate-in .plate-in .ensures) (now (start .args .memory)) (now (start .args .room)) (start .pre .core) in
     let there = sym (label-there (now (start .args .image))) in
-    let worked = rw (after-state-in .state-in .ensures, after-data-part2 .data-part2 .ensures .0) at (after-on-state .on-state .ensures (plateOf (start .args .plate) (labelIn (now (start .args .image)))) (now (start .args .memory)) refl there) in
-    sendable _ _ _ _ _ (worked .row .answer) (still-wide (plateOf (start .args .plate) (labelIn (now (start .args .image)))) _ _ _ _ _ (may .works .room) worked)
+    let worked = rw (after-state-in .state-in .ensures, after-data-part2 .data-part2 .ensures .0) at (after-on-state .on-state .ensures (plateOf (after-plate-in .plate-in .result) (labelIn (now (start .args .image)))) (now (start .args .memory)) refl there) in
+    sendable _ _ _ _ _ (worked .row .answer) (still-wide (plateOf (after-plate-in .plate-in .result) (labelIn (now (start .args .image)))) _ _ _ _ _ (may .works .room) worked)
 
 same-length-4 : tie.Need-same-length-4
 same-length-4 c = search needs
@@ -243,18 +269,20 @@ returns-2 c =
     let after-on-state = after-put-effect .before .before .before .before in
     let after-data-part2 = after-on-state .before .before in
     let after-state-in = after-data-part2 .before .before in
-    let start = after-state-in .before .before .before .before .before .before .before .before .before in
-    let may = lent-servable _ (now (start .args .image)) (start .pre .ours) (start .pre .plate) (now (start .args .memory)) (now (start .args .room)) (start .pre .core) in
+    let after-plate-in = after-state-in .before .before .before .before .before .before in
+    let start = after-plate-in .before .before .before .before .before in
+    let may = lent-servable _ (now (start .args .image)) (start .pre .ours) (after-plate-in .plate-in .ensures) (now (start .args .memory)) (now (start .args .room)) (start .pre .core) in
     let there = sym (label-there (now (start .args .image))) in
-    let worked = rw (after-state-in .state-in .ensures, after-data-part2 .data-part2 .ensures .0) at (after-on-state .on-state .ensures (plateOf (start .args .plate) (labelIn (now (start .args .image)))) (now (start .args .memory)) refl there) in
-    let again = lent-again _ (now (start .args .image)) (start .pre .ours) (start .pre .plate) (may .bytes) (after-put-effect .put-effect .ensures) in
+    let worked = rw (after-state-in .state-in .ensures, after-data-part2 .data-part2 .ensures .0) at (after-on-state .on-state .ensures (plateOf (after-plate-in .plate-in .result) (labelIn (now (start .args .image)))) (now (start .args .memory)) refl there) in
+    let again = lent-again _ (now (start .args .image)) (start .pre .ours) (after-plate-in .plate-in .ensures) (may .bytes) (after-put-effect .put-effect .ensures) in
     let sends = after-send .send2 .ensures _ (rw again at (after-own .own2 .ensures)) (rw again at (after-waits .waits2 .ensures)) in
-    served-anew _ (now (start .args .image)) (start .pre .ours) (start .pre .plate) _ _ _ _ (ordered-in (plateOf (start .args .plate) (labelIn (now (start .args .image)))) _ _ _ _ _ (may .works .room) worked (after-put-effect .put-effect .ensures) sends)
+    served-anew _ (now (start .args .image)) (start .pre .ours) (after-plate-in .plate-in .ensures) _ _ _ _ (ordered-in (plateOf (after-plate-in .plate-in .result) (labelIn (now (start .args .image)))) _ _ _ _ _ (may .works .room) worked (after-put-effect .put-effect .ensures) sends)
 
 pub served-spec : {M : Type 1} → statement M
 served-spec =
     tie.close
     (tie.spec
+    plate-in-requires
     needs-memory-requires
     sub-core
     part-core-start
@@ -262,6 +290,7 @@ served-spec =
     sub-codes
     part-codes-start
     part-codes-end
+    add-data-part
     sub-data-part
     part-data-part-start
     part-data-part-end
@@ -282,6 +311,7 @@ served-spec =
     part-label-start
     part-label-end
     state-in-requires
+    add-data-part-2
     sub-data-part-2
     part-data-part-start-2
     part-data-part-end-2

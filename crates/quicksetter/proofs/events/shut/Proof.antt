@@ -8,21 +8,12 @@ use Rattle.quicksetter.proofs.events.shut.Statement.{statement}
 use Rattle.quicksetter.proofs.events.shut.Tie as tie
 use Rattle.quicksetter.proofs.events.shut.Reads as reads
 use Rattle.quicksetter.proofs.events.shut.Lts as lts
-use Rattle.image.proofs.plate_in.Reads as plate-in-reads
 use Rattle.image.proofs.put_frame.Reads as put-frame-reads
 use Rattle.line.proofs.characters.OpenFrame.none.Reads as none-reads
 use Rattle.quicksetter.proofs.events.answered.Reads as answered-reads
 
-plate-in-requires : tie.Need-plate-in-requires
-plate-in-requires c κs =
-    let start = c .before .before .before .before in
-    omega (arith, ours-length _ (start .pre .ours))
-
 answered-requires : tie.Need-answered-requires
-answered-requires c κs =
-    let after-plate-in = c .before .before .before in
-    let start = after-plate-in .before .before .before .before .before in
-    record { plate = after-plate-in .plate-in .ensures; image = start .pre }
+answered-requires c κs = search needs
 
 none-requires : tie.Need-none-requires
 none-requires c κs = search needs
@@ -36,7 +27,7 @@ part-put-frame-start c = search needs
 part-put-frame-end : tie.Need-part-put-frame-end
 part-put-frame-end c =
     let after-answered = c .before .before .before .before .before .before .before in
-    let start = after-answered .before .before .before .before .before .before .before .before .before in
+    let start = after-answered .before .before .before .before .before .before .before in
     omega (arith, answered-long (now (start .args .image)) _ _ (start .pre) (after-answered .answered .ensures))
 
 put-frame-requires : tie.Need-put-frame-requires
@@ -56,14 +47,13 @@ returns c =
     let after-put-frame = c .before .before in
     let after-none = after-put-frame .before .before in
     let after-answered = after-none .before .before .before .before .before .before .before in
-    let start = after-answered .before .before .before .before .before .before .before .before .before in
+    let start = after-answered .before .before .before .before .before .before .before in
     shuts (now (start .args .image)) _ _ (start .pre) (after-answered .answered .ensures) (after-none .none .ensures) (after-put-frame .put-frame .ensures)
 
 pub shut-spec : {M : Type 1} → statement M
 shut-spec =
     tie.close
     (tie.spec
-    plate-in-requires
     answered-requires
     none-requires
     sub-put-frame
