@@ -7,7 +7,7 @@ use mathlib.Core.List.{List}
 use borrow.Author.Tests.{eqb-true, ne-eqb, leb-true}
 use lib.Dec.{eqb, leb}
 use lib.ListN.{length}
-use Rattle.meaning.specs.Bytes.{pick, both, either, arg}
+use Rattle.meaning.specs.Bytes.{pick, either, arg}
 use Rattle.meaning.specs.Fields.{survey}
 use Rattle.meaning.specs.State as meaning
 use Rattle.meaning.specs.State.{none}

@@ -1,6 +1,6 @@
 // A frame is closed: judged, worked, answered (01, "Characters become frames").
 ghost use mathlib.Core.Path.{_≡_};
-ghost use mathlib.Core.Bool.{true, false};
+ghost use mathlib.Core.Bool.{false};
 ghost use Prim.Native.Nat.{_≤_};
 ghost use Rattle.meaning.specs.State as meaning;
 ghost use Rattle.meaning.specs.State.{lastAddress};

@@ -49,7 +49,7 @@ pub fn plate_in(image: &[u8]) -> Plate
     }
 }
 
-// A possible plate's numbers are bytes.
+// A possible plate's numbers are bytes. The label goes by an array, whose length is known, so that it is copied in a few steps.
 pub fn put_head(plate: Plate, label: &[u8], image: &mut [u8])
     requires { ⌜ plateOk (plateOf plate (now label)) ≡ true ⌝ }
     requires { ⌜ imageLength ≤ length (now image) ⌝ }

@@ -1,7 +1,6 @@
 -- 02, Req 01: after any run the board answers to exactly one address of 0 to 31, the one that the traffic tells, and to FFh. Assumes nothing.
 use Prim.Native.Nat.{ℕ, _+_, _≤_}
 use mathlib.Core.Path.{_≡_, refl, sym, ap, _∙_}
-use mathlib.Core.Logic.{_≢_}
 use mathlib.Core.Bool.{Bool, true, false, not}
 use mathlib.Core.List.{List}
 use native.Mathlib.Omega.{arith}
@@ -10,12 +9,12 @@ use lib.ListN.{length}
 use Rattle.meaning.specs.Bytes.{pick, either, arg}
 use Rattle.meaning.specs.State.{Plate, State, ownByte}
 use Rattle.meaning.specs.Characters.{Frame}
-use Rattle.meaning.specs.Frames.{Ending, short, elsewhere, answered, ending, ours, judged, leaves, still, work, commandByte}
+use Rattle.meaning.specs.Frames.{short, elsewhere, answered, ending, ours, judged, leaves, still, work, commandByte}
 use Rattle.meaning.specs.Run.{run, traffic}
 use Rattle.meaning.specs.Ledger.{addressOf, AnswersTo, AnswersToOne}
 use Rattle.meaning.proofs.Cases.{eq→eqb}
 use Rattle.meaning.proofs.Room.{not-short, yes-not}
-use Rattle.meaning.proofs.Limits.{Lim, run-lim, plate-address}
+use Rattle.meaning.proofs.Limits.{run-lim, plate-address}
 use Rattle.meaning.proofs.Whole.{memory-by-traffic}
 
 or-first : (x y : Bool) → T x → T (either x y)

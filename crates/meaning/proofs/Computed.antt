@@ -3,7 +3,7 @@ use Prim.Native.Nat.{ℕ}
 use mathlib.Core.Path.{_≡_, refl, ap}
 use mathlib.Core.List.{List, [], _∷_}
 use lib.Dec.{T}
-use Rattle.meaning.specs.Bytes.{both, same, zeros, part, put, blank, xorFrom, xorAll, among, bytes3, bytes4, number}
+use Rattle.meaning.specs.Bytes.{same, zeros, part, put, blank, xorFrom, xorAll, among, bytes3, bytes4, number}
 use Rattle.meaning.specs.State.{Plate, State, fresh, none, withLine, ownByte, boardByte, withCodes, withCounter, withAddress, withOffset, withQueue, code, queued, position, offsetFor}
 use Rattle.meaning.specs.Fields.{memoryLength, blocks, coded, codeNo, writable, exists, table, fieldCount, used, sound, freeBlocks, statusAt, start, survey, clear, putStatus}
 use Rattle.meaning.specs.Commands.{commandOf, row, lengthFits, asked, error, choose, wrongCode, readPosition, setPosition, readCounter, stepCounter, clearCounter, onField}

@@ -1,17 +1,16 @@
 -- The sheet's lines hold of characters and polls. Assumes nothing.
 use Prim.Native.Nat.{ℕ}
 use mathlib.Core.Path.{_≡_, refl, sym, ap, ap₂, subst, _∙_}
-use mathlib.Core.Bool.{Bool, true, false}
 use mathlib.Core.List.{List, [], _∷_}
 use lib.Dec.{T, eqb, eqb→eq}
 use Rattle.meaning.specs.Bytes.{both, same, zeros}
 use Rattle.meaning.specs.State.{Plate, State, Line, none, fresh, withCounter, withLine}
 use Rattle.meaning.specs.Fields.{memoryLength}
 use Rattle.meaning.specs.Characters.{whole}
-use Rattle.meaning.specs.Frames.{Outcome, work, resting, upTo}
-use Rattle.meaning.specs.Run.{Call, poll, Heard, step, runFrom, closes}
+use Rattle.meaning.specs.Frames.{Outcome, work, resting}
+use Rattle.meaning.specs.Run.{poll, Heard, step, runFrom, closes}
 use Rattle.meaning.specs.Sheet.{Case, fits, holds, allHold, sheet, sheetPlate}
-use Rattle.meaning.specs.Demands.{atClose, spoken, PlayedInTurn, AllPlay, SheetByCharacters}
+use Rattle.meaning.specs.Demands.{PlayedInTurn, AllPlay, SheetByCharacters}
 use Rattle.meaning.proofs.Steps.{both-0, both-1}
 use Rattle.meaning.proofs.Computed.{sheet-holds}
 use Rattle.meaning.proofs.Lines.{heard-whole, rests-same}

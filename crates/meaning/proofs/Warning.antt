@@ -11,7 +11,7 @@ use Rattle.meaning.specs.State.{Plate, State, withLine}
 use Rattle.meaning.specs.Commands.{Answer, refuse, accept, quiet}
 use Rattle.meaning.specs.Characters.{Frame, over, closed, taken}
 use Rattle.meaning.specs.Frames.{commandByte, judged, ours, sealed, message, Outcome, still, outcome, short, elsewhere, answered, ending, leaves, work, resting, close, upTo}
-use Rattle.meaning.specs.Run.{Call, character, poll, measured, fault, power-on, step}
+use Rattle.meaning.specs.Run.{character, poll, measured, fault, power-on, step}
 use Rattle.meaning.specs.Bench.{warning}
 use Rattle.meaning.specs.Demands.{waits, WarnsExactly}
 use Rattle.meaning.proofs.Wire.{warning-is}

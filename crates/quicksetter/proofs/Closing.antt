@@ -1,14 +1,14 @@
 -- A core that is not refused: what a poll leaves of it, and a character after that. Assumes nothing.
-use Prim.Native.Nat.{ℕ, _+_, _-_, _<_, _≤_, _^_}
+use Prim.Native.Nat.{ℕ, _+_, _-_, _<_, _≤_}
 use native.Mathlib.Omega.{arith}
 use mathlib.Core.Path.{_≡_, refl, sym, ap, _∙_}
 use mathlib.Core.Bool.{Bool, true, false}
 use mathlib.Core.List.{List, [], _∷_, _++_}
-use borrow.Author.Tests.{eq-eqb, le-ltb, leb-true}
-use lib.Dec.{eqb, leb, ltb}
+use borrow.Author.Tests.{eq-eqb, le-ltb}
+use lib.Dec.{eqb}
 use lib.ListN.{length, take, drop, length-take}
 use lib.Seq.{take-at, take-take, length-take-le}
-use Rattle.meaning.specs.Bytes.{pick, both, longestRequest, longestReply, put, arg}
+use Rattle.meaning.specs.Bytes.{pick, longestRequest, longestReply, put, arg}
 use Rattle.meaning.specs.State.{Plate, Line, none, withLine, stateOk, ownByte}
 use Rattle.meaning.specs.Fields.{memoryLength}
 use Rattle.meaning.specs.Characters.{over, more, taken, closed}

@@ -1,6 +1,5 @@
 -- The open frame of an image is closed: judged, worked and answered on its lent core, then put away. Assumes nothing.
 use Prim.Native.Nat.{ℕ, _+_, _-_, _<_, _≤_}
-use native.Mathlib.Omega.{arith}
 use mathlib.Core.Path.{_≡_, refl, ap, _∙_}
 use mathlib.Core.Bool.{true, false}
 use mathlib.Core.List.{List, _++_}
@@ -25,9 +24,9 @@ use Rattle.image.specs.Image.{isOurs, isCore, headIn, coreIn, plateOfHead, labe
 use Rattle.image.specs.Writes.{PutsEffect, PutsFrame}
 use Rattle.image.proofs.Round.{good}
 use Rattle.quicksetter.specs.Calls.{plateHeld}
-use Rattle.quicksetter.specs.Cores.{dataTo, Unrefused, Servable, ServedIn, ClosedIn, ImageUnrefused, ImageServable, ImageServed, ImageAnswered, ImageShuts}
+use Rattle.quicksetter.specs.Cores.{dataTo, Unrefused, Servable, ServedIn, ImageUnrefused, ImageServable, ImageServed, ImageAnswered, ImageShuts}
 use Rattle.quicksetter.proofs.Heads.{ours-length, head-length, core-of-whole, lent-core, core-back}
-use Rattle.quicksetter.proofs.Closing.{as-long, at-most, refused-in, servable, request-in, put-away}
+use Rattle.quicksetter.proofs.Closing.{as-long, refused-in, servable, request-in, put-away}
 use Rattle.quicksetter.proofs.Wholes.{joined}
 
 -- the label bytes, lent out of the image

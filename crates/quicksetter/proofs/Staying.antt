@@ -2,7 +2,7 @@
 use Prim.Native.Nat.{ℕ, _≤_, _^_}
 use native.Mathlib.Omega.{arith}
 use native.Mathlib.Nat.{pow-le-pow-right, zero-lt-suc}
-use mathlib.Core.Path.{_≡_, refl, sym, ap, ap₂, subst, _∙_}
+use mathlib.Core.Path.{_≡_, refl, sym, ap, subst, _∙_}
 use mathlib.Core.Bool.{Bool, true, false, false≢true}
 use mathlib.Core.List.{List, _++_}
 use borrow.Author.Tests.{eq-eqb, le-leb, le-ltb, leb-true, ltb-true}
@@ -19,7 +19,6 @@ use Rattle.meaning.proofs.Choices.{told-true, true-told, pick-same, both-left, 
 use Rattle.meaning.proofs.Limits.{to-lim, keeps-limits, replies-fit}
 use Rattle.meaning.proofs.Sizes.{keeps-size}
 use Rattle.meaning.proofs.Puts.{length-put}
-use Rattle.line.specs.Line.{plateOf}
 use Rattle.line.proofs.Limits.{few-bits}
 use Rattle.image.specs.Image.{flagByte, flagsOk, isOurs, isCore, headIn, coreIn, heldIn, keptIn, restedIn, stateBytes, lineBytes, headOf, coreOf}
 use Rattle.image.proofs.Standing.{Typed}

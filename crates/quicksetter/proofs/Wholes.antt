@@ -18,7 +18,7 @@ use Rattle.image.specs.Writes.{Takes}
 use Rattle.image.proofs.Round.{good}
 use Rattle.quicksetter.specs.Calls.{plateHeld, stateHeld, Called}
 use Rattle.quicksetter.specs.Cores.{refusalIn, ImageUnrefused, ImageShuts, ImagePolls}
-use Rattle.quicksetter.proofs.Heads.{ours-length, head-length, core-of-whole, lent-core, core-back, called-of}
+use Rattle.quicksetter.proofs.Heads.{ours-length, head-length, lent-core, core-back, called-of}
 use Rattle.quicksetter.proofs.Refusing.{refused-as, refused-alone, unrefused}
 use Rattle.quicksetter.proofs.Closing.{nothing-over, core-again, then-taken}
 

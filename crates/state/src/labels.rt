@@ -23,7 +23,7 @@ pub fn read_label(label: &[u8], room: &mut [u8]) -> Worked
     accepted(Effect::Nothing, 4)
 }
 
-// 56h: serial number, program version and date.
+// 56h: serial number, program version and date. They go by an array, whose length is known, so that they are copied in a few steps and not byte by byte.
 pub fn read_version(label: &[u8], room: &mut [u8]) -> Worked
     requires { ⌜ (length (now label) ≡ labelLength) × (longestReply ≤ length (now room)) ⌝ }
     ensures { λ r. ⌜ ((p : Plate) (s : State) (l : Line) (m d : List ℕ) → p .label ≡ now (label .entry) → Answers c56 p s l m d (now (room .entry)) r (now (room .exit))) ⌝ }

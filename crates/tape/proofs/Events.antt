@@ -10,8 +10,8 @@ use lib.Seq.{take-all}
 use borrow.Author.Tests.{eq-eqb, ne-eqb, lt-leb, le-leb}
 use Rattle.meaning.specs.Bytes.{pick, part, arg, little, zeros}
 use Rattle.meaning.specs.State.{Plate, labelLength}
-use Rattle.meaning.specs.Run.{character, fault}
-use Rattle.tape.specs.Kinds.{Said, plate, call, unfit, plateIn, characterIn, sized, callOf}
+use Rattle.meaning.specs.Run.{character}
+use Rattle.tape.specs.Kinds.{Said, plate, call, unfit, characterIn, sized, callOf}
 use Rattle.tape.specs.Reader.{readAt}
 use Rattle.tape.specs.Passes.{NextRecord, incomplete, says, longestRecord, nextRecordBy, nextRecord}
 use Rattle.tape.specs.declared.record.Read.{Read}

@@ -1,10 +1,10 @@
 -- No two differing outcomes satisfy a contract: the law for all contracts that are equations, and the frame's own (01, "How tightly the contracts bind"). Assumes nothing.
 use mathlib.Core.Path.{_≡_, refl, sym, ap, _∙_}
 use mathlib.Core.Bool.{Bool}
-use mathlib.Core.List.{List, [], _∷_}
+use mathlib.Core.List.{List}
 use Prim.Native.Nat.{ℕ}
 use lib.ListN.{length, length-replicate}
-use Rattle.meaning.specs.Bytes.{arg, zeros}
+use Rattle.meaning.specs.Bytes.{zeros}
 use Rattle.meaning.specs.State.{Plate, State, fresh, withAddress, ownByte}
 use Rattle.meaning.specs.Commands.{commandOf, row, lengthFits}
 use Rattle.meaning.specs.Commands as meaning

@@ -3,7 +3,6 @@ use Rattle.bench.proofs.Laws.{not-written, written-long, reply-short, s
 use Rattle.bench.specs.Outcomes.{withoutData}
 use Rattle.meaning.specs.Bench as meaning
 use Rattle.meaning.specs.Bench.{written, rightAddress, bare, errorReply, content}
-use Rattle.meaning.specs.Bytes.{arg}
 use Rattle.meaning.specs.Frames.{commandByte}
 use Rattle.meaning.specs.Bytes.{xorAll}
 use borrow.Author.Tests.{not-true, not-false}

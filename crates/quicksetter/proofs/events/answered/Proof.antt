@@ -8,7 +8,7 @@ use lib.ListN.{take, drop}
 use Rattle.line.specs.Line.{frameOf}
 use Rattle.line.proofs.Judging.{no-request, passed-over}
 use Rattle.board.proofs.Sending.{fault-silent}
-use Rattle.image.specs.Image.{keptAt, labelIn, stateIn}
+use Rattle.image.specs.Image.{keptAt}
 use Rattle.image.proofs.Round.{good}
 use Rattle.quicksetter.proofs.Heads.{ours-length, lent-small}
 use Rattle.quicksetter.proofs.Closing.{low-own, may-answer, at-most}

@@ -1,7 +1,6 @@
 -- `quicksetter::events::shut` meets its contract. Assumes nothing.
 use native.Mathlib.Omega.{arith}
 use denote.Ref.{now}
-use Rattle.quicksetter.proofs.Heads.{ours-length}
 use Rattle.quicksetter.proofs.Serving.{answered-long, shuts}
 use borrow.Author.Needs.{needs}
 use Rattle.quicksetter.proofs.events.shut.Statement.{statement}
