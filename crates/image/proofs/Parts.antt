@@ -78,9 +78,6 @@ module _ (core : List ℕ) (all : length core ≡ 165) where
 
   -- the places are lent and come back, then the frame's numbers are written
   module _ (kept nine : List ℕ) (c : length kept ≡ 135) (b : length nine ≡ 9) where
-    back-length : length (take 30 core ++ (kept ++ drop 135 (drop 30 core))) ≡ 165
-    back-length = rw no-more (simp length-append (omega (arith, length-take-le 30 core (omega arith))))
-
     pub renewed : put (take 30 core ++ (kept ++ drop 135 (drop 30 core))) 21 nine ≡ take 21 core ++ (nine ++ kept)
     unfolding put
     renewed =

@@ -77,19 +77,19 @@ still-ours img core e n =
     let l : eqb (arg img 0) 2 ≡ true = both-right (eqb (length img) 212) (eqb (arg img 0) 2) e in
     rw (k, layout-stays img core all, l)
 
-pub lent-small : (img : List ℕ) → isOurs img ≡ true → ((i : ℕ) → arg img i < 256) → (i : ℕ) → arg (take 165 (drop 47 img)) i < 256
-lent-small img e small i = rw (lent-core img (ours-length img e), getD-drop 47 img i 0) (small (47 + i))
+-- the core of an image of bytes, and the one that is lent
+pub core-small : (img : List ℕ) → ((i : ℕ) → arg img i < 256) → (i : ℕ) → arg (coreIn img) i < 256
+core-small img small i = rw (getD-drop 47 img i 0) (small (47 + i))
 
-past : (xs : List ℕ) (i n : ℕ) → arg (drop n xs) i ≡ arg xs (n + i)
-past xs i n = getD-drop n xs i 0
+pub lent-small : (img : List ℕ) → isOurs img ≡ true → ((i : ℕ) → arg img i < 256) → (i : ℕ) → arg (take 165 (drop 47 img)) i < 256
+lent-small img e small i = rw (lent-core img (ours-length img e)) (core-small img small i)
 
 -- an image's own bytes: what it holds is written back as it was
 pub whole-as-it-was : (img : List ℕ) → isImage img ≡ true → ((i : ℕ) → arg img i < 256) → headIn img ++ coreOf (stateHeld img) (keptIn (coreIn img)) ≡ img
 unfolding isImage
 whole-as-it-was img e small =
     let c : isCore (coreIn img) ≡ true = both-right (isOurs img) (isCore (coreIn img)) e in
-    let low : (i : ℕ) → arg (coreIn img) i < 256 = λ i. rw (past img i 47) (small (47 + i)) in
-    ap (λ (x : List ℕ). headIn img ++ x) (core-as-it-was (coreIn img) c low) ∙ take-append-drop 47 img
+    ap (λ (x : List ℕ). headIn img ++ x) (core-as-it-was (coreIn img) c (core-small img small)) ∙ take-append-drop 47 img
 
 module _ (img m w : List ℕ) (g : Call) where
   -- R1 of another length or another layout

@@ -5,7 +5,7 @@ use mathlib.Core.Path.{_≡_, sym, ap, _∙_}
 use mathlib.Core.Bool.{Bool, true, false}
 use mathlib.Core.List.{List, _++_}
 use lib.ListN.{length, take, drop, length-append, take-append-drop}
-use lib.Seq.{take-at, getD-drop}
+use lib.Seq.{take-at}
 use Rattle.meaning.specs.Bytes.{pick, arg}
 use Rattle.meaning.specs.State.{none}
 use Rattle.meaning.specs.Characters.{over, more}
@@ -18,7 +18,7 @@ use Rattle.image.specs.Writes.{Takes}
 use Rattle.image.proofs.Round.{good}
 use Rattle.quicksetter.specs.Calls.{plateHeld, stateHeld, Called}
 use Rattle.quicksetter.specs.Cores.{refusalIn, ImageUnrefused, ImageShuts, ImagePolls}
-use Rattle.quicksetter.proofs.Heads.{ours-length, head-length, lent-core, core-back, called-of}
+use Rattle.quicksetter.proofs.Heads.{ours-length, head-length, lent-core, core-back, core-small, called-of}
 use Rattle.quicksetter.proofs.Refusing.{refused-as, refused-alone, unrefused}
 use Rattle.quicksetter.proofs.Closing.{nothing-over, core-again, then-taken}
 
@@ -60,8 +60,7 @@ module _ (img m w : List ℕ) (u : ImageUnrefused img (length m) (length w)) (ti
 
   pub polled-early : ((i : ℕ) → arg img i < 256) → over (plateHeld img) (stateHeld img) tick ≡ false → ImagePolls img m w tick 0 img m w
   polled-early small o =
-      let low : (i : ℕ) → arg (coreIn img) i < 256 = λ i. rw (getD-drop 47 img i 0) (small (47 + i)) in
-      record { core = nothing-over (plateHeld img) (coreIn img) m w (u .core) tick low o; head = joined img }
+      record { core = nothing-over (plateHeld img) (coreIn img) m w (u .core) tick (core-small img small) o; head = joined img }
 
   module _ {r : ℕ} {img′ m′ w′ : List ℕ} (a : ImagePolls img m w tick r img′ m′ w′) where
     pub poll-whole : Called img m w (poll tick) r img′ m′ w′
@@ -85,7 +84,6 @@ module _ (img m w : List ℕ) (u : ImageUnrefused img (length m) (length w)) (ti
         → Takes (more (pick (frameIn (take 165 (drop 47 img′)) .begun) (lineOf (frameIn (take 165 (drop 47 img′))) (keptIn (take 165 (drop 47 img′)))) none) tick v bad) (take 165 (drop 47 img′)) core″
         → Called img m w (character tick v worse) r (take 47 img′ ++ (core″ ++ drop 165 (drop 47 img′))) m′ w′
     character-whole v {bad} {worse} {core″} b small t =
-        let low : (i : ℕ) → arg (coreIn img′) i < 256 = λ i. rw (getD-drop 47 img′ i 0) (small (47 + i)) in
         let k : Takes (more (pick (frameIn (coreIn img′) .begun) (lineOf (frameIn (coreIn img′)) (keptIn (coreIn img′))) none) tick v bad) (coreIn img′) core″ = rw (lent-core img′ as-long) at t in
-        called-of img m w (character tick v worse) (u .ours) (then-taken (plateHeld img) (coreIn img) m w (u .core) tick (a .core) v b low k)
+        called-of img m w (character tick v worse) (u .ours) (then-taken (plateHeld img) (coreIn img) m w (u .core) tick (a .core) v b (core-small img′ small) k)
         (core-back img′ core″ as-long ∙ ap (λ (x : List ℕ). x ++ core″) head-kept)

@@ -1,4 +1,5 @@
 -- `quicksetter::events::served` meets its contract. Assumes nothing.
+use Prim.Native.Nat.{_+_}
 use mathlib.Core.Path.{refl, sym, _∙_}
 use native.Mathlib.Omega.{arith}
 use denote.Ref.{now}
@@ -6,10 +7,11 @@ use lib.ListN.{take, drop}
 use Rattle.meaning.specs.State.{none}
 use Rattle.line.specs.Line.{plateOf}
 use Rattle.state.specs.State.{stateWith}
-use Rattle.image.specs.Image.{labelIn, stateIn}
+use Rattle.image.specs.Image.{keptAt, labelIn, stateIn}
 use Rattle.image.proofs.Round.{good}
 use Rattle.board.proofs.Dispatch.{changeable, memory-lent}
 use Rattle.board.proofs.Endings.{sendable, still-wide, told-served}
+use Rattle.quicksetter.specs.Cores.{Servable}
 use Rattle.quicksetter.proofs.Heads.{ours-length, lent-small}
 use Rattle.quicksetter.proofs.Closing.{asked-in, ordered-in, codes-lent, four-lent}
 use Rattle.quicksetter.proofs.Serving.{effect-low, label-there, lent-servable, written-long, lent-again, served-still, served-anew}
@@ -28,6 +30,17 @@ use Rattle.image.proofs.put_effect.Reads as put-effect-reads
 use Rattle.quicksetter.proofs.events.own.Reads as own-reads
 use Rattle.quicksetter.proofs.events.waits.Reads as waits-reads
 use Rattle.wire.proofs.data_part.Reads as data-part-reads
+
+-- where the call began
+abbrev start-of : tie.After-plate-in → tie.Start
+start-of c =
+    let start = c .before .before .before .before .before in
+    start
+
+-- the request may be worked on the lent core
+may : (c : tie.After-plate-in) → Servable (c .plate-in .result) (labelIn (now (start-of c .args .image))) (start-of c .args .command) (keptAt + start-of c .args .len)
+    (take 165 (drop 47 (now (start-of c .args .image)))) (now (start-of c .args .memory)) (now (start-of c .args .room))
+may c = lent-servable _ (now (start-of c .args .image)) (start-of c .pre .ours) (c .plate-in .ensures) _ _ (start-of c .pre .core)
 
 plate-in-requires : tie.Need-plate-in-requires
 plate-in-requires c κs =
@@ -83,16 +96,14 @@ on-memory-requires c κs =
     let after-needs-memory = after-if1 .before in
     let after-plate-in = after-needs-memory .before in
     let start = after-plate-in .before .before .before .before .before in
-    let may = lent-servable _ (now (start .args .image)) (start .pre .ours) (after-plate-in .plate-in .ensures) _ _ (start .pre .core) in
     memory-lent (after-plate-in .plate-in .result) (labelIn (now (start .args .image))) (stateIn (take 165 (drop 47 (now (start .args .image))))) _ _ _
-    (rw (after-data-part .data-part .ensures .0) (may .works)) _ (four-lent _ (may .bytes)) (sym (after-needs-memory .needs-memory .ensures) ∙ after-if1 .if1 .taken)
+    (rw (after-data-part .data-part .ensures .0) (may after-plate-in .works)) _ (four-lent _ (may after-plate-in .bytes)) (sym (after-needs-memory .needs-memory .ensures) ∙ after-if1 .if1 .taken)
 
 own-requires : tie.Need-own-requires
 own-requires c κs =
     let after-plate-in = c .before .before .before .before .before .before .before .before .before .before .before .before .before .before .before in
     let start = after-plate-in .before .before .before .before .before in
-    let may = lent-servable _ (now (start .args .image)) (start .pre .ours) (after-plate-in .plate-in .ensures) (now (start .args .memory)) (now (start .args .room)) (start .pre .core) in
-    (omega (arith, good _ (may .bytes) .all), may .works .address)
+    (omega (arith, good _ (may after-plate-in .bytes) .all), may after-plate-in .works .address)
 
 waits-requires : tie.Need-waits-requires
 waits-requires c κs = search needs
@@ -103,8 +114,8 @@ send-requires c κs =
     let after-data-part = after-on-memory .before .before .before .before in
     let after-plate-in = after-data-part .before .before .before .before .before .before .before in
     let start = after-plate-in .before .before .before .before .before in
-    let may = lent-servable _ (now (start .args .image)) (start .pre .ours) (after-plate-in .plate-in .ensures) (now (start .args .memory)) (now (start .args .room)) (start .pre .core) in
-    let tells = rw (after-data-part .data-part .ensures .0) at (after-on-memory .on-memory .ensures (plateOf (after-plate-in .plate-in .result) (labelIn (now (start .args .image)))) (stateWith (stateIn (take 165 (drop 47 (now (start .args .image))))) none) refl (codes-lent _ (may .bytes))) in
+    let tells = rw (after-data-part .data-part .ensures .0) at
+    (after-on-memory .on-memory .ensures (plateOf (after-plate-in .plate-in .result) (labelIn (now (start .args .image)))) (stateWith (stateIn (take 165 (drop 47 (now (start .args .image))))) none) refl (codes-lent _ (may after-plate-in .bytes))) in
     sendable _ _ _ _ _ (tells .works .answer) (search needs)
 
 same-length : tie.Need-same-length
@@ -126,11 +137,11 @@ returns c =
     let after-plate-in = after-data-part .before .before .before .before .before .before .before in
     let after-slice-known = after-plate-in .before .before .before .before in
     let start = after-slice-known .before in
-    let may = lent-servable _ (now (start .args .image)) (start .pre .ours) (after-plate-in .plate-in .ensures) (now (start .args .memory)) (now (start .args .room)) (start .pre .core) in
-    let tells = rw (after-data-part .data-part .ensures .0) at (after-on-memory .on-memory .ensures (plateOf (after-plate-in .plate-in .result) (labelIn (now (start .args .image)))) (stateWith (stateIn (take 165 (drop 47 (now (start .args .image))))) none) refl (codes-lent _ (may .bytes))) in
-    let serves = told-served _ _ _ _ _ _ (may .works .room) tells (after-send .send .ensures (stateIn (take 165 (drop 47 (now (start .args .image))))) (after-own .own .ensures) (after-waits .waits .ensures)) in
+    let tells = rw (after-data-part .data-part .ensures .0) at
+    (after-on-memory .on-memory .ensures (plateOf (after-plate-in .plate-in .result) (labelIn (now (start .args .image)))) (stateWith (stateIn (take 165 (drop 47 (now (start .args .image))))) none) refl (codes-lent _ (may after-plate-in .bytes))) in
+    let serves = told-served _ _ _ _ _ _ (may after-plate-in .works .room) tells (after-send .send .ensures (stateIn (take 165 (drop 47 (now (start .args .image))))) (after-own .own .ensures) (after-waits .waits .ensures)) in
     let small = lent-small _ (start .pre .ours) (λ i. (after-slice-known .slice-known .given i) .fits) in
-    served-still _ (now (start .args .image)) (start .pre .ours) (after-plate-in .plate-in .ensures) _ _ _ _ (asked-in _ _ _ _ _ _ (may .bytes) small serves)
+    served-still _ (now (start .args .image)) (start .pre .ours) (after-plate-in .plate-in .ensures) _ _ _ _ (asked-in _ _ _ _ _ _ (may after-plate-in .bytes) small serves)
 
 sub-core-2 : tie.Need-sub-core-2
 sub-core-2 c = search needs
@@ -182,10 +193,9 @@ on-state-requires c κs =
     let after-needs-memory = after-if1 .before in
     let after-plate-in = after-needs-memory .before in
     let start = after-plate-in .before .before .before .before .before in
-    let may = lent-servable _ (now (start .args .image)) (start .pre .ours) (after-plate-in .plate-in .ensures) (now (start .args .memory)) (now (start .args .room)) (start .pre .core) in
     rw (label-there (now (start .args .image)))
     (changeable (after-plate-in .plate-in .result) (labelIn (now (start .args .image))) _ _ (now (start .args .memory)) (now (start .args .room))
-    (rw (after-state-in .state-in .ensures, after-data-part2 .data-part2 .ensures .0) (may .works)) (sym (after-needs-memory .needs-memory .ensures) ∙ after-if1 .if1 .left))
+    (rw (after-state-in .state-in .ensures, after-data-part2 .data-part2 .ensures .0) (may after-plate-in .works)) (sym (after-needs-memory .needs-memory .ensures) ∙ after-if1 .if1 .left))
 
 sub-put-effect : tie.Need-sub-put-effect
 sub-put-effect c = search needs
@@ -206,10 +216,9 @@ put-effect-requires c κs =
     let after-state-in = after-data-part2 .before .before in
     let after-plate-in = after-state-in .before .before .before .before .before .before in
     let start = after-plate-in .before .before .before .before .before in
-    let may = lent-servable _ (now (start .args .image)) (start .pre .ours) (after-plate-in .plate-in .ensures) (now (start .args .memory)) (now (start .args .room)) (start .pre .core) in
     let there = sym (label-there (now (start .args .image))) in
     let worked = rw (after-state-in .state-in .ensures, after-data-part2 .data-part2 .ensures .0) at (after-on-state .on-state .ensures (plateOf (after-plate-in .plate-in .result) (labelIn (now (start .args .image)))) (now (start .args .memory)) refl there) in
-    (worked .row .placed, record { all = good _ (may .bytes) .all; lock = good _ (may .bytes) .locked })
+    (worked .row .placed, record { all = good _ (may after-plate-in .bytes) .all; lock = good _ (may after-plate-in .bytes) .locked })
 
 sub-after : tie.Need-sub-after
 sub-after c = search needs
@@ -222,8 +231,7 @@ part-after-end c =
     let after-put-effect = c .before .before .before in
     let after-plate-in = after-put-effect .before .before .before .before .before .before .before .before .before .before .before .before .before .before in
     let start = after-plate-in .before .before .before .before .before in
-    let may = lent-servable _ (now (start .args .image)) (start .pre .ours) (after-plate-in .plate-in .ensures) (now (start .args .memory)) (now (start .args .room)) (start .pre .core) in
-    omega (arith, written-long _ (now (start .args .image)) (start .pre .ours) (after-plate-in .plate-in .ensures) (may .bytes) (after-put-effect .put-effect .ensures))
+    omega (arith, written-long _ (now (start .args .image)) (start .pre .ours) (after-plate-in .plate-in .ensures) (may after-plate-in .bytes) (after-put-effect .put-effect .ensures))
 
 own-requires-2 : tie.Need-own-requires-2
 own-requires-2 c κs =
@@ -233,11 +241,10 @@ own-requires-2 c κs =
     let after-state-in = after-data-part2 .before .before in
     let after-plate-in = after-state-in .before .before .before .before .before .before in
     let start = after-plate-in .before .before .before .before .before in
-    let may = lent-servable _ (now (start .args .image)) (start .pre .ours) (after-plate-in .plate-in .ensures) (now (start .args .memory)) (now (start .args .room)) (start .pre .core) in
     let there = sym (label-there (now (start .args .image))) in
     let worked = rw (after-state-in .state-in .ensures, after-data-part2 .data-part2 .ensures .0) at (after-on-state .on-state .ensures (plateOf (after-plate-in .plate-in .result) (labelIn (now (start .args .image)))) (now (start .args .memory)) refl there) in
-    let low = effect-low (after-put-effect .put-effect .ensures) (worked .row .placed) (may .works .address) in
-    (search needs, rw (lent-again _ (now (start .args .image)) (start .pre .ours) (after-plate-in .plate-in .ensures) (may .bytes) (after-put-effect .put-effect .ensures)) low)
+    let low = effect-low (after-put-effect .put-effect .ensures) (worked .row .placed) (may after-plate-in .works .address) in
+    (search needs, rw (lent-again _ (now (start .args .image)) (start .pre .ours) (after-plate-in .plate-in .ensures) (may after-plate-in .bytes) (after-put-effect .put-effect .ensures)) low)
 
 waits-requires-2 : tie.Need-waits-requires-2
 waits-requires-2 c κs = search needs
@@ -249,10 +256,9 @@ send-requires-2 c κs =
     let after-state-in = after-data-part2 .before .before in
     let after-plate-in = after-state-in .before .before .before .before .before .before in
     let start = after-plate-in .before .before .before .before .before in
-    let may = lent-servable _ (now (start .args .image)) (start .pre .ours) (after-plate-in .plate-in .ensures) (now (start .args .memory)) (now (start .args .room)) (start .pre .core) in
     let there = sym (label-there (now (start .args .image))) in
     let worked = rw (after-state-in .state-in .ensures, after-data-part2 .data-part2 .ensures .0) at (after-on-state .on-state .ensures (plateOf (after-plate-in .plate-in .result) (labelIn (now (start .args .image)))) (now (start .args .memory)) refl there) in
-    sendable _ _ _ _ _ (worked .row .answer) (still-wide (plateOf (after-plate-in .plate-in .result) (labelIn (now (start .args .image)))) _ _ _ _ _ (may .works .room) worked)
+    sendable _ _ _ _ _ (worked .row .answer) (still-wide (plateOf (after-plate-in .plate-in .result) (labelIn (now (start .args .image)))) _ _ _ _ _ (may after-plate-in .works .room) worked)
 
 same-length-4 : tie.Need-same-length-4
 same-length-4 c = search needs
@@ -271,12 +277,11 @@ returns-2 c =
     let after-state-in = after-data-part2 .before .before in
     let after-plate-in = after-state-in .before .before .before .before .before .before in
     let start = after-plate-in .before .before .before .before .before in
-    let may = lent-servable _ (now (start .args .image)) (start .pre .ours) (after-plate-in .plate-in .ensures) (now (start .args .memory)) (now (start .args .room)) (start .pre .core) in
     let there = sym (label-there (now (start .args .image))) in
     let worked = rw (after-state-in .state-in .ensures, after-data-part2 .data-part2 .ensures .0) at (after-on-state .on-state .ensures (plateOf (after-plate-in .plate-in .result) (labelIn (now (start .args .image)))) (now (start .args .memory)) refl there) in
-    let again = lent-again _ (now (start .args .image)) (start .pre .ours) (after-plate-in .plate-in .ensures) (may .bytes) (after-put-effect .put-effect .ensures) in
+    let again = lent-again _ (now (start .args .image)) (start .pre .ours) (after-plate-in .plate-in .ensures) (may after-plate-in .bytes) (after-put-effect .put-effect .ensures) in
     let sends = after-send .send2 .ensures _ (rw again at (after-own .own2 .ensures)) (rw again at (after-waits .waits2 .ensures)) in
-    served-anew _ (now (start .args .image)) (start .pre .ours) (after-plate-in .plate-in .ensures) _ _ _ _ (ordered-in (plateOf (after-plate-in .plate-in .result) (labelIn (now (start .args .image)))) _ _ _ _ _ (may .works .room) worked (after-put-effect .put-effect .ensures) sends)
+    served-anew _ (now (start .args .image)) (start .pre .ours) (after-plate-in .plate-in .ensures) _ _ _ _ (ordered-in (plateOf (after-plate-in .plate-in .result) (labelIn (now (start .args .image)))) _ _ _ _ _ (may after-plate-in .works .room) worked (after-put-effect .put-effect .ensures) sends)
 
 pub served-spec : {M : Type 1} → statement M
 served-spec =

@@ -49,7 +49,14 @@ returns-4 c =
     let after-if2 = after-offset-fits .before in
     let after-if1 = after-if2 .before .before in
     let start = after-if1 .before .before in
-    λ p l e few. within _ p l (four-codes start) few (simp (e, le-leb _ _ (after-if1 .if1 .left), le-leb _ _ (after-if2 .if2 .left), sym (after-offset-fits .offset-fits .ensures) ∙ not-false _ (after-if3 .if3 .left), sound-none _ (sym (after-waits .waits .ensures) ∙ not-true _ (c .if4 .taken))))
+    λ p l e few. within _ p l (four-codes start) few
+    (simp (
+      e,
+      le-leb _ _ (after-if1 .if1 .left),
+      le-leb _ _ (after-if2 .if2 .left),
+      sym (after-offset-fits .offset-fits .ensures) ∙ not-false _ (after-if3 .if3 .left),
+      sound-none _ (sym (after-waits .waits .ensures) ∙ not-true _ (c .if4 .taken)),
+    ))
 
 waits-apart-requires : tie.Need-waits-apart-requires
 waits-apart-requires c κs = search needs
