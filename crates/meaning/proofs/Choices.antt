@@ -1,9 +1,12 @@
--- Laws of choices: `pick`, `both`, `either` and `choose`. Assumes nothing.
+-- Laws of choices: `pick`, `both`, `either`, `error` and `choose`, and the choices of 4Dh. Assumes nothing.
+use Prim.Native.Nat.{ℕ}
 use mathlib.Core.Path.{_≡_, refl}
 use mathlib.Core.Bool.{Bool, true, false, not, _&&_, false≢true}
+use mathlib.Core.List.{List, [], _∷_}
 use lib.Dec.{T}
-use Rattle.meaning.specs.Bytes.{pick, both, either}
-use Rattle.meaning.specs.Commands.{Answer, choose}
+use Rattle.meaning.specs.Bytes.{pick, both, either, arg}
+use Rattle.meaning.specs.State.{Plate, State}
+use Rattle.meaning.specs.Commands.{Answer, refuse, accept, error, choose, create, modify, delete, shapeField}
 
 pub pick-true {ℓ} : {A : Type ℓ} (b : Bool) (x y : A) → T b → pick b x y ≡ x
 pick-true true x y h = refl
@@ -59,3 +62,25 @@ pub choose-by : (P : Answer → Type 0) (q : Bool) (a b : Answer) → (T q → P
 unfolding choose
 choose-by P true a b x y = x tt
 choose-by P false a b x y = y tt
+
+-- a property that every refusal has, through a check
+pub through : (P : Answer → Type 0) → ((e : ℕ) → P (refuse e)) → (e : ℕ) (q : Bool) (a : Answer) → (T (not q) → P a) → P (error e q a)
+unfolding error
+through P f e true a g = f e
+through P f e false a g = g tt
+
+-- 4Dh creates, modifies and deletes alike: it refuses, or tells field and status and leaves the state. A property of all such answers it has
+module _ (P : Answer → Type 0) (refuses : (e : ℕ) → P (refuse e)) (p : Plate) (s : State) (m d : List ℕ)
+    (tells : (m′ : List ℕ) → P (accept (arg d 0 ∷ arg d 1 ∷ []) s m′)) where
+  past : (e : ℕ) (q : Bool) (a : Answer) → P a → P (error e q a)
+  past e q a h = through P refuses e q a (λ _. h)
+
+  either-way : (q : Bool) (a b : Answer) → P a → P b → P (choose q a b)
+  either-way q a b x y = choose-by P q a b (λ _. x) (λ _. y)
+
+  pub shaped-by : P (shapeField p s m d)
+  unfolding shapeField create modify delete
+  shaped-by =
+      past _ _ _ (either-way _ _ _
+      (either-way _ _ _ (past _ _ _ (past _ _ _ (tells _))) (either-way _ _ _ (past _ _ _ (past _ _ _ (past _ _ _ (tells _)))) (refuses _)))
+      (either-way _ _ _ (past _ _ _ (past _ _ _ (past _ _ _ (tells _)))) (refuses _)))

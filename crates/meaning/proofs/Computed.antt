@@ -5,7 +5,7 @@ use mathlib.Core.List.{List, [], _∷_}
 use lib.Dec.{T}
 use Rattle.meaning.specs.Bytes.{same, zeros, part, put, blank, xorFrom, xorAll, among, bytes3, bytes4, number}
 use Rattle.meaning.specs.State.{Plate, State, fresh, none, withLine, ownByte, boardByte, withCodes, withCounter, withAddress, withOffset, withQueue, code, queued, position, offsetFor}
-use Rattle.meaning.specs.Fields.{memoryLength, blocks, coded, codeNo, writable, exists, table, fieldCount, used, sound, freeBlocks, statusAt, start, survey, clear, putStatus}
+use Rattle.meaning.specs.Fields.{memoryLength, blocks, coded, codeNo, writable, exists, attributes, table, fieldCount, used, sound, freeBlocks, statusAt, start, survey, clear, putStatus}
 use Rattle.meaning.specs.Commands.{commandOf, row, lengthFits, asked, error, choose, wrongCode, readPosition, setPosition, readCounter, stepCounter, clearCounter, onField}
 use Rattle.meaning.specs.Commands.{readField, storeField, fieldStatus, create, resize, modify, delete, shapeField, freeByte, memoryStatus, setCode, readFault, readLabel, reset, setAddress, readVersion, worked}
 use Rattle.meaning.specs.Run.{Heard, step, runFrom, run}
@@ -54,14 +54,14 @@ all-hold (c ∷ cs) t = both-intro (holds c) (allHold cs) (fits-by (sheetPlate (
 pub sheet-holds : SheetHolds
 unfolding replies answers AllTold sheet allHold holds fits same work leaves still whole outcome message warned sealed ours ending judged dataOf
     commandByte ownByte worked commandOf row lengthFits asked part put blank xorFrom xorAll among bytes3 bytes4 number blocks coded codeNo writable
-    exists table fieldCount used sound freeBlocks statusAt start survey fresh none withCodes withCounter withAddress withOffset withQueue code queued position
+    exists attributes table fieldCount used sound freeBlocks statusAt start survey fresh none withCodes withCounter withAddress withOffset withQueue code queued position
     offsetFor error choose clear putStatus wrongCode readPosition setPosition readCounter stepCounter clearCounter onField readField storeField
     fieldStatus create resize modify delete shapeField freeByte memoryStatus setCode readFault readLabel reset setAddress readVersion boardByte
 sheet-holds = all-hold sheet (refl, (refl, (refl, (refl, (refl, tt)))))
 
 pub rows-reached : RowsReached
 unfolding rows allShown shown shows holds fits same work leaves still whole outcome message warned sealed ours ending judged dataOf commandByte
-    ownByte worked commandOf row lengthFits asked part put blank xorFrom xorAll among bytes3 bytes4 number blocks coded codeNo writable exists table
+    ownByte worked commandOf row lengthFits asked part put blank xorFrom xorAll among bytes3 bytes4 number blocks coded codeNo writable exists attributes table
     fieldCount used sound freeBlocks statusAt start survey fresh none withCodes withCounter withAddress withOffset withQueue code queued position offsetFor error
     choose clear putStatus wrongCode readPosition setPosition readCounter stepCounter clearCounter onField readField storeField fieldStatus create
     resize modify delete shapeField freeByte memoryStatus setCode readFault readLabel reset setAddress readVersion boardByte
@@ -70,7 +70,7 @@ rows-reached = tt
 pub gaps-close : GapsClose
 unfolding polled run runFrom step upTo close closed resting over gap taken more withLine same work leaves still whole outcome message warned sealed
     ours ending judged dataOf commandByte ownByte worked commandOf row lengthFits asked part put blank xorFrom xorAll among bytes3 bytes4 number
-    blocks coded codeNo writable exists table fieldCount used sound freeBlocks statusAt start survey fresh none withCodes withCounter withAddress withOffset
+    blocks coded codeNo writable exists attributes table fieldCount used sound freeBlocks statusAt start survey fresh none withCodes withCounter withAddress withOffset
     withQueue code queued position offsetFor error choose clear putStatus wrongCode readPosition setPosition readCounter stepCounter clearCounter
     onField readField storeField fieldStatus create resize modify delete shapeField freeByte memoryStatus setCode readFault readLabel reset setAddress readVersion boardByte
 gaps-close = tt

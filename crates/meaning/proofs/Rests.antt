@@ -8,12 +8,11 @@ use lib.ListN.{length}
 use Rattle.meaning.specs.Bytes.{pick}
 use Rattle.meaning.specs.State.{Plate, State, withCodes, withCounter, withAddress, withOffset, withQueue}
 use Rattle.meaning.specs.Commands.{Command, c42, c43, c46, c47, c49, c4A, c4B, c4C, c4D, c4E, c4F, c50, c52, c53, c55, c56, unknown, commandOf, Answer, refuse, accept}
-use Rattle.meaning.specs.Commands.{quiet, error, onField, readPosition, setPosition, readCounter, stepCounter, clearCounter, readField, storeField, fieldStatus, create, modify, delete, shapeField, memoryStatus, setCode, readFault, readLabel, reset, setAddress, readVersion, worked}
+use Rattle.meaning.specs.Commands.{quiet, error, onField, readPosition, setPosition, readCounter, stepCounter, clearCounter, readField, storeField, fieldStatus, memoryStatus, setCode, readFault, readLabel, reset, setAddress, readVersion, worked}
 use Rattle.meaning.specs.Characters.{Frame}
 use Rattle.meaning.specs.Frames.{commandByte, dataOf, ours, judged, short, elsewhere, answered, ending, still, outcome, leaves, work}
 use Rattle.meaning.specs.Demands.{meant}
-use Rattle.meaning.proofs.Honest.{through}
-use Rattle.meaning.proofs.Choices.{choose-by}
+use Rattle.meaning.proofs.Choices.{choose-by, through, shaped-by}
 
 module _ (p : Plate) (s : State) (m : List ℕ) (d : List ℕ) where
   -- the state after an answer has the frame that it had
@@ -26,7 +25,7 @@ module _ (p : Plate) (s : State) (m : List ℕ) (d : List ℕ) where
   go = through Rested (λ e. tt)
 
   rested : (k : Command) → Rested (worked k p s m d)
-  unfolding worked readPosition setPosition readCounter stepCounter clearCounter onField readField storeField fieldStatus create modify delete shapeField memoryStatus setCode readFault readLabel reset setAddress readVersion withCodes withCounter withAddress withOffset withQueue
+  unfolding worked readPosition setPosition readCounter stepCounter clearCounter onField readField storeField fieldStatus memoryStatus setCode readFault readLabel reset setAddress readVersion withCodes withCounter withAddress withOffset withQueue
   rested c42 = go _ _ _ (λ _. refl)
   rested c43 = go _ _ _ (λ _. go _ _ _ (λ _. go _ _ _ (λ _. refl)))
   rested c46 = refl
@@ -35,10 +34,7 @@ module _ (p : Plate) (s : State) (m : List ℕ) (d : List ℕ) where
   rested c4A = go _ _ _ (λ _. go _ _ _ (λ _. go _ _ _ (λ _. go _ _ _ (λ _. go _ _ _ (λ _. refl)))))
   rested c4B = go _ _ _ (λ _. go _ _ _ (λ _. go _ _ _ (λ _. go _ _ _ (λ _. go _ _ _ (λ _. refl)))))
   rested c4C = go _ _ _ (λ _. go _ _ _ (λ _. refl))
-  rested c4D = go _ _ _ (λ _. choose-by Rested _ _ _
-      (λ _. choose-by Rested _ _ _ (λ _. go _ _ _ (λ _. go _ _ _ (λ _. refl)))
-      (λ _. choose-by Rested _ _ _ (λ _. go _ _ _ (λ _. go _ _ _ (λ _. go _ _ _ (λ _. refl)))) (λ _. tt)))
-      (λ _. choose-by Rested _ _ _ (λ _. go _ _ _ (λ _. go _ _ _ (λ _. refl))) (λ _. tt)))
+  rested c4D = shaped-by Rested (λ e. tt) p s m d (λ m′. refl)
   rested c4E = go _ _ _ (λ _. refl)
   rested c4F = go _ _ _ (λ _. go _ _ _ (λ _. refl))
   rested c50 = refl

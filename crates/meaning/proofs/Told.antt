@@ -14,7 +14,7 @@ use Rattle.meaning.specs.Commands.{Answer, error, onField, readField}
 use Rattle.meaning.specs.Run.{run, Heard, traffic}
 use Rattle.meaning.specs.Ledger.{byteOf, BringsTold, ReadsByTraffic}
 use Rattle.meaning.proofs.Invariant.{Inv, count-tb, status-tb, first-tb}
-use Rattle.meaning.proofs.Honest.{through}
+use Rattle.meaning.proofs.Choices.{through}
 use Rattle.meaning.proofs.Whole.{run-inv}
 
 module _ (p : Plate) (s : State) (m : List ℕ) (t : List Heard) (I : Inv p s m t) (d : List ℕ) where

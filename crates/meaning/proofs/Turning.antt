@@ -12,7 +12,7 @@ use Rattle.meaning.specs.Bytes.{number, bytes4}
 use Rattle.meaning.specs.State.{Plate, State, position, offsetFor, withOffset, withMeasured}
 use Rattle.meaning.specs.Commands.{Answer, accept, error, readPosition, setPosition}
 use Rattle.meaning.specs.Demands.{MovesFrom, MovesWithMeasured}
-use Rattle.meaning.proofs.Honest.{through}
+use Rattle.meaning.proofs.Choices.{through}
 use Rattle.meaning.proofs.Room.{pass}
 
 -- modulo n: y is x + k, so y and (w − x) make w + k

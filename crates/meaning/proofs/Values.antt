@@ -6,7 +6,7 @@ use mathlib.Core.List.{List, [], _∷_, _++_}
 use lib.ListN.{replicate}
 use Rattle.meaning.specs.Bytes.{zeros, part, put, blank, among, number, bytes3, bytes4, xorAll, xorFrom, same}
 use Rattle.meaning.specs.State.{Plate, State, none, plateOk, fresh, withCodes, withCounter, withAddress, withOffset, withMeasured, withQueue, withLock, withLine, locks, queueable, apart, stateOk, code, queued, noted, poweredOn, position, offsetFor, ownByte, boardByte}
-use Rattle.meaning.specs.Fields.{blocks, coded, codeNo, writable, exists, table, fieldCount, used, sound, freeBlocks, statusAt, survey, clear, putStatus}
+use Rattle.meaning.specs.Fields.{blocks, coded, codeNo, writable, exists, attributes, table, fieldCount, used, sound, freeBlocks, statusAt, survey, clear, putStatus}
 use Rattle.meaning.specs.Commands.{commandOf, lengthFits, counted, row, asked, Answer, refuse, accept, error, choose, wrongCode, readPosition, setPosition, readCounter, stepCounter}
 use Rattle.meaning.specs.Commands.{clearCounter, onField, readField, storeField, fieldStatus, create, resize, modify, delete, shapeField, freeByte, memoryStatus, setCode, readFault, readLabel, reset, setAddress, readVersion}
 use Rattle.meaning.specs.Characters.{gap, over, more}
@@ -234,13 +234,15 @@ pub modify-values : (shapeField eight full (tabled 0xC0 0xC0 0) (0 ∷ 0xD1 ∷ 
 unfolding shapeField choose error create modify delete resize clear putStatus put survey table sound fieldCount used blocks codeNo exists freeBlocks statusAt blank wrongCode code fresh
 modify-values = (refl, refl, refl, refl, refl, refl)
 
--- 4Dh deletes: the code before the last field, and that of the stored status; the status is told as it came; no such field
+-- 4Dh deletes: first the code, that of the stored status; then bits 0 to 6, each of them; then the last field; the status is told as it came; no such field
 pub delete-values : (shapeField eight full (tabled 0xC0 0xC0 0) (0 ∷ 0x10 ∷ 2 ∷ []) ≡ refuse 0x0F)
-    × (shapeField eight full (tabled 0xC0 0xC0 0) (0 ∷ 0x10 ∷ 1 ∷ []) ≡ refuse 0x10)
-    × (shapeField eight full (cleared 0 0 (0xC0 ∷ 0x81 ∷ zeros 6)) (1 ∷ 0x15 ∷ 1 ∷ []) ≡ accept (1 ∷ 0x15 ∷ []) full (cleared 1 3 (0xC0 ∷ zeros 7)))
+    × (shapeField eight full (tabled 0xC0 0xC0 0) (0 ∷ 0x10 ∷ 1 ∷ []) ≡ refuse 0x0D)
+    × (shapeField eight full (tabled 0xC0 0xC0 0) (0 ∷ 0x40 ∷ 1 ∷ []) ≡ refuse 0x10)
+    × (shapeField eight full (cleared 0 0 (0xC0 ∷ 0x81 ∷ zeros 6)) (1 ∷ 0x41 ∷ 1 ∷ []) ≡ refuse 0x0D)
+    × (shapeField eight full (cleared 0 0 (0xC0 ∷ 0x81 ∷ zeros 6)) (1 ∷ 0x01 ∷ 1 ∷ []) ≡ accept (1 ∷ 0x01 ∷ []) full (cleared 1 3 (0xC0 ∷ zeros 7)))
     × (shapeField eight full (tabled 0xC0 0xC0 0) (2 ∷ 0 ∷ 9 ∷ []) ≡ refuse 0x12)
-unfolding shapeField choose error create modify delete clear putStatus put survey table sound fieldCount used blocks codeNo exists freeBlocks statusAt blank wrongCode code
-delete-values = (refl, refl, refl, refl)
+unfolding shapeField choose error create modify delete clear putStatus put survey table sound fieldCount used blocks codeNo exists attributes freeBlocks statusAt blank wrongCode code
+delete-values = (refl, refl, refl, refl, refl, refl)
 
 -- R1 before R2; a room of 133 bytes is R3
 pub refused-values : (refusedBy (record { total = 0; bits = 24; address = 0; ticks = 4; pause = 55; label = zeros 41 }) new [] 134 (poll 0) ≡ 1) × (refusedBy eight new (zeros 136) 133 (poll 0) ≡ 3) × (refusedBy eight new [] 0 (measured 7) ≡ 0)
