@@ -12,7 +12,7 @@ use types.Run.{OneOf, miss}
 use denote.Enum.Declared.{tagOf}
 use Rattle.meaning.specs.Bytes.{arg, both, differ, put, zeros}
 use Rattle.meaning.specs.State.{Plate, State}
-use Rattle.meaning.specs.Fields.{bytesOf, dataBytes, blocks, exists, clear, putStatus, Survey, survey}
+use Rattle.meaning.specs.Fields.{bytesOf, dataBytes, blocks, exists, attributes, clear, putStatus, Survey, survey}
 use Rattle.meaning.specs.Commands.{Answer, refuse, accept, error, choose, wrongCode, create, modify, delete, resize, shapeField}
 use Rattle.meaning.proofs.Puts.{length-put, stored-is-put}
 use Rattle.fields.specs.Memory.{Sits}
@@ -167,33 +167,47 @@ module _ (codes : List ℕ) (t f : ℕ) (v : Survey) (c : ℕ) where
     freed : State → List ℕ → Answer
     freed s m = accept (f ∷ gone ∷ []) s (putStatus t (clear m (v .first) (blocks (v .status))) f 0)
 
-    delete-as : (b k : Bool) → Wrong (v .status) b → differ (f + 1) (v .fields) ≡ k → (s : State) (m : List ℕ) → s .codes ≡ codes
-        → delete t s m v f gone c ≡ error 0x0F b (error 0x10 k (freed s m))
+    delete-as : (b u k : Bool) → Wrong (v .status) b → differ (attributes gone) (attributes (v .status)) ≡ u → differ (f + 1) (v .fields) ≡ k
+        → (s : State) (m : List ℕ) → s .codes ≡ codes → delete t s m v f gone c ≡ error 0x0F b (error 0x0D u (error 0x10 k (freed s m)))
     unfolding delete freed
-    delete-as b k w p s m e =
-        ap (λ (x : Bool). error 0x0F x (error 0x10 (differ (f + 1) (v .fields)) (freed s m))) (sym (w s e)) ∙ ap (λ (x : Bool). error 0x0F b (error 0x10 x (freed s m))) p
+    delete-as b u k w n p s m e =
+        ap (λ (x : Bool). error 0x0F x (error 0x0D (differ (attributes gone) (attributes (v .status))) (error 0x10 (differ (f + 1) (v .fields)) (freed s m)))) (sym (w s e))
+        ∙ ap (λ (x : Bool). error 0x0F b (error 0x0D x (error 0x10 (differ (f + 1) (v .fields)) (freed s m)))) n
+        ∙ ap (λ (x : Bool). error 0x0F b (error 0x0D u (error 0x10 x (freed s m)))) p
 
     pub delete-barred : Wrong (v .status) true → Deletes (Refused 0x0F)
     unfolding error
-    delete-barred w = record { answer = λ s m e. delete-as true _ w refl s m e; place = tt }
+    delete-barred w = record { answer = λ s m e. delete-as true _ _ w refl refl s m e; place = tt }
 
-    pub delete-held : Wrong (v .status) false → (f + 1 ≡ v .fields → ⊥) → Deletes (Refused 0x10)
-    unfolding error
-    delete-held w h = record { answer = λ s m e. delete-as false true w (ap not (ne-eqb (f + 1) (v .fields) h)) s m e; place = tt }
+    -- the attributes of the status that came, and of the stored one
+    module _ (named stored : ℕ) (i : named ≡ attributes gone) (o : stored ≡ attributes (v .status)) where
+      pub delete-misnamed : Wrong (v .status) false → (named ≡ stored → ⊥) → Deletes (Refused 0x0D)
+      unfolding error
+      delete-misnamed w n = record {
+        answer = λ s m e. delete-as false true _ w (ap not (ne-eqb (attributes gone) (attributes (v .status)) (λ h. n (i ∙ h ∙ sym o)))) refl s m e;
+        place = tt;
+      }
 
-    pub delete-granted : Wrong (v .status) false → f + 1 ≡ v .fields → (old : ℕ) → old ≡ blocks (v .status) → Sits t v f → exists gone ≡ false
-        → (run : Change) → run ≡ record { from = v .first + min old 0; to = v .first + max old 0 } → Deletes (Granted run)
-    unfolding error freed
-    delete-granted w h old o sits x run e =
-        let r = sits .room in
-        let y = sits .own (omega arith) in
-        let p = ap (λ (z : Change). z .from) e in
-        let q = ap (λ (z : Change). z .to) e in
-        record {
-          answer = λ s m u. delete-as false false w (ap not (eq-eqb (f + 1) (v .fields) h)) s m u
-              ∙ granted-as run t s m f gone (v .first) (blocks (v .status)) 0 (omega arith) (omega arith) (stored-none gone x);
-          place = record { below = omega arith; run = omega arith; within = omega arith };
-        }
+      as-named : named ≡ stored → differ (attributes gone) (attributes (v .status)) ≡ false
+      as-named n = ap not (eq-eqb (attributes gone) (attributes (v .status)) (sym i ∙ n ∙ o))
+
+      pub delete-held : Wrong (v .status) false → named ≡ stored → (f + 1 ≡ v .fields → ⊥) → Deletes (Refused 0x10)
+      unfolding error
+      delete-held w n h = record { answer = λ s m e. delete-as false false true w (as-named n) (ap not (ne-eqb (f + 1) (v .fields) h)) s m e; place = tt }
+
+      pub delete-granted : Wrong (v .status) false → named ≡ stored → f + 1 ≡ v .fields → (old : ℕ) → old ≡ blocks (v .status) → Sits t v f → exists gone ≡ false
+          → (run : Change) → run ≡ record { from = v .first + min old 0; to = v .first + max old 0 } → Deletes (Granted run)
+      unfolding error freed
+      delete-granted w n h old k sits x run e =
+          let r = sits .room in
+          let y = sits .own (omega arith) in
+          let p = ap (λ (z : Change). z .from) e in
+          let q = ap (λ (z : Change). z .to) e in
+          record {
+            answer = λ s m u. delete-as false false false w (as-named n) (ap not (eq-eqb (f + 1) (v .fields) h)) s m u
+                ∙ granted-as run t s m f gone (v .first) (blocks (v .status)) 0 (omega arith) (omega arith) (stored-none gone x);
+            place = record { below = omega arith; run = omega arith; within = omega arith };
+          }
 
 -- the whole row
 module _ (codes : List ℕ) (t : ℕ) (v : Survey) (d : List ℕ) where

@@ -20,7 +20,7 @@ pub record Chargeable (free : ℕ) (change : ℤ) : Type 0 where
   pub few : free ≤ 65535
   pub small : mag change < 1024
 
--- the status that is stored: the one that was asked for, and 00h where its bit 7 is clear (01, "Bits 0 to 6 are ignored")
+-- the status that is stored: the one that was asked for, and 00h where its bit 7 is clear, for then the field goes (01, "00h where no field is")
 unfoldable pub storedAs : ℕ → ℕ
 storedAs status = pick (exists status) status 0
 

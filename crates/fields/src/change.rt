@@ -51,7 +51,7 @@ fn clear(part: &mut [u8])
     }
 }
 
-// The status that is stored: 00h where bit 7 is clear, for the bits below it are ignored then (01, "Bits 0 to 6 are ignored").
+// The status that is stored: 00h where bit 7 is clear, for then the field goes (01, "00h where no field is").
 fn stored_as(asked: u8) -> u8
     ensures { λ r. ⌜ r ≡ storedAs asked ⌝ }
 {

@@ -18,12 +18,14 @@ use crate::change::change_at;
 use crate::change::lacks_room;
 use crate::reply::reply_two;
 use crate::seen::Survey;
+use crate::status::attributes_in;
 use crate::status::blocks_in;
 use crate::status::has_field;
 use crate::status::is_wrong_code;
 use wire::Answer;
 use wire::codes::FIXED_SIZE;
 use wire::codes::TABLE_DESTROYED;
+use wire::codes::WRONG_ARGUMENT;
 use wire::codes::WRONG_CODE;
 use wire::codes::WRONG_FIELD;
 
@@ -92,19 +94,23 @@ fn judge_modify(seen: Survey, codes: &[u8], field: u8, new: u8, code: u8) -> Gra
     Grant::Granted(change_at(seen.first, old, blocks))
 }
 
-// 0Fh as for modify; 10h if not the last.
-fn judge_delete(seen: Survey, codes: &[u8], field: u8, code: u8) -> Grant
+// 0Fh as for modify; 0Dh if bits 0 to 6 differ from the stored ones (02, Req 02); 10h if not the last.
+fn judge_delete(seen: Survey, codes: &[u8], field: u8, gone: u8, code: u8) -> Grant
     requires { ⌜ (seen .first ≤ 65535) × (length (now codes) ≡ 4) ⌝ }
-    ensures { λ r. ⌜ ((t gone : ℕ) → Sits t (surveyOf seen) field → field < seen .fields → exists gone ≡ false
+    ensures { λ r. ⌜ ((t : ℕ) → Sits t (surveyOf seen) field → field < seen .fields → exists gone ≡ false
         → Judged (now (codes .entry)) t field gone (λ (s : State) (m : List ℕ). delete t s m (surveyOf seen) field gone code) r) ⌝ }
 {
-    if is_wrong_code(codes, seen.status, code) {
+    let stored = seen.status;
+    if is_wrong_code(codes, stored, code) {
         return Grant::Refused(WRONG_CODE);
+    }
+    if attributes_in(gone) != attributes_in(stored) {
+        return Grant::Refused(WRONG_ARGUMENT);
     }
     if field as usize + 1 != seen.fields {
         return Grant::Refused(FIXED_SIZE);
     }
-    Grant::Granted(change_at(seen.first, blocks_in(seen.status), 0))
+    Grant::Granted(change_at(seen.first, blocks_in(stored), 0))
 }
 
 // 03h; then create, modify or delete, otherwise 12h.
@@ -131,7 +137,7 @@ fn judge_shape(seen: Survey, codes: &[u8], request: &[u8]) -> Grant
     if seen.fields <= number {
         return Grant::Refused(WRONG_FIELD);
     }
-    judge_delete(seen, codes, field, code)
+    judge_delete(seen, codes, field, status, code)
 }
 
 // 4Dh: field, status, code. The reply repeats the status as received.

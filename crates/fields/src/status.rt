@@ -3,7 +3,7 @@ ghost use mathlib.Core.Path.{_≡_};
 ghost use lib.ListN.{length};
 ghost use Rattle.meaning.specs.Bytes.{both};
 ghost use Rattle.meaning.specs.State.{State};
-ghost use Rattle.meaning.specs.Fields.{blocks, coded, writable, exists};
+ghost use Rattle.meaning.specs.Fields.{blocks, coded, writable, exists, attributes};
 ghost use Rattle.meaning.specs.Commands.{wrongCode};
 
 // Bits 0 to 2: blocks less one.
@@ -32,6 +32,13 @@ pub(crate) fn has_field(status: u8) -> bool
     ensures { λ r. ⌜ r ≡ exists status ⌝ }
 {
     128 <= status
+}
+
+// Bits 0 to 6: all that a status tells of its field beside that it exists (000, "all status bits (except bit 7)").
+pub(crate) fn attributes_in(status: u8) -> u8
+    ensures { λ r. ⌜ r ≡ attributes status ⌝ }
+{
+    status % 128
 }
 
 // Bits 4 and 5: code number. Whether the code is not the one that the status names.

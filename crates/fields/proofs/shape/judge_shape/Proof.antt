@@ -109,7 +109,7 @@ returns-6 c =
     let a = s .args in
     let d = a .request .now in
     shape-delete (a .codes .now) (a .seen .total) (surveyOf (a .seen)) d (sound-at l) (sym (k .before .has-field .ensures) ∙ k .if2 .left) (n .if5 .left) _
-    (c .judge-delete .ensures (a .seen .total) (arg d 1) (s .pre .sits (sound-at l)) (n .if5 .left) (sym (k .before .has-field .ensures) ∙ k .if2 .left))
+    (c .judge-delete .ensures (a .seen .total) (s .pre .sits (sound-at l)) (n .if5 .left) (sym (k .before .has-field .ensures) ∙ k .if2 .left))
 
 pub judge-shape-spec : {M : Type 1} → statement M
 judge-shape-spec =
