@@ -13,8 +13,8 @@ use Rattle.meaning.specs.State as meaning
 use Rattle.meaning.specs.State.{none}
 use Rattle.meaning.specs.Commands as commands
 use Rattle.meaning.specs.Commands.{Command, c42, c43, c46, c47, c49, c4A, c4B, c4C, c4D, c4F, c50, c52, c53, c55, c56, unknown, commandOf, asked, row, lengthFits, error, choose, onField}
-use Rattle.meaning.specs.Commands.{readPosition, setPosition, readCounter, stepCounter, clearCounter, readField, storeField, fieldStatus, create, modify, delete, shapeField, memoryStatus, setCode, readFault, readLabel, reset, setAddress, readVersion, worked}
-use Rattle.meaning.proofs.Choices.{both-left, both-right}
+use Rattle.meaning.specs.Commands.{readPosition, setPosition, readCounter, stepCounter, clearCounter, readField, storeField, fieldStatus, shapeField, memoryStatus, setCode, readFault, readLabel, reset, setAddress, readVersion, worked}
+use Rattle.meaning.proofs.Choices.{both-left, both-right, shaped-by}
 use Rattle.wire.specs.declared.answer.Answer.{Answer}
 use Rattle.wire.specs.Answers.{memoryAfter, stateAfter, Works}
 use Rattle.fields.specs.declared.seen.Survey.{Survey}
@@ -148,11 +148,6 @@ module _ (s : meaning.State) where
   stays e true a h = refl
   stays e false a h = h
 
-  chosen : (t : Bool) (a b : commands.Answer) → stateAfter a s ≡ s → stateAfter b s ≡ s → stateAfter (choose t a b) s ≡ s
-  unfolding choose
-  chosen true a b h k = h
-  chosen false a b h k = k
-
 module _ (p : meaning.Plate) (s : State) {c : ℕ} (d m w : List ℕ) {r : Worked} {w′ : List ℕ} where
   pub row-42 : c ≡ 0x42 → Answers c42 p s none m d w r w′ → WorksOn (commandOf c) p s d m w r m w′
   unfolding commandOf worked readPosition
@@ -213,13 +208,8 @@ module _ (p : meaning.Plate) (s : meaning.State) {c : ℕ} (d m w : List ℕ) {r
   row-4C e h = rw e (record { works = h; state = stays s _ _ _ (stays s _ _ _ refl) })
 
   pub row-4D : c ≡ 0x4D → Works (shapeField p s m d) m w r m′ w′ → Tells (worked (commandOf c) p s m d) s m w r m′ w′
-  unfolding commandOf worked shapeField create modify delete
-  row-4D e h =
-      rw e (record {
-        works = h;
-        state = stays s _ _ _ (chosen s _ _ _ (chosen s _ _ _ (stays s _ _ _ (stays s _ _ _ refl)) (chosen s _ _ _ (stays s _ _ _ (stays s _ _ _ (stays s _ _ _ refl))) refl))
-            (chosen s _ _ _ (stays s _ _ _ (stays s _ _ _ refl)) refl));
-      })
+  unfolding commandOf worked
+  row-4D e h = rw e (record { works = h; state = shaped-by (λ (a : commands.Answer). stateAfter a s ≡ s) (λ e. refl) p s m d (λ m′. refl) })
 
   pub row-4E : c ≡ 0x4E → Works (memoryStatus p s m d) m w r m′ w′ → Tells (worked (commandOf c) p s m d) s m w r m′ w′
   unfolding commandOf worked memoryStatus

@@ -11,14 +11,13 @@ use Rattle.meaning.specs.Bytes.{pick, among, arg}
 use Rattle.meaning.specs.State.{Plate, State, withQueue, withMeasured, withLock, withLine, queued, noted, poweredOn, locks}
 use Rattle.meaning.specs.Commands.{Command, c42, c43, c46, c47, c49, c4A, c4B, c4C, c4D, c4E, c4F, c50, c52, c53, c55, c56, unknown, commandOf}
 use Rattle.meaning.specs.Commands.{Answer, refuse, accept, quiet, error, readPosition, setPosition, readCounter, stepCounter, clearCounter}
-use Rattle.meaning.specs.Commands.{onField, readField, storeField, fieldStatus, create, modify, delete, shapeField, memoryStatus, setCode, readFault, readLabel, reset, setAddress, readVersion, worked}
+use Rattle.meaning.specs.Commands.{onField, readField, storeField, fieldStatus, memoryStatus, setCode, readFault, readLabel, reset, setAddress, readVersion, worked}
 use Rattle.meaning.specs.Characters.{Frame, over, closed, taken}
 use Rattle.meaning.specs.Frames.{commandByte, dataOf, ours, judged, short, elsewhere, answered, ending, sealed, message, still, outcome, leaves, work, resting, close, upTo}
 use Rattle.meaning.specs.Run.{Call, character, poll, measured, fault, power-on, step}
-use Rattle.meaning.proofs.Choices.{choose-by}
+use Rattle.meaning.proofs.Choices.{choose-by, through, shaped-by}
 use Rattle.meaning.proofs.Replies.{reply-command}
 use Rattle.meaning.proofs.Steps.{Named, named}
-use Rattle.meaning.proofs.Honest.{through}
 use Rattle.quicksetter.specs.Lasting.{mayChange}
 
 -- codes, counter, address, offset and memory are what they were
@@ -54,7 +53,7 @@ module _ (p : Plate) (s : State) (m d : List ℕ) (c : ℕ) where
   storing n e low k = (omega (arith, e, low), λ h. absurd (false≢true (sym h ∙ ap mayChange e ∙ k)))
 
   keeps-worked : (k : Command) → Named k c → KeepsBy s m c (worked k p s m d)
-  unfolding worked readPosition setPosition readCounter stepCounter clearCounter onField readField storeField fieldStatus create modify delete shapeField memoryStatus setCode readFault readLabel reset setAddress readVersion mayChange among
+  unfolding worked readPosition setPosition readCounter stepCounter clearCounter onField readField storeField fieldStatus memoryStatus setCode readFault readLabel reset setAddress readVersion mayChange among
   keeps-worked c42 e = go _ _ _ (λ _. plain 0x42 e (omega arith))
   keeps-worked c43 e = go _ _ _ (λ _. go _ _ _ (λ _. go _ _ _ (λ _. storing 0x43 e (omega arith) refl)))
   keeps-worked c46 e = plain 0x46 e (omega arith)
@@ -63,10 +62,7 @@ module _ (p : Plate) (s : State) (m d : List ℕ) (c : ℕ) where
   keeps-worked c4A e = go _ _ _ (λ _. go _ _ _ (λ _. go _ _ _ (λ _. go _ _ _ (λ _. go _ _ _ (λ _. plain 0x4A e (omega arith))))))
   keeps-worked c4B e = go _ _ _ (λ _. go _ _ _ (λ _. go _ _ _ (λ _. go _ _ _ (λ _. go _ _ _ (λ _. storing 0x4B e (omega arith) refl)))))
   keeps-worked c4C e = go _ _ _ (λ _. go _ _ _ (λ _. plain 0x4C e (omega arith)))
-  keeps-worked c4D e = go _ _ _ (λ _. choose-by (KeepsBy s m c) _ _ _
-      (λ _. choose-by (KeepsBy s m c) _ _ _ (λ _. go _ _ _ (λ _. go _ _ _ (λ _. storing 0x4D e (omega arith) refl)))
-      (λ _. choose-by (KeepsBy s m c) _ _ _ (λ _. go _ _ _ (λ _. go _ _ _ (λ _. go _ _ _ (λ _. storing 0x4D e (omega arith) refl)))) (λ _. tt)))
-      (λ _. choose-by (KeepsBy s m c) _ _ _ (λ _. go _ _ _ (λ _. go _ _ _ (λ _. storing 0x4D e (omega arith) refl))) (λ _. tt)))
+  keeps-worked c4D e = shaped-by (KeepsBy s m c) (λ n. tt) p s m d (λ m′. storing 0x4D e (omega arith) refl)
   keeps-worked c4E e = go _ _ _ (λ _. plain 0x4E e (omega arith))
   keeps-worked c4F e = go _ _ _ (λ _. go _ _ _ (λ _. storing 0x4F e (omega arith) refl))
   keeps-worked c50 e = (omega (arith, e), λ _. another-queue _)

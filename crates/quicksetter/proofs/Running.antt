@@ -15,7 +15,7 @@ use Rattle.meaning.specs.Commands.{commandOf, Answer, refuse, accept, quiet, fr
 use Rattle.meaning.specs.Frames.{Outcome, still, outcome, warned, message, dataOf, work, resting, close, upTo}
 use Rattle.meaning.specs.Run.{Call, character, poll, measured, fault, power-on, step, runFrom, run, closes, Heard, heard, traffic}
 use Rattle.meaning.specs.Bench.{bare}
-use Rattle.meaning.specs.Ledger.{fieldsOf, granted, back, byteOf, addressOf, Agrees, AnswersTo, Honest, Wanted, roomReply, BringsTold}
+use Rattle.meaning.specs.Ledger.{fieldsOf, granted, back, byteOf, addressOf, Agrees, AnswersTo, Honest, DeletedByName, Wanted, roomReply, BringsTold}
 use Rattle.meaning.specs.Demands.{Sent, meant}
 use Rattle.meaning.proofs.Choices.{pick-true, both-left, true-told}
 use Rattle.meaning.proofs.Limits.{to-lim}
@@ -24,13 +24,14 @@ use Rattle.meaning.proofs.Wire.{data-sealed, work-request}
 use Rattle.meaning.proofs.Whole.{memory-by-traffic}
 use Rattle.meaning.proofs.Alone.{traffic-alone}
 use Rattle.meaning.proofs.Honest.{carried-the-code}
+use Rattle.meaning.proofs.Named.{deletions-named}
 use Rattle.meaning.proofs.Addresses.{answers-to-one}
 use Rattle.meaning.proofs.Room.{refused-for-want-of-room, free-by-traffic}
 use Rattle.meaning.proofs.Told.{reads-by-traffic}
 use Rattle.line.proofs.Limits.{whole-label}
 use Rattle.image.specs.Image.{heldIn}
 use Rattle.quicksetter.specs.Calls.{stateHeld, lastingOf, imageOf, startOk, rested, Called}
-use Rattle.quicksetter.specs.Promises.{Ran, began, called, restarted, QsRuns, QsMemoryByTraffic, QsTrafficAlone, QsCarriedTheCode, QsAnswersToOne, ClosesNext, closes-next, QsRefusedForRoom, QsRepliesAsMeant, QsFreeByTraffic, QsReadsByTraffic}
+use Rattle.quicksetter.specs.Promises.{Ran, began, called, restarted, QsRuns, QsMemoryByTraffic, QsTrafficAlone, QsCarriedTheCode, QsDeletionsNamed, QsAnswersToOne, ClosesNext, closes-next, QsRefusedForRoom, QsRepliesAsMeant, QsFreeByTraffic, QsReadsByTraffic}
 use Rattle.quicksetter.proofs.Starting.{core-again, fresh-holds}
 use Rattle.quicksetter.proofs.Resting.{rested-as, measured-again}
 use Rattle.quicksetter.proofs.Staying.{Holds, steps-so, was-made, starts, starts-again, restart-holds, goes-on}
@@ -103,8 +104,16 @@ qs-traffic-alone p gs hs t img m x img′ m′ x′ g h =
     let j = qs-runs p hs t img′ m′ x′ h in
     i .memory ∙ traffic-alone p gs hs (sym (i .wire) ∙ j .wire) ∙ sym (j .memory)
 
+-- .. and what holds of its traffic alone
+by-traffic : (P : List Heard → Type 0) → ((p : Plate) (gs : List Call) → P (traffic p gs))
+    → (p : Plate) (gs : List Call) (t : List Heard) (img m x : List ℕ) → Ran p gs t img m x → P t
+by-traffic P always p gs t img m x h = as-run p gs t img m x h (λ (_ : meaning.State) (_ : List ℕ) (t : List Heard). P t) (always p gs)
+
 pub qs-carried-the-code : QsCarriedTheCode
-qs-carried-the-code p gs t img m x h = as-run p gs t img m x h (λ (_ : meaning.State) (_ : List ℕ) (t : List Heard). Honest t) (carried-the-code p gs)
+qs-carried-the-code = by-traffic Honest carried-the-code
+
+pub qs-deletions-named : QsDeletionsNamed
+qs-deletions-named = by-traffic DeletedByName deletions-named
 
 pub qs-answers-to-one : QsAnswersToOne
 qs-answers-to-one p gs t img m x h =

@@ -13,7 +13,7 @@ use Rattle.meaning.specs.Commands.{commandOf, freeByte}
 use Rattle.meaning.specs.Frames.{dataOf, message, resting}
 use Rattle.meaning.specs.Run.{Call, poll, measured, power-on, refusedBy, run, closes, Heard, heard, traffic}
 use Rattle.meaning.specs.Bench.{allowed, request, warning, bare}
-use Rattle.meaning.specs.Ledger.{fieldsOf, granted, back, byteOf, addressOf, Agrees, AnswersTo, Honest, Wanted, roomReply}
+use Rattle.meaning.specs.Ledger.{fieldsOf, granted, back, byteOf, addressOf, Agrees, AnswersTo, Honest, DeletedByName, Wanted, roomReply}
 use Rattle.meaning.specs.Demands.{waits, meant, Served}
 use Rattle.quicksetter.specs.Calls.{isImage, plateHeld, stateHeld, lastingOf, Called, Freshens, Restarts}
 
@@ -82,6 +82,10 @@ QsTrafficAlone = (p : Plate) (gs hs : List Call) (t : List Heard) (img m x img�
 -- Demand 3: accepted stores and shapes carried the code in force
 abbrev pub QsCarriedTheCode : Type 0
 QsCarriedTheCode = (p : Plate) (gs : List Call) (t : List Heard) (img m x : List ℕ) → Ran p gs t img m x → Honest t
+
+-- 02, Req 02: each accepted deletion named the stored status, all bits but bit 7
+abbrev pub QsDeletionsNamed : Type 0
+QsDeletionsNamed = (p : Plate) (gs : List Call) (t : List Heard) (img m x : List ℕ) → Ran p gs t img m x → DeletedByName t
 
 -- 02, Req 01: its board answers to exactly one address of 0 to 31, the one that the traffic tells, and to FFh
 abbrev pub QsAnswersToOne : Type 0
