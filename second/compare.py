@@ -7,6 +7,7 @@ import sys
 import time
 
 import generate
+from deletions import Deletions
 
 DEFAULT_SEED = "2024"
 # 53h is followed by silence.
@@ -25,8 +26,10 @@ class Coverage:
         self.bad = 0
         self.commands = collections.Counter()
         self.errors = collections.Counter()
+        self.deletions = Deletions()
 
     def add(self, tape, output, wide_faults):
+        self.deletions.add(tape, output)
         # The plate comes first; its third number is the address.
         plate_address = b"%02X" % (0x40 + tape[6] & 0xFF) if len(tape) > 6 else b""
         for line in output.split(b"\n")[1:-1]:
@@ -53,14 +56,15 @@ class Coverage:
         return ([f"reply {command:02X}" for command in REPLY_COMMANDS
                  if not self.commands[command]]
                 + [f"error {code:02X}" for code in ERROR_CODES if not self.errors[code]]
-                + ["a reply from an address that 55h gave"] * (not self.moved))
+                + ["a reply from an address that 55h gave"] * (not self.moved)
+                + self.deletions.holes())
 
     def __str__(self):
         commands = " ".join(f"{command:02X}:{self.commands[command]}" for command in REPLY_COMMANDS)
         errors = " ".join(f"{code:02X}:{self.errors[code]}" for code in ERROR_CODES)
         return (f"replies {commands}; errors {errors}; "
                 f"with warning {self.warnings}; from an address that 55h gave {self.moved}; "
-                f"bad tapes {self.bad}")
+                f"bad tapes {self.bad}; deletions {self.deletions}")
 
 
 def run(program, tape):

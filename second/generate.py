@@ -90,6 +90,8 @@ class Session:
         self.wide_faults = wide_faults
         self.codes = [0x55] * 4
         self.fields = []
+        # The status that each field had before its last modify.
+        self.earlier = {}
         # The address in force is `address`; `asked` is the one that the master believes in force,
         # wrong for as many requests as it stays `unaware`.
         self.asked = self.address
@@ -209,15 +211,20 @@ class Session:
                                head + rng.randbytes(max(count, 1) - 1)))
         return head + (rng.randbytes(count) if self.chance(0.9) else bytes(count))
 
-    def field_change(self):
-        """Field, status and code of a 4Dh."""
-        rng = self.rng
-        number, free = len(self.fields), self.free()
-        status = 0x80 | rng.randrange(128)
+    def new_status(self):
+        """A status with bit 7 set, mostly write-enabled."""
+        status = 0x80 | self.rng.randrange(128)
         if self.chance(0.7):
             status |= 0x40
         if self.chance(0.5):
             status &= ~0x08
+        return status
+
+    def field_change(self):
+        """Field, status and code of a 4Dh."""
+        rng = self.rng
+        number, free = len(self.fields), self.free()
+        status = self.new_status()
         choice = rng.random()
         room = min(free, 8)
         if number == 0 or choice < (0.45 if free > 0 else 0.08):
@@ -226,31 +233,55 @@ class Session:
                 size = room if self.chance(0.2) else rng.randint(1, room)
                 status = status & ~7 | size - 1
             return number & 0xFF, status, self.code(status >> 4 & 3)
-        if choice < 0.60:
+        if choice < 0.58:
             # Modify, the size staying.
             field = rng.randrange(number)
             stored = self.fields[field]
             return field, status & ~7 | stored & 7, self.code(stored >> 4 & 3)
-        if choice < 0.78:
+        if choice < 0.73:
             # Grow or shrink, mostly the last field.
-            field = number - 1 if self.chance(0.85) else rng.randrange(number)
+            field = self.often_last()
             stored = self.fields[field]
             most = min(blocks(stored) + max(free, 0), 8)
             if self.chance(0.85):
                 status = status & ~7 | rng.randint(1, most) - 1
             return field, status, self.code(stored >> 4 & 3)
         if choice < 0.92:
-            # Delete, mostly the last field, any bits.
-            field = number - 1 if self.chance(0.85) else rng.randrange(number)
-            stored = self.fields[field]
-            low = stored & 0x7F if self.chance(0.5) else rng.randrange(128)
-            return field, low, self.code(stored >> 4 & 3)
+            return self.deletion()
         if choice < 0.95:
             # The slip: the code that the new status names.
-            field = rng.randrange(number)
-            return field, status, self.codes[status >> 4 & 3]
+            return rng.randrange(number), status, self.codes[status >> 4 & 3]
         return (rng.choice((number + 1, 0xFF, number, rng.randrange(256))) & 0xFF,
                 rng.choice((status, status & 0x7F)), self.code(0))
+
+    def often_last(self, share=0.85):
+        """The number of an existing field, mostly the last."""
+        number = len(self.fields)
+        return number - 1 if self.chance(share) else self.rng.randrange(number)
+
+    def deletion(self):
+        """Field, status and code of a 4Dh that deletes."""
+        field = self.often_last(0.75)
+        stored = self.fields[field] & 0x7F
+        if self.chance(0.10):
+            # The slip: another code number, and the code that it names.
+            named = stored ^ self.rng.choice((0x10, 0x20, 0x30))
+            return field, named, self.codes[named >> 4 & 3]
+        return field, self.named_status(field), self.code(stored >> 4 & 3)
+
+    def named_status(self, field):
+        """The status by which a field is deleted: its own without bit 7, or a wrong one."""
+        rng = self.rng
+        stored = self.fields[field] & 0x7F
+        choice = rng.random()
+        if choice < (0.4 if self.troubled else 0.62):
+            return stored
+        if choice < 0.84:
+            return stored ^ 1 << rng.randrange(7)
+        if choice < 0.90:
+            return self.earlier[field] & 0x7F
+        # Another field's, none at all, or any bits.
+        return rng.choice((rng.choice(self.fields) & 0x7F, 0x00, rng.randrange(128)))
 
     def note_frame(self, data):
         """Follows a frame that came whole in the picture, if the board takes it."""
@@ -292,14 +323,19 @@ class Session:
         if status & 0x80 and field == number:
             if code == self.codes[status >> 4 & 3] and blocks(status) <= self.free():
                 self.fields.append(status)
+                self.earlier[field] = status
         elif field < number and code == self.codes[self.fields[field] >> 4 & 3]:
-            change = blocks(status) - blocks(self.fields[field])
-            last = field == number - 1
-            if not status & 0x80:
-                if last:
-                    self.fields.pop()
-            elif change == 0 or last and change <= self.free():
-                self.fields[field] = status
+            if status & 0x80:
+                self.note_modify(field, status)
+            elif status == self.fields[field] & 0x7F and field == number - 1:
+                self.fields.pop()
+
+    def note_modify(self, field, status):
+        change = blocks(status) - blocks(self.fields[field])
+        last = field == len(self.fields) - 1
+        if change == 0 or last and change <= self.free():
+            self.earlier[field] = self.fields[field]
+            self.fields[field] = status
 
     # Events.
 
@@ -544,11 +580,32 @@ class Session:
             self.send(0x4D, bytes((field, stored, code)))
         self.send(0x4B, bytes((field, 0, size, code)) + rng.randbytes(size))
         if self.chance(0.5):
-            self.send(0x4D, bytes((field, 0x00, code)))
+            self.send(0x4D, bytes((field, stored & 0x7F, code)))
         else:
             self.send(0x4D, bytes((field, stored & ~7 | rng.randint(0, stored & 7), code)))
         self.send(0x4D, bytes((field, stored, code)))
         self.send(0x4A, bytes((field, 0, size, code)))
+
+    def modify_then_delete(self):
+        """Modifies a field, then deletes it by the status that it had and by the one that it has."""
+        if not self.fields:
+            return
+        field = self.often_last()
+        earlier = self.fields[field]
+        # Any of code wanted, code number and write-enabled; the size stays.
+        status = earlier ^ self.rng.randrange(1, 16) << 3
+        self.send(0x4D, bytes((field, status, self.codes[earlier >> 4 & 3])))
+        for named in (earlier & 0x7F, status & 0x7F):
+            self.send(0x4D, bytes((field, named, self.codes[status >> 4 & 3])))
+
+    def delete_by_wrong_bits(self):
+        """Deletes a field by its status with one bit wrong, each of the seven in its turn."""
+        if not self.fields:
+            return
+        field = self.often_last()
+        stored = self.fields[field] & 0x7F
+        for bit in range(7):
+            self.send(0x4D, bytes((field, stored ^ 1 << bit, self.codes[stored >> 4 & 3])))
 
     def move(self):
         """Gives the board a new address, then asks by the old one, the new one, another and all."""
@@ -604,6 +661,10 @@ def session_tape(rng, weights, damage, requests, small=False, wide=False):
         session.request()
         if session.chance(0.02):
             session.reuse()
+        if session.chance(0.008):
+            session.modify_then_delete()
+        if session.chance(0.003):
+            session.delete_by_wrong_bits()
         if session.chance(0.01):
             session.move()
     return session.tape.bytes()

@@ -34,6 +34,12 @@ impl Status {
     pub fn blocks(self) -> usize {
         usize::from(self.0 & 7) + 1
     }
+
+    /// Whether a deletion names this status: "all status bits except bit 7 must equal the stored
+    /// ones" (02, Req 02).
+    pub fn is_named_by(self, asked: Status) -> bool {
+        self.0 & 0x7F == asked.0 & 0x7F
+    }
 }
 
 /// The memory of one board, its status table found sound.
@@ -130,8 +136,12 @@ impl<'m> Fields<'m> {
         Ok(())
     }
 
-    /// Deletes a field; "10h if not the last".
-    pub fn delete(&mut self, field: Field) -> Result<(), ErrorCode> {
+    /// Deletes a field; 0Dh unless the status names the stored one, "after 0Fh and before 10h" (02,
+    /// Req 02); "10h if not the last".
+    pub fn delete(&mut self, field: Field, status: Status) -> Result<(), ErrorCode> {
+        if !field.status.is_named_by(status) {
+            return Err(ErrorCode::WrongArgument);
+        }
         if !self.is_last(field) {
             return Err(ErrorCode::NoRoom);
         }

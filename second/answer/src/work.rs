@@ -208,7 +208,7 @@ fn change_field(
     if status.exists() {
         fields.modify(field, status)
     } else {
-        fields.delete(field)
+        fields.delete(field, status)
     }
 }
 

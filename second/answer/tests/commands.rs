@@ -20,6 +20,13 @@ impl Rig {
         self.error(&to(0x4D, &[field, status, code]))
     }
 
+    /// A deletion that is taken: it names the stored status, and the field is gone.
+    fn delete(&mut self, field: u8, status: u8, code: u8) {
+        assert_eq!(status & 0x80, 0);
+        self.create(field, status, code);
+        assert_eq!(self.error(&to(0x4C, &[field])), 0x12);
+    }
+
     fn store(&mut self, field: u8, offset: u8, bytes: &[u8]) {
         let data = [&[field, offset, bytes.len() as u8, 0x55], bytes].concat();
         let expected = rig::sealed(&to(0x4B, &[field, offset, bytes.len() as u8]));
@@ -105,7 +112,7 @@ fn shrink_clears_what_is_given_back_and_growth_what_is_granted() {
     );
     rig.create(1, 0x80, 0x55);
     assert_eq!(rig.memory[48..64], [0; 16]);
-    rig.create(1, 0x00, 0x55);
+    rig.delete(1, 0x00, 0x55);
     assert_eq!(rig.memory_status(), (1, 1));
 }
 
@@ -139,10 +146,113 @@ fn modify_and_delete_want_the_code_the_stored_status_names() {
     rig.create(1, 0x86, 1);
     assert_eq!(rig.memory_status(), (0, 2));
     rig.create(1, 0x80, 1);
-    // The bits of a delete are ignored and sent back as received.
-    rig.create(1, 0x7F, 1);
+    rig.delete(1, 0x00, 1); // read-only does not forbid it
     assert_eq!(rig.memory_status(), (7, 1));
     assert_eq!(rig.create_error(1, 0x00, 1), 0x12);
+}
+
+#[test]
+fn a_deletion_names_all_of_bits_0_to_6() {
+    let mut rig = Rig::sheet(4);
+    rig.create(0, 0xC9, 0x55);
+    rig.store(0, 0, &[7; 32]);
+    for status in (0x00..0x80).filter(|&status| status != 0x49) {
+        assert_eq!(rig.create_error(0, status, 0x55), 0x0D, "{status:02X}");
+    }
+    assert_eq!(rig.read(0, 0, 32), [7; 32]);
+    rig.delete(0, 0x49, 0x55);
+    assert_eq!(rig.memory_status(), (4, 0));
+    assert!(rig.memory.iter().all(|&byte| byte == 0));
+}
+
+#[test]
+fn no_single_bit_of_a_deletion_may_differ() {
+    let mut rig = Rig::sheet(8);
+    rig.state.codes = [1, 2, 3, 4];
+    for status in 0x00..0x80 {
+        let code = 1 + (status >> 4 & 3);
+        rig.create(0, 0x80 | status, code);
+        for bit in 0..7 {
+            assert_eq!(rig.create_error(0, status ^ 1 << bit, code), 0x0D);
+        }
+        rig.delete(0, status, code);
+    }
+}
+
+#[test]
+fn a_deletion_checks_its_code_before_its_bits() {
+    let mut rig = Rig::sheet(4);
+    rig.state.codes = [1, 2, 3, 4];
+    rig.create(0, 0xD0, 2); // Code1 not wanted
+    assert_eq!(rig.create_error(0, 0x50, 9), 0x0F);
+    assert_eq!(rig.create_error(0, 0x51, 9), 0x0F);
+    // The status says Code2, the stored one Code1.
+    assert_eq!(rig.create_error(0, 0x60, 3), 0x0F);
+    assert_eq!(rig.create_error(0, 0x60, 2), 0x0D);
+    assert_eq!(rig.create_error(0, 0x50, 3), 0x0F);
+    rig.delete(0, 0x50, 2);
+}
+
+#[test]
+fn a_deletion_checks_its_bits_before_its_place() {
+    let mut rig = Rig::sheet(4);
+    rig.create(0, 0xC9, 0x55);
+    rig.create(1, 0xC0, 0x55);
+    assert_eq!(rig.create_error(0, 0x48, 0x54), 0x0F);
+    assert_eq!(rig.create_error(0, 0x49, 0x54), 0x0F);
+    assert_eq!(rig.create_error(0, 0x48, 0x55), 0x0D);
+    assert_eq!(rig.create_error(0, 0x40, 0x55), 0x0D); // the other field's
+    assert_eq!(rig.create_error(0, 0x49, 0x55), 0x10);
+    assert_eq!(rig.create_error(1, 0x49, 0x55), 0x0D);
+    rig.delete(1, 0x40, 0x55);
+    rig.delete(0, 0x49, 0x55);
+}
+
+#[test]
+fn a_modified_field_is_deleted_by_its_new_status() {
+    let mut rig = Rig::sheet(4);
+    rig.state.codes = [1, 2, 3, 4];
+    rig.create(0, 0xC1, 1);
+    rig.create(0, 0x81, 1); // locked
+    assert_eq!(rig.create_error(0, 0x41, 1), 0x0D);
+    rig.delete(0, 0x01, 1);
+    // Another size and another code.
+    rig.create(0, 0xC1, 1);
+    rig.create(0, 0xD2, 1);
+    assert_eq!(rig.create_error(0, 0x41, 1), 0x0F);
+    assert_eq!(rig.create_error(0, 0x41, 2), 0x0D);
+    assert_eq!(rig.create_error(0, 0x52, 1), 0x0F);
+    // A modify that is refused changes no status.
+    assert_eq!(rig.create_error(0, 0xD7, 2), 0x10);
+    assert_eq!(rig.create_error(0, 0x57, 2), 0x0D);
+    rig.delete(0, 0x52, 2);
+    assert_eq!(rig.memory_status(), (4, 0));
+}
+
+#[test]
+fn a_deletion_of_no_field() {
+    let mut rig = Rig::sheet(4);
+    assert_eq!(rig.create_error(0, 0x00, 0x55), 0x12);
+    rig.create(0, 0xC9, 0x55);
+    for field in [1, 2, 4, 0xFF] {
+        for status in [0x00, 0x49, 0x48] {
+            assert_eq!(rig.create_error(field, status, 0x55), 0x12);
+            assert_eq!(rig.create_error(field, status, 0x54), 0x12);
+        }
+    }
+}
+
+#[test]
+fn a_deletion_in_an_unsound_table() {
+    let mut rig = Rig::sheet(4);
+    rig.create(0, 0xC9, 0x55);
+    rig.memory[66] = 0x01;
+    for field in [0, 1, 0xFF] {
+        for status in [0x49, 0x48] {
+            assert_eq!(rig.create_error(field, status, 0x55), 0x03);
+            assert_eq!(rig.create_error(field, status, 0x54), 0x03);
+        }
+    }
 }
 
 #[test]
