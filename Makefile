@@ -1,8 +1,8 @@
 # What a person calls by name; the gate itself is .ci/run.
 .PHONY: help demo lib test bench clean always
 
-ANSWER = target/bin/answer
-ARCHIVE = target/staticlib/libquicksetter.a
+ANSWER = target/here/answer
+ARCHIVE = target/here/libquicksetter.a
 SHARED = target/libquicksetter.so
 LIB = target/lib
 
@@ -21,19 +21,22 @@ help:
 demo: $(ANSWER) $(SHARED)
 	@python3 tools/explain.py --run $(ANSWER) tools/sessions/pallet-night.txt
 
-# rt looks itself whether anything changed, which takes it a moment: the program is never older than the crates.
+# rt looks itself whether anything changed, which takes it a moment: the program is never older than the crates. Programs are for x86-64; here.sh makes them
+# run on any machine that the kit is for.
 $(ANSWER): always
 	@mkdir -p target
 	@test -e $@ || echo 'The answer program is proved from nothing, which takes some minutes.'
 	@rt check answer >target/answer.log 2>&1 || { cat target/answer.log; exit 1; }
+	@bash tools/here.sh answer
 
-# rt staticlib proves anew each time, so make looks whether a file of the crates, or a folder where one went away, is newer.
+# here.sh proves anew each time, so make looks whether a file of the crates, or a folder where one went away, is newer.
 $(ARCHIVE): crates.txt $(shell find crates -name '*.rt' -o -name '*.antt' -o -type d)
-	rt staticlib quicksetter
+	bash tools/here.sh library
 	@touch $@
 
 $(SHARED): $(ARCHIVE)
-	bash tools/shared.sh
+	@test -e $@ || bash tools/here.sh library
+	@touch $@
 
 lib: $(ARCHIVE)
 	@mkdir -p $(LIB)/include

@@ -5,9 +5,10 @@
     run.py [--library FOLDER] --check                        holds the library to what its header says it needs and keeps, its stack to the bound, and the
                                                              instructions of every kind of call to their limits, and fails where one is over
 
-PROGRAM answers tapes and FOLDER has libquicksetter.a; those not named are built by rt, as target/bin/answer and in target/staticlib.
+PROGRAM answers tapes and FOLDER has libquicksetter.a; those not named are built by rt and stand in target/here.
 Instructions are counted by valgrind's callgrind; without valgrind only times are measured, and that check is left out. What the library is and needs comes
-from gcc's binutils (archive.py), the instructions of each call from costs.py.
+from gcc's binutils (archive.py), the instructions of each call from costs.py. The page, the bound of the stack and the limits are about the machine code of
+x86-64: elsewhere the page is not written, and the checks say that they were left out.
 """
 
 import os
@@ -32,6 +33,7 @@ WORK = os.path.join(ROOT, "target", "perf")
 PAGE = os.path.join(ROOT, "docs", "PERFORMANCE.md")
 FLAGS = ["-std=c11", "-O3", "-Wall", "-Wextra", "-Werror"]
 PLATE = Plate(112, 24, 0, 4, 55)
+MEASURED_ON = "x86_64"
 
 SHORT_TAPE, LONG_TAPE, TIMED_TAPE = 2000, 12000, 500000
 ROUNDS = 7
@@ -156,8 +158,8 @@ def found_library(library: Optional[str]) -> str:
     """The folder of libquicksetter.a."""
     if library:
         return library
-    run(["rt", "staticlib", "quicksetter"], cwd=ROOT)
-    return os.path.join(ROOT, "target", "staticlib")
+    run(["bash", "tools/here.sh", "library"], cwd=ROOT)
+    return os.path.join(ROOT, "target", "here")
 
 
 def found_answer(answer: Optional[str]) -> str:
@@ -165,7 +167,8 @@ def found_answer(answer: Optional[str]) -> str:
     if answer:
         return answer
     run(["rt", "check", "answer"], cwd=ROOT)
-    return os.path.join(ROOT, "target", "bin", "answer")
+    run(["bash", "tools/here.sh", "answer"], cwd=ROOT)
+    return os.path.join(ROOT, "target", "here", "answer")
 
 
 def tape_programs(answer: Optional[str], library: str) -> Dict[str, str]:
@@ -354,6 +357,9 @@ def check_archive(library: str) -> int:
         print(f"perf: {words}")
     if wrong:
         return 1
+    if platform.machine() != MEASURED_ON:
+        print(f"perf: the library needs {', '.join(found.needed)} and keeps nothing; the bound of its stack was LEFT OUT, since this machine is no {MEASURED_ON}")
+        return 0
     seen = archive.seen_stack(compiled("stack", ["stack.c"], library))
     rows = archive.stack_rows(archive.stacks_of(path, found.entries), seen)
     deepest = max(int(bound) for _, bound, _ in rows)
@@ -363,6 +369,9 @@ def check_archive(library: str) -> int:
 
 def check_limits(library: str) -> int:
     """Every row of the two tables of calls held to its limit."""
+    if platform.machine() != MEASURED_ON:
+        print(f"perf: the check of the instructions inside the C entries was LEFT OUT, since this machine is no {MEASURED_ON}")
+        return 0
     if not has_valgrind():
         print("perf: the check of the instructions inside the C entries was LEFT OUT, since valgrind is not there")
         return 0
@@ -380,7 +389,10 @@ def check_limits(library: str) -> int:
     return int(bool(over))
 
 
-def write_page(answer: Optional[str], library: str) -> int:
+def write_page(answer: Optional[str], library: Optional[str]) -> int:
+    if platform.machine() != MEASURED_ON:
+        raise Failure(f"docs/PERFORMANCE.md is about {MEASURED_ON}, and this machine is {platform.machine()}: nothing was measured")
+    library = found_library(library)
     page = measure(tape_programs(answer, library), library)
     with open(PAGE, "w", encoding="utf-8") as file:
         file.write(page)
@@ -414,8 +426,10 @@ def main(arguments: List[str]) -> int:
         return 2
     os.makedirs(WORK, exist_ok=True)
     try:
+        if not checks:
+            return write_page(answer, library)
         library = found_library(library)
-        return check_archive(library) | check_limits(library) if checks else write_page(answer, library)
+        return check_archive(library) | check_limits(library)
     except Failure as failure:
         sys.stderr.write(f"run.py: {failure}\n")
         return 1

@@ -5,6 +5,8 @@ program stops; calls that are cut off or move less than asked change nothing. En
 The kit has no way to set an exit status, so that it is 0 also then: what tells a failure is that standard error is not empty."""
 import os
 import pathlib
+import platform
+import shutil
 import signal
 import subprocess
 import sys
@@ -14,15 +16,21 @@ import time
 from make import FIRST, TAPES, frame, plate, poll
 
 TIMEOUT = 10
+IS_X86_64 = platform.machine() == "x86_64"
 UNREAD = "answer: standard input cannot be read: %s\n"
 UNWRITTEN = "answer: standard output cannot be written: %s\n"
 
 # A read and a write that a signal cuts off every other time, that move at most so many bytes, and that fail once so many are moved. A read fails only once.
+# The program is for x86-64 on every machine, and so is this: it goes by no header, which would be the machine's own.
 SHIM = r"""
-#include <errno.h>
-#include <stdlib.h>
-#include <sys/syscall.h>
-#include <unistd.h>
+typedef long ssize_t;
+typedef unsigned long size_t;
+extern char *getenv(const char *name);
+extern long atol(const char *text);
+extern long syscall(long call, ...);
+extern int *__errno_location(void);
+#define errno (*__errno_location())
+enum { SYS_read = 0, SYS_write = 1, STDOUT_FILENO = 1, EINTR = 4, EIO = 5, ENOSPC = 28 };
 
 static long number(const char *name) { const char *text = getenv(name); return text ? atol(text) : -1; }
 
@@ -67,13 +75,22 @@ def case(test):
     return test
 
 
+def compiler():
+    """What compiles for x86-64: gcc, and on another processor the kit's clang, which stands beside the emulator."""
+    if IS_X86_64:
+        return ["gcc"]
+    kit = pathlib.Path(shutil.which("rt")).resolve().parent.parent
+    tools = kit / "on" / platform.machine() / "toolchain" / "bin"
+    return [str(tools / "clang"), "--target=x86_64-unknown-linux-gnu", "--no-default-config", "-nostdlib", f"--ld-path={tools / 'ld.lld'}"]
+
+
 class Program:
     def __init__(self, path, work):
         self.path = path
         self.shim = os.path.join(work, "shim.so")
         source = os.path.join(work, "shim.c")
         pathlib.Path(source).write_text(SHIM, encoding="ascii")
-        subprocess.run(["gcc", "-shared", "-fPIC", "-O1", "-Wall", "-Werror", source, "-o", self.shim], check=True)
+        subprocess.run([*compiler(), "-shared", "-fPIC", "-O1", "-Wall", "-Werror", source, "-o", self.shim], check=True)
 
     def run(self, data=None, **more):
         """What it printed, what stands on standard error, its status."""
@@ -85,7 +102,8 @@ class Program:
 
     def under(self, data, **settings):
         """.. with the calls of the shim."""
-        return self.run(data, env={"LD_PRELOAD": self.shim, **{name: str(value) for name, value in settings.items()}})
+        preload = {"LD_PRELOAD": self.shim} if IS_X86_64 else {"QEMU_SET_ENV": f"LD_PRELOAD={self.shim}"}
+        return self.run(data, env={**preload, **{name: str(value) for name, value in settings.items()}})
 
 
 def same(found, wanted):

@@ -1,8 +1,8 @@
-//! Links libquicksetter.a from the folder that QUICKSETTER_LIB names, by default the repository's target/staticlib.
+//! Links libquicksetter.a from the folder that QUICKSETTER_LIB names, by default the repository's target/here.
 
 fn main() {
     let folder = std::env::var("QUICKSETTER_LIB")
-        .unwrap_or_else(|_| format!("{}/../../target/staticlib", env!("CARGO_MANIFEST_DIR")));
+        .unwrap_or_else(|_| format!("{}/../../target/here", env!("CARGO_MANIFEST_DIR")));
     println!("cargo:rustc-link-search=native={folder}");
     println!("cargo:rustc-link-lib=static=quicksetter");
     println!("cargo:rerun-if-env-changed=QUICKSETTER_LIB");
