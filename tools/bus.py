@@ -1,10 +1,12 @@
 """A session of several boards as a page: what was asked, which board answered, and where boards talked at once."""
 
-from typing import Callable, List, Optional, Tuple, Union
+from collections import defaultdict
+from typing import Callable, Dict, List, Optional, Tuple, Union
 
 from bench import Judge
 from boards import Ask, Board, Call, Exchange, Script, Wish, play
 from commands import BROADCAST
+from fields import Fields
 from frames import silence_due
 from printed import holds, read_answers
 from words import Summary, call_words, entry, error_code, hex_lines, page_of, plate_line, reply_words, request_words
@@ -24,10 +26,11 @@ def by_board(name: str, values: bytes) -> List[str]:
 
 
 class BusTeller:
-    """What tells an exchange: the judge, and the sums so far."""
+    """What tells an exchange: the judge, each board's fields as told, and the sums so far."""
 
     def __init__(self, judge: Judge):
         self.judge = judge
+        self.fields: Dict[str, Fields] = defaultdict(Fields)
         self.summary = Summary()
 
     def count(self, **counted: int):
@@ -50,7 +53,8 @@ class BusTeller:
         verdict = self.judge(exchange.ask.request, reply.values)
         is_error = error_code(verdict, reply.values) is not None
         self.count(replies=1, errors=int(is_error), wrong=int(not due or verdict.is_wrong()))
-        lines = by_board(name, reply.values) + reply_words(exchange.ask.request, reply.values, verdict)
+        lines = by_board(name, reply.values) + reply_words(exchange.ask.request, reply.values, verdict, self.fields[name])
+        self.fields[name].hear(exchange.ask.request, reply.values, verdict)
         return entry(reply.tick, "reply", lines + ["a reply, though silence was due"] * (not due))
 
     def clash(self, exchange: Exchange) -> List[str]:

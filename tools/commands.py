@@ -2,6 +2,8 @@
 
 from typing import Dict, List, NamedTuple, Optional
 
+FIELD_STATUS = 0x4C
+CREATE_FIELD = 0x4D
 READ_STATUS = 0x50
 ERROR = 0x50  # the command byte of every error reply
 RESET = 0x53
@@ -50,8 +52,8 @@ COMMANDS: Dict[int, Command] = {
     0x49: Command("Reset Counter", [CODE], []),
     0x4A: Command("Read Data", [FIELD, OFFSET, COUNT, CODE], [FIELD, OFFSET, COUNT, DATA]),
     0x4B: Command("Store Data", [FIELD, OFFSET, COUNT, CODE, DATA], [FIELD, OFFSET, COUNT]),
-    0x4C: Command("Data Field Status", [FIELD], [FIELD, STATUS]),
-    0x4D: Command("Create Data Field", [FIELD, STATUS, CODE], [FIELD, STATUS]),
+    FIELD_STATUS: Command("Data Field Status", [FIELD], [FIELD, STATUS]),
+    CREATE_FIELD: Command("Create Data Field", [FIELD, STATUS, CODE], [FIELD, STATUS]),
     0x4E: Command("Memory Status", [], [Part("free-blocks"), Part("fields")]),
     0x4F: Command("Set Access Code", [NUMBER, Part("old-code", 1, True), Part("new-code", 1, True)], [NUMBER]),
     READ_STATUS: Command("Read Encoder Status", [], [Part("waiting", 1, True)]),
@@ -101,11 +103,12 @@ CODES: Dict[int, Code] = {
     0x24: Code("multiturn counter fault"),
 }
 
-# What an argument out of range is, by the request's command.
+# What is wrong with an argument, by the request's command.
 WRONG_ARGUMENT = 0x0D
 WRONG_ARGUMENTS = {
     0x43: "the position is beyond the position bits",
     0x4A: "the count is 0 or over 128",
+    CREATE_FIELD: "a deletion whose bits 0 to 6 are not those of the stored status",
     0x4F: "the code number is over 3",
     SET_ADDRESS: "the new address byte is not 40h to 5Fh",
 }

@@ -1,7 +1,7 @@
 #!/usr/bin/env python3
 """A session as a person reads it: what was asked, what came back, what the bench says of it.
 
-    explain.py FILE                 runs target/bin/answer on FILE, a session text or a tape
+    explain.py FILE                 runs target/here/answer on FILE, a session text or a tape
     explain.py --run PROGRAM FILE   runs this answer program on FILE
     explain.py FILE ANSWERS         ANSWERS is what an answer program printed for FILE
     explain.py --log LOG            tells a log of both directions of a real line
@@ -38,6 +38,7 @@ import bench
 from bench import Judge, Verdict
 from boards import has_boards, read_script
 from bus import explain_bus
+from fields import Fields
 from frames import Frame, address_after, frame_at, frames_of, happenings, silence_due
 from printed import Reply, holds, read_answers
 from records import Bad, Plate, split
@@ -46,7 +47,7 @@ from traffic import explain_log
 from words import Summary, call_words, entry, error_code, hex_lines, page_of, plate_line, reply_words, request_words
 from written import WrittenError, complain, is_text, put_out, read_file, text_of_bytes
 
-ANSWER = os.path.join("target", "bin", "answer")
+ANSWER = os.path.join("target", "here", "answer")
 
 
 # --- which reply answers which frame --------------------------------------------------------
@@ -140,10 +141,11 @@ def paired(plate: Plate, frames: List[Frame], replies: List[Reply], judge: Judge
 
 
 class Teller:
-    """What tells a tape: the address byte in force, which reply answers which frame, what is expected, the judge, and the sums so far."""
+    """What tells a tape: the address byte in force, the fields as told, which reply answers which frame, what is expected, the judge, and the sums so far."""
 
     def __init__(self, plate: Plate, replies: Dict[int, Reply], expectations: Dict[int, List[Expectation]], judge: Judge):
         self.own = plate.own_byte()
+        self.fields = Fields()
         self.replies = replies
         self.expectations = expectations
         self.judge = judge
@@ -172,11 +174,11 @@ class Teller:
         undue = silence_due(self.own, frame)
         is_error = error_code(verdict, reply.values) is not None
         self.summary = self.summary.plus(Summary(frames=1, replies=1, errors=int(is_error), wrong=int(undue or verdict.is_wrong())))
-        lines = hex_lines(reply.values) + reply_words(frame.values, reply.values, verdict)
+        lines = hex_lines(reply.values) + reply_words(frame.values, reply.values, verdict, self.fields)
         return entry(reply.tick, "reply", lines + ["a reply, though silence was due"] * undue)
 
     def frame(self, frame: Frame) -> List[str]:
-        """A frame, what came to it, and whether that was expected. An accepted 55h gives the address for the frames behind it."""
+        """A frame, what came to it, and whether that was expected. What a reply tells of address and fields holds for the frames behind it."""
         words = request_words(frame.values, frame.parity, self.own)
         page = entry(frame.start, "request", hex_lines(frame.values) + [words])
         reply = self.replies.get(frame.first)
@@ -185,6 +187,7 @@ class Teller:
         verdict = self.judge(frame.values, reply.values)
         page += self.reply(frame, reply, verdict) + self.expected(frame, verdict)
         self.own = address_after(self.own, frame.values, reply.values)
+        self.fields.hear(frame.values, reply.values, verdict)
         return page
 
     def happening(self, happening: object) -> List[str]:

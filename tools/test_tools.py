@@ -1,5 +1,5 @@
 #!/usr/bin/env python3
-"""Tests of the tools: those of test_tape.py, test_explain.py and test_boards.py, and here the command line, bad files and the answer program.
+"""Tests of the tools: those of test_tape.py, test_explain.py, test_boards.py and test_fields.py, and here the command line, bad files and the answer program.
 
     test_tools.py             the tools alone, with the judge of target/libquicksetter.so
     test_tools.py PROGRAM     also the sessions, run through this answer program
@@ -18,6 +18,7 @@ import explain
 import tape
 import test_boards
 import test_explain
+import test_fields
 import test_tape
 import texts
 import traffic
@@ -159,7 +160,7 @@ def test_nothing_that_is_not_built():
         bench.ROOT = folder
         try:
             assert raised(bench.load, bench.Missing).endswith("make it: make target/libquicksetter.so")
-            assert raised(explain.built_program, written.WrittenError).endswith("make it: make target/bin/answer")
+            assert raised(explain.built_program, written.WrittenError).endswith("make it: make target/here/answer")
         finally:
             bench.ROOT = root
 
@@ -233,7 +234,7 @@ def test_program(program):
 
 
 def main(arguments):
-    modules = (test_tape, test_explain, test_boards, sys.modules[__name__])
+    modules = (test_tape, test_explain, test_boards, test_fields, sys.modules[__name__])
     found = [each for module in modules for each in vars(module).items()]
     tests = [check for name, check in found if name.startswith("test_") and callable(check) and check is not test_program]
     for check in tests:

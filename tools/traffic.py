@@ -1,10 +1,12 @@
 """A log of both directions of a line, read and judged: each reply against the request before it."""
 
 import re
-from typing import Iterator, List, NamedTuple, Optional, Tuple, Union
+from collections import defaultdict
+from typing import Dict, Iterator, List, NamedTuple, Optional, Tuple, Union
 
-from bench import Judge
-from commands import BROADCAST
+from bench import Judge, Verdict
+from commands import BROADCAST, SET_ADDRESS
+from fields import Fields
 from frames import is_reset
 from records import TICKS_A_SECOND, milliseconds
 from words import Summary, entry, error_code, hex_lines, page_of, reply_words, request_words
@@ -52,10 +54,11 @@ def read_log(text: str) -> Iterator[Union[Logged, BadLine]]:
 
 
 class Listener:
-    """The request that was heard last, and how many replies came to it."""
+    """The request that was heard last, how many replies came to it, and the fields of each board, by its address byte."""
 
     def __init__(self, judge: Judge):
         self.judge = judge
+        self.fields: Dict[int, Fields] = defaultdict(Fields)
         self.request: Optional[Logged] = None
         self.replies = 0
 
@@ -79,9 +82,18 @@ class Listener:
         verdict = self.judge(self.request.values, frame.values)
         later = frame.ticks - self.request.ticks
         time = f"{milliseconds(later)} after the request" if later >= 0 else "the time goes back"
-        lines = hex_lines(frame.values) + reply_words(self.request.values, frame.values, verdict) + [time]
+        lines = hex_lines(frame.values) + reply_words(self.request.values, frame.values, verdict, self.fields[frame.values[0]]) + [time]
+        self.learn(frame.values, verdict)
         is_error = error_code(verdict, frame.values) is not None
         return entry(frame.ticks, "reply", lines), Summary(replies=1, errors=int(is_error), wrong=int(verdict.is_wrong()))
+
+    def learn(self, reply: bytes, verdict: Verdict):
+        """What a reply tells of its board's fields. After a good 55h they are at the new address; who answers a broadcast was at none that is known."""
+        request = self.request.values
+        if verdict.kind == "done" and request[1] == SET_ADDRESS:
+            self.fields[reply[0]] = Fields() if request[0] == BROADCAST else self.fields.pop(request[0], Fields())
+        else:
+            self.fields[reply[0]].hear(request, reply, verdict)
 
     def hear(self, heard: Union[Logged, BadLine]) -> Tuple[List[str], Summary]:
         if isinstance(heard, BadLine):

@@ -3,7 +3,9 @@
 from typing import Callable, Dict, List, NamedTuple, Optional
 
 from bench import NOT_A_REQUEST, REFUSALS, Verdict
-from commands import ADDRESS_BYTES, BROADCAST, COMMANDS, ERROR, SET_ADDRESS, WARNING, Part, code_words, error_words, fault_words, layout_fits, pieces
+from commands import ADDRESS_BYTES, BROADCAST, COMMANDS, CREATE_FIELD, ERROR, SET_ADDRESS, WARNING, WRONG_ARGUMENT
+from commands import Part, code_words, error_words, fault_words, layout_fits, pieces
+from fields import EXISTS, Fields, deletion_of, differing, is_deletion
 from frames import KEPT_BYTES, SHORTEST
 from records import Fault, Measured, Plate, Record, hex_of, milliseconds, xor_of
 
@@ -20,7 +22,7 @@ def status_words(status: int) -> str:
     """A status byte taken apart (01, "Status byte")."""
     blocks = status % 8 + 1
     parts = [
-        "exists" if status & 0x80 else "does not exist",
+        "exists" if status & EXISTS else "does not exist",
         "write-enabled" if status & 0x40 else "read-only",
         "code wanted" if status & 0x08 else "no code wanted",
         f"code number {status >> 4 & 3}",
@@ -125,8 +127,8 @@ def command_words(command: int, data: bytes) -> str:
     if not layout_fits(command, data):
         return f"{title}: {len(data)} bytes of data are not its length"
     words = parts_words(COMMANDS[command].request, data)
-    if command == 0x4D:
-        words = ("create or modify: " if data[1] & 0x80 else "delete: ") + words
+    if command == CREATE_FIELD:
+        words = ("create or modify: " if data[1] & EXISTS else "delete: ") + words
     return title + (f": {words}" if words else "")
 
 
@@ -159,11 +161,23 @@ def answer_words(request: bytes, reply: bytes, verdict: Verdict) -> str:
     return parts_words(COMMANDS[command].reply or [], reply[2:-1])
 
 
-def reply_words(request: bytes, reply: bytes, verdict: Verdict) -> List[str]:
-    """A reply in words, then its warning, then the bench's verdict."""
+def misnamed_words(request: bytes, reply: bytes, verdict: Verdict, fields: Fields) -> str:
+    """Why a deletion was answered with 0Dh, where the field's stored status was told before (02, Req 02)."""
+    if not is_deletion(request) or error_code(verdict, reply) != WRONG_ARGUMENT:
+        return ""
+    field, named = request[2], request[3]
+    stored = fields.stored(field)
+    if stored is None:
+        return ""
+    parts = ", ".join(differing(stored, named)) or "nothing"
+    return f"field {field} has {status_words(stored)} and is deleted by {deletion_of(stored):02X}h; {named:02X}h differs in {parts}"
+
+
+def reply_words(request: bytes, reply: bytes, verdict: Verdict, fields: Fields) -> List[str]:
+    """A reply of a board with these fields in words, then its warning, then the bench's verdict."""
     lines = []
     if len(reply) >= SHORTEST and xor_of(reply) == 0:
-        lines.append(answer_words(request, reply, verdict))
+        lines += [answer_words(request, reply, verdict), misnamed_words(request, reply, verdict, fields)]
         if reply[1] >= WARNING:
             lines.append("warning bit: a fault code waits")
     lines.append(verdict_words(verdict))
