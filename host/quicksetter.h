@@ -67,7 +67,7 @@
 extern "C" {
 #endif
 
-#define QS_VERSION "0.3.0" /* CHANGELOG.md tells what a host must change from one to the next */
+#define QS_VERSION "0.4.0" /* CHANGELOG.md tells what a host must change from one to the next */
 
 /* ---- sizes ---------------------------------------------------------------------------------------------------------------------------------------------- */
 
@@ -121,7 +121,7 @@ extern "C" {
 #define QS_READ_DATA 0x4A         /* field, offset, count, code; field, offset, count and as many bytes; 30 ms */
 #define QS_STORE_DATA 0x4B        /* field, offset, count, code and as many bytes; field, offset, count; 250 ms */
 #define QS_FIELD_STATUS 0x4C      /* field; field, status; 5 ms */
-#define QS_CREATE_FIELD 0x4D      /* field, status, code; field, status; 70 ms. Also changes and deletes one */
+#define QS_CREATE_FIELD 0x4D      /* field, status, code; field, status; 70 ms. Also changes one, and deletes the last: QS_DELETION_OF */
 #define QS_MEMORY_STATUS 0x4E     /* nothing; free blocks, number of fields; 5 ms */
 #define QS_SET_ACCESS_CODE 0x4F   /* number 0 to 3, old code, new code; number; 40 ms */
 #define QS_READ_STATUS 0x50       /* nothing; the oldest waiting fault code or 00h; 5 ms. Also the command byte of every error reply, whose data is its code */
@@ -144,7 +144,7 @@ extern "C" {
 #define QS_ERROR_CHECKSUM 0x0A
 #define QS_ERROR_UNKNOWN_COMMAND 0x0B
 #define QS_ERROR_WRONG_LENGTH 0x0C
-#define QS_ERROR_WRONG_ARGUMENT 0x0D
+#define QS_ERROR_WRONG_ARGUMENT 0x0D /* a number out of range; of a deletion, a status that is not QS_DELETION_OF the stored one */
 #define QS_ERROR_READ_ONLY 0x0E
 #define QS_ERROR_WRONG_CODE 0x0F
 #define QS_ERROR_NO_ROOM 0x10
@@ -161,6 +161,10 @@ extern "C" {
 #define QS_STATUS_CODE_NUMBER 0x30   /* shifted left by 4 */
 #define QS_STATUS_WRITE_ENABLED 0x40
 #define QS_STATUS_EXISTS 0x80
+
+/* The status with which 4Dh deletes a field whose stored status, as 4Ch tells it, is this one: all bits but bit 7 must be the stored ones (02, Req 02). Any
+ * other is answered with 0Dh, behind a wrong code (0Fh) and before a field that is not the last (10h). */
+#define QS_DELETION_OF(status) ((uint8_t)((status) & ~QS_STATUS_EXISTS))
 
 /* ---- the label ------------------------------------------------------------------------------------------------------------------------------------------ */
 

@@ -629,12 +629,29 @@ static const struct trial TRIALS[] = {
                {"40 4D FF C0 55", "40 50 12"}, {"40 4D 00 C7 54", "40 50 0F"}, {"40 4D 00 C7 55", "40 4D 00 C7"}, {"40 4D 01 C0 55", "40 50 10"},
                {"40 4D 00 C1 55", "40 4D 00 C1"}, {"40 4E", "40 4E 06 01"}, {"40 4D 01 C6 55", "40 50 10"}, {"40 4D 01 C5 55", "40 4D 01 C5"},
                {"40 4D 00 C0 55", "40 50 10"},
-               {"40 4D 00 00 55", "40 50 10"}, {"40 4D 00 89 55", "40 4D 00 89"}, {"40 4C 00", "40 4C 00 89"}, {"40 4B 00 00 01 54 AA", "40 50 0F"},
+               {"40 4D 00 00 55", "40 50 0D"}, {"40 4D 00 41 55", "40 50 10"}, {"40 4D 00 89 55", "40 4D 00 89"}, {"40 4C 00", "40 4C 00 89"}, {"40 4B 00 00 01 54 AA", "40 50 0F"},
                {"40 4B 00 00 01 55 AA", "40 50 0E"}, {"40 4B 01 5E 02 00 AA BB", "40 4B 01 5E 02"}, {"40 4B 01 5F 02 00 AA BB", "40 50 11"},
                {"40 4A 01 5D 03 00", "40 4A 01 5D 03 00 AA BB"}, {"40 4A 01 FF 80 00", "40 50 11"}, {"40 4A 01 00 00 00", "40 50 0D"},
-               {"40 4A 01 00 81 00", "40 50 0D"}, {"40 4A 00 00 00 54", "40 50 0F"}, {"40 4A 02 00 01 55", "40 50 12"}, {"40 4D 01 7F 55", "40 4D 01 7F"},
+               {"40 4A 01 00 81 00", "40 50 0D"}, {"40 4A 00 00 00 54", "40 50 0F"}, {"40 4A 02 00 01 55", "40 50 12"}, {"40 4D 01 7F 55", "40 50 0D"},
+               {"40 4D 01 45 55", "40 4D 01 45"},
                {"40 4E", "40 4E 06 01"}, {"40 4D 01 C3 55", "40 4D 01 C3"}, {"40 4D 01 C6 55", "40 50 10"}, {"40 4D 01 C5 55", "40 4D 01 C5"},
                {"40 4D 01 C6 55", "40 50 10"}}},
+    /* 02, "Req 02": 0Dh when bits 0 to 6 differ from the stored ones, after 0Fh and before 10h. */
+    {.name = "a deletion names the stored status: 12h, 0Fh, 0Dh, 10h", .plate = &EIGHT,
+     .lines = {{"40 4D 00 C9 55", "40 4D 00 C9"}, {"40 4D 01 A8 55", "40 4D 01 A8"}, {"40 4D 02 00 54", "40 50 12"}, {"40 4D 02 28 55", "40 50 12"},
+               {"40 4D 00 00 54", "40 50 0F"}, {"40 4D 00 49 54", "40 50 0F"}, {"40 4D 00 00 55", "40 50 0D"}, {"40 4D 00 09 55", "40 50 0D"},
+               {"40 4D 00 28 55", "40 50 0D"}, {"40 4D 00 49 55", "40 50 10"}, {"40 4D 01 68 55", "40 50 0D"}, {"40 4D 01 49 55", "40 50 0D"},
+               {"40 4D 01 28 54", "40 50 0F"}, {"40 4E", "40 4E 05 02"}, {"40 4D 01 28 55", "40 4D 01 28"}, {"40 4D 01 28 55", "40 50 12"},
+               {"40 4D 00 28 55", "40 50 0D"}, {"40 4D 00 49 55", "40 4D 00 49"}, {"40 4E", "40 4E 08 00"}}},
+    {.name = "after a modify its status is the one that a deletion names", .plate = &EIGHT,
+     .lines = {{"40 4D 00 C9 55", "40 4D 00 C9"}, {"40 4D 00 89 55", "40 4D 00 89"}, {"40 4D 00 49 55", "40 50 0D"}, {"40 4D 00 09 55", "40 4D 00 09"},
+               {"40 4D 00 C9 55", "40 4D 00 C9"}, {"40 4D 00 CC 55", "40 4D 00 CC"}, {"40 4D 00 49 55", "40 50 0D"}, {"40 4D 00 C8 55", "40 4D 00 C8"},
+               {"40 4D 00 4C 55", "40 50 0D"}, {"40 4D 00 E8 55", "40 4D 00 E8"}, {"40 4D 00 48 55", "40 50 0D"}, {"40 4D 00 68 55", "40 4D 00 68"}}},
+    {.name = "a deletion's code is the one that the stored status names", .plate = &EIGHT, .set = {{QS_IMAGE_CODES, 4, {0x11, 0x22, 0x33, 0x44}}},
+     .lines = {{"40 4D 00 E0 33", "40 4D 00 E0"}, {"40 4D 00 40 11", "40 50 0F"}, {"40 4D 00 60 11", "40 50 0F"}, {"40 4D 00 40 33", "40 50 0D"},
+               {"40 4D 00 60 33", "40 4D 00 60"}}},
+    {.name = "a deletion while a code waits", .plate = &EIGHT, .set = {{QS_IMAGE_WAITING, 1, {0x31}}},
+     .lines = {{"40 4D 00 C0 55", "40 CD 00 C0"}, {"40 4D 00 41 55", "40 D0 0D"}, {"40 4D 00 40 55", "40 CD 00 40"}}},
     {.name = "002's example: field 1 lies behind the two blocks of field 0", .plate = &EIGHT,
      .lines = {{"40 4E", "40 4E 08 00"}, {"40 4D 00 C9 55", "40 4D 00 C9"}, {"40 4D 01 E0 55", "40 4D 01 E0"}, {"40 4F 02 55 66", "40 4F 02"},
                {"40 4B 01 05 02 66 08 15", "40 4B 01 05 02"}},
@@ -1050,10 +1067,38 @@ static const struct {
     {"a cut clears what it gives back", 4, 0x22, {"40 4D 00 C2 55", "40 4D 00 C2"}, {0x22, 0x22, 0x22, 0, 0xDD, 0xDD, 0xDD, 0xDD}},
     {"a cut to one block", 3, 0x33, {"40 4D 00 C0 55", "40 4D 00 C0"}, {0x33, 0, 0, 0, 0xDD, 0xDD, 0xDD, 0xDD}},
     {"a second field leaves the first", 1, 0x44, {"40 4D 01 C4 55", "40 4D 01 C4"}, {0x44, 0, 0, 0, 0, 0, 0xDD, 0xDD}},
-    {"a deletion clears the last field alone", 6, 0x55, {"40 4D 01 00 55", "40 4D 01 00"}, {0x55, 0, 0, 0, 0, 0, 0xDD, 0xDD}},
-    {"a deletion clears the only field", 1, 0x66, {"40 4D 00 00 55", "40 4D 00 00"}, {0, 0, 0, 0, 0, 0, 0xDD, 0xDD}},
+    {"a deletion clears the last field alone", 6, 0x55, {"40 4D 01 44 55", "40 4D 01 44"}, {0x55, 0, 0, 0, 0, 0, 0xDD, 0xDD}},
+    {"a deletion clears the only field", 1, 0x66, {"40 4D 00 40 55", "40 4D 00 40"}, {0, 0, 0, 0, 0, 0, 0xDD, 0xDD}},
     {"eight blocks free, no field", 0, 0, {"40 4E", "40 4E 08 00"}, {0, 0, 0, 0, 0, 0, 0xDD, 0xDD}},
 };
+
+/* Every status that a field can have, deleted by every status: taken exactly if all bits but bit 7 are alike, and then its blocks are 00h and its status is;
+ * any other is 0Dh, and image and memory are as they were. Data is 77h in the field and DDh behind it. */
+static void deleted_as(uint8_t stored, uint8_t named) {
+    const uint8_t request[] = {0x40, QS_CREATE_FIELD, 0, named, GOOD_CODE}, error[] = {0x40, QS_READ_STATUS, QS_ERROR_WRONG_ARGUMENT};
+    bool alike = (stored ^ named) == QS_STATUS_EXISTS;
+    size_t size = QS_BLOCK * ((stored & QS_STATUS_BLOCKS) + 1u);
+    memset(lent.memory, 0xDD, 8 * QS_BLOCK);
+    memset(lent.memory, 0x77, size);
+    lent.memory[8 * QS_BLOCK] = stored;
+    struct lent whole = lent;
+    asks_bytes(EIGHT, request, sizeof request, alike ? request : error, alike ? 4 : sizeof error, "a deletion's status", named);
+    if (alike) {
+        memset(whole.memory, 0, size);
+        whole.memory[8 * QS_BLOCK] = 0;
+    }
+    check(memcmp(whole.image, lent.image, QS_IMAGE_OPEN) == 0, "a deletion leaves the state", named);
+    check(memcmp(whole.memory, lent.memory, sizeof whole.memory) == 0, "what a deletion leaves in memory", named);
+}
+
+static void test_deletions(void) {
+    start(EIGHT);
+    for (unsigned stored = 0x80; stored <= 0xFF; stored++) {
+        for (unsigned named = 0; named <= 0x7F; named++)
+            deleted_as((uint8_t)stored, (uint8_t)named);
+        check(QS_DELETION_OF(stored) + 0x80u == stored, "the header's word for it", stored);
+    }
+}
 
 static bool all_are(const uint8_t *bytes, size_t n, uint8_t value) {
     for (size_t i = 0; i < n; i++)
@@ -1608,6 +1653,7 @@ int main(void) {
     test_closed_frame_numbers();
     test_states_that_never_arise();
     test_unsound_tables();
+    test_deletions();
     test_dirty_memory();
     test_largest();
     test_requests();

@@ -256,13 +256,16 @@ static size_t part_data(const struct board *b, bool store, uint8_t *data) {
     return store ? 4u + data[2] : 4;
 }
 
-/* Field, status and code of 4Dh. */
+/* Field, status and code of 4Dh; a deletion mostly names the stored status. */
 static size_t change_data(const struct board *b, uint8_t *data) {
-    data[0] = some_field(b);
-    data[1] = (uint8_t)(dice() | (once_in(6) ? 0 : 0x80) | (once_in(2) ? 0x40 : 0));
+    uint8_t field = some_field(b), status = (uint8_t)(dice() | 0x80 | (once_in(2) ? 0x40 : 0)), stored = stored_status(b, field, status);
     if (once_in(2))
-        data[1] &= 0xF9;
-    data[2] = some_code(b, stored_status(b, data[0], data[1]));
+        status &= 0xF9;
+    if (once_in(8))
+        status = QS_DELETION_OF(once_in(4) ? dice() : stored);
+    data[0] = field;
+    data[1] = status;
+    data[2] = some_code(b, stored);
     return 3;
 }
 

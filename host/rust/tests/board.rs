@@ -8,15 +8,15 @@ use quicksetter_host::{
     LOCKED, OFFSET, PLATE, WAITING,
 };
 use rig::board::Kind::{
-    AtFormerAddress, AtNewAddress, Error, Moved, MovedByBroadcast, NotMoved, Refused, Reply,
-    Silence,
+    AtFormerAddress, AtNewAddress, Deleted, Error, Moved, MovedByBroadcast, NotDeleted, NotMoved,
+    Refused, Reply, Silence,
 };
 use rig::board::{
     any_call, bad_plate, came_up, good_plate, none_refused, some_label_bytes, some_length, Board,
     Seen,
 };
-use rig::COMMANDS;
-use second::{Label, Refusal, LABEL_LENGTH, REPLY_ROOM};
+use rig::{sealed, COMMANDS};
+use second::{Label, Plate, Refusal, LABEL_LENGTH, REPLY_ROOM};
 
 /// Long runs of traffic from a fresh board: nothing is refused, and every command and error code comes up.
 #[test]
@@ -51,6 +51,43 @@ fn traffic() {
     came_up(&seen, 1000, &[Moved, AtNewAddress, MovedByBroadcast]);
     came_up(&seen, 100, &[AtFormerAddress]);
     came_up(&seen, 50, &[NotMoved(0x0C), NotMoved(0x0D), NotMoved(0x0F)]);
+    came_up(&seen, 500, &[Deleted, NotDeleted(0x0D)]);
+    let others = [NotDeleted(0x0F), NotDeleted(0x10), NotDeleted(0x12)];
+    came_up(&seen, 100, &others);
+}
+
+/// Each stored status, deleted by the right one, with each single bit wrong and by 00h: a field behind which another lies, then the last one.
+#[test]
+fn deletions() {
+    let mut seen = Seen::new();
+    let mut dice = Dice::new(4000);
+    let plate = Plate {
+        total_blocks: 16,
+        ..good_plate(&mut dice)
+    };
+    for stored in 0x80..=0xFF {
+        let mut board = Board::new(&mut dice, plate);
+        let own = board.address_byte();
+        for field in [0, 1] {
+            let created = [own, 0x4D, field, stored, 0x55];
+            assert_eq!(board.ask(&created), sealed(created[..4].to_vec()));
+        }
+        for field in [0, 1] {
+            for wrong in (0..7).map(|bit| 1 << bit).chain([stored]) {
+                let named = (stored ^ wrong) & 0x7F;
+                board.ask(&[own, 0x4D, field, named, 0x54]);
+                board.ask(&[own, 0x4D, field, named, 0x55]);
+            }
+            board.ask(&[own, 0x4D, field, stored & 0x7F, 0x55]);
+        }
+        board.add_to(&mut seen);
+    }
+    // 00h is the right one of 80h alone, which is therefore refused 10h once more and deleted before its time.
+    assert_eq!(seen[&Deleted], 128);
+    assert_eq!(seen[&NotDeleted(0x0F)], 2 * 8 * 128);
+    assert_eq!(seen[&NotDeleted(0x0D)], 2 * 8 * 128 - 2);
+    assert_eq!(seen[&NotDeleted(0x10)], 128 + 1);
+    assert_eq!(seen[&NotDeleted(0x12)], 1);
 }
 
 /// Traffic over memories whose bytes and status tables are whatever they are.

@@ -11,7 +11,7 @@ use second::{Label, Plate, Refusal, State, LABEL_LENGTH, REPLY_ROOM};
 
 use super::{frame, sealed, Known, EVERY_BOARD};
 
-/// What comes back of a call, and what becomes of a frame that tells something of the address.
+/// What comes back of a call, and what becomes of a frame that tells something of the address or deletes.
 #[derive(Clone, Copy, Debug, PartialEq, Eq, PartialOrd, Ord)]
 pub enum Kind {
     /// A reply with this command byte, its bit 7 taken off. 50h's own reply counts as an error: the wire shows no difference.
@@ -30,6 +30,10 @@ pub enum Kind {
     AtNewAddress,
     /// Such a board answered a broadcast.
     MovedByBroadcast,
+    /// A field was deleted.
+    Deleted,
+    /// A deletion was answered with this error.
+    NotDeleted(u8),
 }
 
 pub type Seen = BTreeMap<Kind, usize>;
@@ -128,6 +132,7 @@ impl Board {
             && self.image[KEPT_NUMBER] < before[KEPT_NUMBER];
         if closed {
             self.count_address(before, kind);
+            self.count_deletion(before, kind);
         }
     }
 
@@ -154,6 +159,17 @@ impl Board {
                 self.former = own;
                 self.add(Kind::Moved);
             }
+            _ => {}
+        }
+    }
+
+    /// What became of the frame that a call closed, if it is a 4Dh with bit 7 of its status clear.
+    fn count_deletion(&mut self, before: &[u8], kind: Kind) {
+        let deletes =
+            before[KEPT_NUMBER] == 6 && before[KEPT + 1] == 0x4D && before[KEPT + 3] < 0x80;
+        match kind {
+            Kind::Reply(0x4D) if deletes => self.add(Kind::Deleted),
+            Kind::Error(code) if deletes => self.add(Kind::NotDeleted(code)),
             _ => {}
         }
     }

@@ -138,16 +138,26 @@ fn part_data(dice: &mut Dice, known: &Known, store: bool) -> Vec<u8> {
 /// Field, status and code of 4Dh: create, modify or delete.
 fn change_data(dice: &mut Dice, known: &Known) -> Vec<u8> {
     let field = known.field(dice);
-    let mut status = dice.byte();
-    if !dice.once_in(5) {
-        status |= 0x80;
-    }
+    let mut status = 0x80 | dice.byte();
     if dice.once_in(2) {
         status |= 0x40;
     }
-    let named = known.stored_status(field, status);
-    let code = known.code(dice, named);
+    let stored = known.stored_status(field, status);
+    let code = known.code(dice, stored);
+    if dice.once_in(5) {
+        status = deletion(dice, stored);
+    }
     vec![field, status, code]
+}
+
+/// The status of a deletion: the stored one less bit 7, now and then with one bit wrong or several (02, Req 02).
+fn deletion(dice: &mut Dice, stored: u8) -> u8 {
+    let wrong = match dice.below(8) {
+        0 => dice.byte(),
+        1 | 2 => 1 << dice.below(7),
+        _ => 0,
+    };
+    (stored ^ wrong) & 0x7F
 }
 
 fn code_data(dice: &mut Dice, known: &Known) -> Vec<u8> {
