@@ -245,7 +245,9 @@ static unsigned modify_field(const struct work *w, const struct survey *s, uint8
     return 2;
 }
 
-static unsigned delete_field(const struct work *w, const struct survey *s) {
+static unsigned delete_field(const struct work *w, const struct survey *s, uint8_t status) {
+    if (status != QS_DELETION_OF(s->status))
+        return FAILED + QS_ERROR_WRONG_ARGUMENT;
     if (w->data[0] + 1u != s->fields)
         return FAILED + QS_ERROR_NO_ROOM;
     change_end(w, w->data[0], s->used, s->first, 0);
@@ -263,7 +265,7 @@ static unsigned change_field(const struct work *w) {
         return FAILED + QS_ERROR_NO_FIELD;
     if (!code_is(w, creates ? status : s.status, code))
         return FAILED + QS_ERROR_WRONG_CODE;
-    unsigned outcome = creates ? create_field(w, &s, status) : exists ? modify_field(w, &s, status) : delete_field(w, &s);
+    unsigned outcome = creates ? create_field(w, &s, status) : exists ? modify_field(w, &s, status) : delete_field(w, &s, status);
     if (outcome < FAILED)
         memcpy(w->reply, w->data, 2);
     return outcome;

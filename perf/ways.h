@@ -7,6 +7,7 @@
 
 enum { OWN = 0x40 + ADDRESS, ANOTHER = OWN + 1, LAST = 0x5F, EVERY = 0xFF, CODE = 0x55, WRONG = 0x56, MOST_DATA = 132 };
 enum { STATUS = 0xC8, NO_CODE_WANTED = 0xC0, READ_ONLY = 0x80 }; /* of fields of one block; STATUS wants Code0 and is write-enabled */
+enum { ANOTHER_DELETION = 0x10 };                                /* of none of these fields: the code number is another */
 
 static void (*closed)(const char *row); /* what is done with each way; it leaves memory as it was */
 static uint8_t address;                 /* the first byte of every frame */
@@ -125,14 +126,18 @@ static void plain_requests(void) {
         ask(REQUESTS[i].command, REQUESTS[i].data, REQUESTS[i].length);
 }
 
-/* Requests to one field, taken or refused as the table is: no such field, wrong code, read-only, no room, count 0 or over 128, outside the field. */
+/* The status that deletes a field, where it is there. */
+static uint8_t deletion(uint8_t field) { return field < total ? QS_DELETION_OF(memory[QS_BLOCK * total + field]) : 0; }
+
+/* Requests to one field, taken or refused as the table is: no such field, wrong code, another status than the stored one deleted, read-only, no room,
+ * count 0 or over 128, outside the field. */
 static void field_requests(uint8_t field) {
     static const struct {
         uint8_t command, length, data[3];
     } REQUESTS[] = {
         {QS_FIELD_STATUS, 1, {0}},
-        {QS_CREATE_FIELD, 3, {0, CODE}},
-        {QS_CREATE_FIELD, 3, {0, WRONG}},
+        {QS_CREATE_FIELD, 3, {ANOTHER_DELETION, CODE}},
+        {QS_CREATE_FIELD, 3, {ANOTHER_DELETION, WRONG}},
         {QS_CREATE_FIELD, 3, {STATUS, CODE}},
         {QS_CREATE_FIELD, 3, {STATUS, WRONG}},
         {QS_CREATE_FIELD, 3, {STATUS + 1, CODE}},
@@ -157,11 +162,14 @@ static void field_requests(uint8_t field) {
         memcpy(data + 1, REQUESTS[i].data, 3);
         ask(REQUESTS[i].command, data, REQUESTS[i].length);
     }
+    data[1] = deletion(field);
+    data[2] = CODE;
+    ask(QS_CREATE_FIELD, data, 3);
 }
 
 /* The status of one field, its end and its change to every size, 113 to 128 bytes of it read and stored. */
 static void long_field_requests(uint8_t field) {
-    uint8_t data[MOST_DATA] = {field, 0, CODE};
+    uint8_t data[MOST_DATA] = {field, deletion(field), CODE};
     ask(QS_FIELD_STATUS, data, 1);
     ask(QS_CREATE_FIELD, data, 3);
     for (data[1] = STATUS; data[1] <= STATUS + 7; data[1]++)
