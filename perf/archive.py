@@ -6,18 +6,13 @@ recursion, an instruction that is reached with two depths.
 """
 
 import re
-import shutil
 from typing import Dict, List, NamedTuple, Set, Tuple
 
+from machine import emulator, tool
 from process import Failure, text_of
 
-TOOLS = ("nm", "readelf", "objdump")
 NEEDED = {"memset"}  # all that host/quicksetter.h says the archive needs from outside
 RETURN_ADDRESS = 8
-
-
-def missing_tools() -> List[str]:
-    return [tool for tool in TOOLS if shutil.which(tool) is None]
 
 
 # --- machine, symbols, sizes ----------------------------------------------------------------
@@ -44,7 +39,7 @@ class Stack(NamedTuple):
 
 def machine_of(archive: str) -> str:
     """Format and machine, in which all members must agree."""
-    head = text_of(["readelf", "-hW", archive])
+    head = text_of([tool("readelf"), "-hW", archive])
     found = [re.findall(rf"^ +{line}: +(.*?) *$", head, re.M) for line in ("Class", "Machine", "Data")]
     if any(len(set(values)) != 1 for values in found):
         raise Failure(f"the members of {archive} are not all of one machine and format:\n{head}")
@@ -55,17 +50,17 @@ def section_sizes(archive: str) -> Dict[str, int]:
     """Bytes of the sections that a linked program keeps, by kind: code, constants and writable, which a host's RAM would have to hold."""
     sizes = {"code": 0, "constants": 0, "writable": 0}
     row = re.compile(r"^ +\[ *\d+\] .* [0-9a-f]{16} [0-9a-f]+ ([0-9a-f]+) [0-9a-f]{2} +([A-Za-z]*) +\d+ +\d+ +\d+$", re.M)
-    for size, flags in row.findall(text_of(["readelf", "-SW", archive])):
+    for size, flags in row.findall(text_of([tool("readelf"), "-SW", archive])):
         if "A" in flags:
             sizes["writable" if "W" in flags else "code" if "X" in flags else "constants"] += int(size, 16)
     return sizes
 
 
 def library_of(archive: str) -> Library:
-    symbols = re.findall(r"^([0-9a-f ]{16}) (\S) (.+)$", text_of(["nm", archive]), re.M)
+    symbols = re.findall(r"^([0-9a-f ]{16}) (\S) (.+)$", text_of([tool("nm"), archive]), re.M)
     defined = {name for _, letter, name in symbols if letter not in "Uvw"}
     needed = {name for _, letter, name in symbols if letter in "Uvw"} - defined
-    members = re.findall(r"^File: .*\((.*)\)$", text_of(["readelf", "-hW", archive]), re.M)
+    members = re.findall(r"^File: .*\((.*)\)$", text_of([tool("readelf"), "-hW", archive]), re.M)
     sizes = section_sizes(archive)
     sizes["writable"] += sum(int(size, 16) for size, letter, _ in symbols if letter == "C")  # common data has no section yet
     return Library(machine_of(archive), members, needed, sorted(name for _, letter, name in symbols if letter == "T"), **sizes)
@@ -120,7 +115,7 @@ def instructions_of(lines: List[str], names: Set[str]) -> Function:
 
 def functions_of(archive: str) -> Dict[str, Function]:
     """Every function of the archive, each in a section of its own."""
-    code = text_of(["objdump", "-drw", "--no-show-raw-insn", archive])
+    code = text_of([tool("objdump"), "-drw", "--no-show-raw-insn", archive])
     parts = re.findall(r"^([0-9a-f]{16}) <(.+)>:\n((?: +[0-9a-f]+:\t.*\n?)+)", code, re.M)
     names = {name for _, name, _ in parts}
     if len(names) != len(parts) or any(int(start, 16) != 0 for start, _, _ in parts):
@@ -130,7 +125,7 @@ def functions_of(archive: str) -> Dict[str, Function]:
 
 def check_jump_tables(archive: str):
     """A table of constants may hold places of its own function only: then an indirect jump stays in its function. Code does not go by .eh_frame."""
-    for section, entries in re.findall(r"^Relocation section '\.rela(\S+)'.*\n.*\n((?:[0-9a-f]{16} .*\n?)*)", text_of(["readelf", "-rW", archive]), re.M):
+    for section, entries in re.findall(r"^Relocation section '\.rela(\S+)'.*\n.*\n((?:[0-9a-f]{16} .*\n?)*)", text_of([tool("readelf"), "-rW", archive]), re.M):
         for symbol in re.findall(r"^(?:\S+ +){4}(\S+)", entries, re.M):
             if not section.startswith((".text", ".eh_frame")) and symbol != section.replace(".rodata", ".text", 1):
                 raise Failure(f"stack bound: {section} holds an address of {symbol}")
@@ -281,4 +276,4 @@ def stack_rows(stacks: Dict[str, Stack], seen: Dict[str, int]) -> List[List[str]
 
 def seen_stack(program: str) -> Dict[str, int]:
     """What perf/stack.c measures."""
-    return {entry: int(used) for entry, used in (line.split() for line in text_of([program]).splitlines())}
+    return {entry: int(used) for entry, used in (line.split() for line in text_of([*emulator(), program]).splitlines())}

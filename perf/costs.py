@@ -1,9 +1,11 @@
-"""Every call of perf/calls.c and perf/closing.c on both boards, its instructions counted one by one by callgrind, and the rows that are made of them."""
+"""Every call of perf/calls.c and perf/closing.c on both boards, its instructions counted one by one, and the rows that are made of them."""
 
 import os
 import re
-from typing import Dict, List, NamedTuple
+from typing import Dict, List, NamedTuple, Tuple
 
+import emulated
+from machine import IS_MEASURED
 from process import Failure, run
 
 ENTRIES = ("character", "poll", "measured", "fault", "power_on", "fresh")
@@ -50,8 +52,8 @@ def ratio_of(call: Call) -> float:
     return call.library / call.hand
 
 
-def counted(program: str, entry: str, work: str) -> List[Call]:
-    """The program's lines are its calls, each made on the library and then on the hand-written C. Callgrind writes a part behind each, and one at the end."""
+def by_callgrind(program: str, entry: str, work: str) -> Tuple[List[str], List[int]]:
+    """The program's lines, and what callgrind counted; it writes a part behind each call, and one at the end."""
     parts = os.path.join(work, f"{os.path.basename(program)}-{entry}.callgrind")
     if os.path.exists(parts):
         os.remove(parts)
@@ -61,8 +63,14 @@ def counted(program: str, entry: str, work: str) -> List[Call]:
     with open(parts, encoding="utf-8") as file:
         totals = [int(number) for number in re.findall(r"^totals: (\d+)", file.read(), re.M)]
     os.remove(parts)
-    if not lines or len(totals) != 2 * len(lines) + 1 or 0 in totals[:-1]:
-        raise Failure(f"{entry}: callgrind counted {len(totals) - 1} calls, and {2 * len(lines)} were made")
+    return lines, totals[:-1]
+
+
+def counted(program: str, entry: str, work: str) -> List[Call]:
+    """The program's lines are its calls, each made on the library and then on the hand-written C."""
+    lines, totals = by_callgrind(program, entry, work) if IS_MEASURED else emulated.counted(program, program + ".o", entry, work)
+    if not lines or len(totals) != 2 * len(lines) or 0 in totals:
+        raise Failure(f"{entry}: {len(totals)} calls were counted, and {2 * len(lines)} were made")
     return [Call(*line.split("\t"), library, hand) for line, library, hand in zip(lines, totals[::2], totals[1::2])]
 
 

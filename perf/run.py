@@ -5,14 +5,14 @@
     run.py [--library FOLDER] --check                        holds the library to what its header says it needs and keeps, its stack to the bound, and the
                                                              instructions of every kind of call to their limits, and fails where one is over
 
-PROGRAM answers tapes and FOLDER has libquicksetter.a; those not named are built by rt and stand in target/here.
+PROGRAM answers tapes and FOLDER has libquicksetter.a; those not named are built by rt, as target/bin/answer and in target/staticlib.
 Instructions are counted by valgrind's callgrind; without valgrind only times are measured, and that check is left out. What the library is and needs comes
-from gcc's binutils (archive.py), the instructions of each call from costs.py. The page, the bound of the stack and the limits are about the machine code of
-x86-64: elsewhere the page is not written, and the checks say that they were left out.
+from gcc's binutils (archive.py), the instructions of each call from costs.py. All of it is about the machine code of x86-64. On another processor the
+checks are made with a cross compiler and the kit's emulator (machine.py, emulated.py), and say that they were left out where there is none; of the page the same
+parts are measured anew, and what is told of tapes, by whole programs, stays as it was.
 """
 
 import os
-import platform
 import random
 import re
 import shutil
@@ -25,6 +25,7 @@ sys.path.insert(0, os.path.join(ROOT, "tools"))
 
 import archive  # noqa: E402
 import costs  # noqa: E402
+import machine  # noqa: E402
 from costs import Row  # noqa: E402
 from process import Failure, run  # noqa: E402
 from tape import Character, Measured, Plate, Poll, encode, xor_of  # noqa: E402
@@ -33,7 +34,6 @@ WORK = os.path.join(ROOT, "target", "perf")
 PAGE = os.path.join(ROOT, "docs", "PERFORMANCE.md")
 FLAGS = ["-std=c11", "-O3", "-Wall", "-Wextra", "-Werror"]
 PLATE = Plate(112, 24, 0, 4, 55)
-MEASURED_ON = "x86_64"
 
 SHORT_TAPE, LONG_TAPE, TIMED_TAPE = 2000, 12000, 500000
 ROUNDS = 7
@@ -147,10 +147,14 @@ def written(tape: Tape, events: int) -> Written:
 
 
 def compiled(name: str, sources: List[str], library: str, board: str = "qs") -> str:
-    """A measuring program. It is bound to the C library at its start, so that no call looks for memset while it is measured."""
+    """A measuring program. It is bound to the C library at its start, so that no call looks for memset while it is measured; in an emulator it has it within."""
     path = os.path.join(WORK, name)
-    sources = [os.path.join(ROOT, "perf", source) for source in sources]
-    run(["gcc", *FLAGS, f"-DBOARD={board}", *sources, "-L", library, "-lquicksetter", "-Wl,-z,now", "-o", path])
+    objects = []
+    for source in sources:
+        objects.append(f"{path}-{source[:-2]}.o" if objects else f"{path}.o")
+        run([machine.tool("gcc"), *FLAGS, f"-DBOARD={board}", "-c", os.path.join(ROOT, "perf", source), "-o", objects[-1]])
+    linked = ["-Wl,-z,now"] if machine.IS_MEASURED else ["-static", f"-Wl,-Map={path}.map"]
+    run([machine.tool("gcc"), *objects, "-L", library, "-lquicksetter", *linked, "-o", path])
     return path
 
 
@@ -158,8 +162,8 @@ def found_library(library: Optional[str]) -> str:
     """The folder of libquicksetter.a."""
     if library:
         return library
-    run(["bash", "tools/here.sh", "library"], cwd=ROOT)
-    return os.path.join(ROOT, "target", "here")
+    run(["rt", "staticlib", "quicksetter"], cwd=ROOT)
+    return os.path.join(ROOT, "target", "staticlib")
 
 
 def found_answer(answer: Optional[str]) -> str:
@@ -167,8 +171,7 @@ def found_answer(answer: Optional[str]) -> str:
     if answer:
         return answer
     run(["rt", "check", "answer"], cwd=ROOT)
-    run(["bash", "tools/here.sh", "answer"], cwd=ROOT)
-    return os.path.join(ROOT, "target", "here", "answer")
+    return os.path.join(ROOT, "target", "bin", "answer")
 
 
 def tape_programs(answer: Optional[str], library: str) -> Dict[str, str]:
@@ -280,7 +283,7 @@ def closing_page(rows: Dict[str, Dict[str, Row]]) -> str:
 
 def library_page(library: str) -> str:
     """What the archive is and needs, and its stack."""
-    missing = archive.missing_tools()
+    missing = machine.missing(*machine.READERS)
     if missing:
         return f"\n## The library\n\nWhat the library is and needs was left out: {', '.join(missing)} of gcc's binutils is not there.\n"
     path = os.path.join(library, "libquicksetter.a")
@@ -312,9 +315,8 @@ NO_VALGRIND = "\nInstructions were not counted: valgrind is not there.\n"
 
 def measure(programs: Dict[str, str], library: str) -> str:
     """The whole page."""
-    machine = platform.machine()
     compiler = run(["gcc", "--version"]).stdout.decode().splitlines()[0]
-    page = HEAD.format(machine=machine, flags=" ".join(FLAGS[:2]), compiler=compiler) + library_page(library)
+    page = HEAD.format(machine=machine.MEASURED, flags=" ".join(FLAGS[:2]), compiler=compiler) + library_page(library)
     counts: Dict[str, Dict[str, float]] = {}
     times: Dict[str, Dict[str, float]] = {}
     counting = has_valgrind()
@@ -346,9 +348,9 @@ def over_limit(name: str, row: Row) -> bool:
 
 def check_archive(library: str) -> int:
     """The archive held to the header's words on what it needs and keeps, and the stack that is seen to its bound."""
-    missing = archive.missing_tools()
+    missing = machine.missing("gcc", *machine.READERS)
     if missing:
-        print(f"perf: the check of what the library needs was LEFT OUT, since {', '.join(missing)} of gcc's binutils is not there")
+        print(f"perf: the check of what the library needs was LEFT OUT, since {', '.join(missing)} of gcc's binutils is not there{machine.PACKAGES}")
         return 0
     path = os.path.join(library, "libquicksetter.a")
     found = archive.library_of(path)
@@ -357,9 +359,6 @@ def check_archive(library: str) -> int:
         print(f"perf: {words}")
     if wrong:
         return 1
-    if platform.machine() != MEASURED_ON:
-        print(f"perf: the library needs {', '.join(found.needed)} and keeps nothing; the bound of its stack was LEFT OUT, since this machine is no {MEASURED_ON}")
-        return 0
     seen = archive.seen_stack(compiled("stack", ["stack.c"], library))
     rows = archive.stack_rows(archive.stacks_of(path, found.entries), seen)
     deepest = max(int(bound) for _, bound, _ in rows)
@@ -369,11 +368,9 @@ def check_archive(library: str) -> int:
 
 def check_limits(library: str) -> int:
     """Every row of the two tables of calls held to its limit."""
-    if platform.machine() != MEASURED_ON:
-        print(f"perf: the check of the instructions inside the C entries was LEFT OUT, since this machine is no {MEASURED_ON}")
-        return 0
-    if not has_valgrind():
-        print("perf: the check of the instructions inside the C entries was LEFT OUT, since valgrind is not there")
+    missing = machine.missing("gcc", "nm") if not machine.IS_MEASURED else [] if has_valgrind() else ["valgrind"]
+    if missing:
+        print(f"perf: the check of the instructions inside the C entries was LEFT OUT, since {', '.join(missing)} is not there{machine.PACKAGES}")
         return 0
     rows = call_rows(library)
     if KEPT not in rows:
@@ -389,11 +386,27 @@ def check_limits(library: str) -> int:
     return int(bool(over))
 
 
-def write_page(answer: Optional[str], library: Optional[str]) -> int:
-    if platform.machine() != MEASURED_ON:
-        raise Failure(f"docs/PERFORMANCE.md is about {MEASURED_ON}, and this machine is {platform.machine()}: nothing was measured")
-    library = found_library(library)
-    page = measure(tape_programs(answer, library), library)
+def sections_of(page: str) -> Dict[str, str]:
+    """The page's parts by their titles; the head has none."""
+    parts = re.split(r"^(?=## )", page, flags=re.M)
+    return {part.split("\n", 1)[0] if part.startswith("## ") else "": part for part in parts}
+
+
+def renewed(library: str) -> str:
+    """The page as it stands, with the parts measured anew that are about the library and its calls."""
+    missing = machine.missing("gcc", *machine.READERS)
+    if missing:
+        raise Failure(f"nothing was measured, since {', '.join(missing)} is not there{machine.PACKAGES}")
+    with open(PAGE, encoding="utf-8") as file:
+        stood = sections_of(file.read())
+    anew = sections_of((library_page(library) + call_page(call_rows(library)) + closing_page(closing_rows(library))).lstrip("\n"))
+    if not set(anew) <= set(stood):
+        raise Failure(f"docs/PERFORMANCE.md has not the parts {', '.join(anew)}")
+    return "".join(anew.get(title, part).rstrip("\n") + "\n\n" for title, part in stood.items()).rstrip("\n") + "\n"
+
+
+def write_page(answer: Optional[str], library: str) -> int:
+    page = measure(tape_programs(answer, library), library) if machine.IS_MEASURED else renewed(library)
     with open(PAGE, "w", encoding="utf-8") as file:
         file.write(page)
     print(page)
@@ -426,10 +439,8 @@ def main(arguments: List[str]) -> int:
         return 2
     os.makedirs(WORK, exist_ok=True)
     try:
-        if not checks:
-            return write_page(answer, library)
         library = found_library(library)
-        return check_archive(library) | check_limits(library)
+        return check_archive(library) | check_limits(library) if checks else write_page(answer, library)
     except Failure as failure:
         sys.stderr.write(f"run.py: {failure}\n")
         return 1
