@@ -388,7 +388,7 @@ def check_limits(library: str) -> int:
 
 def sections_of(page: str) -> Dict[str, str]:
     """The page's parts by their titles; the head has none."""
-    parts = re.split(r"^(?=## )", page, flags=re.M)
+    parts = filter(str.strip, re.split(r"^(?=## )", page, flags=re.M))
     return {part.split("\n", 1)[0] if part.startswith("## ") else "": part for part in parts}
 
 
@@ -399,7 +399,7 @@ def renewed(library: str) -> str:
         raise Failure(f"nothing was measured, since {', '.join(missing)} is not there{machine.PACKAGES}")
     with open(PAGE, encoding="utf-8") as file:
         stood = sections_of(file.read())
-    anew = sections_of((library_page(library) + call_page(call_rows(library)) + closing_page(closing_rows(library))).lstrip("\n"))
+    anew = sections_of(library_page(library) + call_page(call_rows(library)) + closing_page(closing_rows(library)))
     if not set(anew) <= set(stood):
         raise Failure(f"docs/PERFORMANCE.md has not the parts {', '.join(anew)}")
     return "".join(anew.get(title, part).rstrip("\n") + "\n\n" for title, part in stood.items()).rstrip("\n") + "\n"
