@@ -100,17 +100,16 @@ fn judge_delete(seen: Survey, codes: &[u8], field: u8, gone: u8, code: u8) -> Gr
     ensures { λ r. ⌜ ((t : ℕ) → Sits t (surveyOf seen) field → field < seen .fields → exists gone ≡ false
         → Judged (now (codes .entry)) t field gone (λ (s : State) (m : List ℕ). delete t s m (surveyOf seen) field gone code) r) ⌝ }
 {
-    let stored = seen.status;
-    if is_wrong_code(codes, stored, code) {
+    if is_wrong_code(codes, seen.status, code) {
         return Grant::Refused(WRONG_CODE);
     }
-    if attributes_in(gone) != attributes_in(stored) {
+    if attributes_in(gone) != attributes_in(seen.status) {
         return Grant::Refused(WRONG_ARGUMENT);
     }
     if field as usize + 1 != seen.fields {
         return Grant::Refused(FIXED_SIZE);
     }
-    Grant::Granted(change_at(seen.first, blocks_in(stored), 0))
+    Grant::Granted(change_at(seen.first, blocks_in(seen.status), 0))
 }
 
 // 03h; then create, modify or delete, otherwise 12h.
