@@ -1,9 +1,12 @@
 """The machine at hand, and what compiles, reads and runs machine code of x86-64 on it: there gcc's own tools, elsewhere Debian's cross compiler and the kit's emulator."""
 
+import os
 import platform
 import shutil
 from pathlib import Path
 from typing import List
+
+from process import text_of
 
 MEASURED = "x86_64"  # the figures, the stack's bound and the limits are about its machine code
 IS_MEASURED = platform.machine() == MEASURED
@@ -18,7 +21,11 @@ def tool(name: str) -> str:
 
 
 def missing(*names: str) -> List[str]:
-    return [tool(name) for name in names if shutil.which(tool(name)) is None]
+    """Those of the tools that are not there; a cross compiler is not there without its C library."""
+    lacking = [tool(name) for name in names if shutil.which(tool(name)) is None]
+    if not IS_MEASURED and "gcc" in names and not lacking and not os.path.isabs(text_of([tool("gcc"), "-print-file-name=libc.a"])):
+        lacking.append("the C library for x86-64")
+    return lacking
 
 
 def emulator() -> List[str]:
