@@ -5,7 +5,7 @@ use mathlib.Core.Logic.{_≢_}
 use mathlib.Core.Bool.{Bool, true, false, not, false≢true}
 use mathlib.Core.List.{List, _∷_}
 use native.Mathlib.Omega.{arith}
-use lib.Dec.{T, eqb, eqb→eq, ltb→lt, lit<}
+use lib.Dec.{T, T-not, eqb, eqb→eq, ltb→lt, lit<}
 use lib.ListN.{length, getD}
 use lib.Pow.{mod-pow-add, field, mod-mod-pow}
 use Rattle.meaning.specs.Bytes.{arg, differ}
@@ -15,8 +15,8 @@ use Rattle.meaning.specs.Commands.{c4D, commandOf, row, lengthFits, aske
 use Rattle.meaning.specs.Characters.{Frame}
 use Rattle.meaning.specs.Frames.{dataOf, work}
 use Rattle.meaning.specs.Run.{Heard}
-use Rattle.meaning.specs.Ledger.{statusOf, Names, DeletedByName, DeletionsNamed}
-use Rattle.meaning.specs.Demands.{SameField, AllButBit7}
+use Rattle.meaning.specs.Ledger.{Names, DeletedByName, DeletionsNamed}
+use Rattle.meaning.specs.Demands.{AllButBit7}
 use Rattle.meaning.proofs.Cases.{neqb→neq}
 use Rattle.meaning.proofs.Tables.{existing-at}
 use Rattle.meaning.proofs.Invariant.{Inv, count-tb}
@@ -79,11 +79,7 @@ module _ (p : Plate) (s : State) (m : List ℕ) (t : List Heard) (I : Inv p s m 
 
     -- what sets bit 7 is no deletion
     no-deletion : T (exists (arg d 1)) → Named
-    no-deletion ex gone = go (exists (getD b 3 0)) (rw a₁ at ex) gone
-      where
-        go : (q : Bool) → T q → T (not q) → Names t (getD b 2 0) (getD b 3 0)
-        go true x y = absurd y
-        go false x y = absurd x
+    no-deletion ex gone = absurd (T-not (exists (getD b 3 0)) gone (rw a₁ at ex))
 
     names : arg d 0 < fieldCount tb → T (not (differ (attributes (arg d 1)) (attributes (statusAt tb (arg d 0))))) → Named
     names l alike gone =
