@@ -23,7 +23,7 @@ use Rattle.fields.specs.Replies.{Asked, Looked, Tellable, Countable}
 use Rattle.fields.proofs.Gives.{looked, tellable, countable}
 use Rattle.line.specs.declared.plate.Plate.{Plate}
 use Rattle.line.specs.Line.{plateOf}
-use Rattle.line.proofs.Limits.{total-fits, few-bits, whole-label}
+use Rattle.meaning.proofs.Plates.{total-fits, few-bits, whole-label}
 use Rattle.state.specs.declared.state.State.{State}
 use Rattle.state.specs.declared.rows.Worked.{Worked}
 use Rattle.state.specs.Rows.{Answers}

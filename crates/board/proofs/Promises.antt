@@ -12,21 +12,24 @@ use Rattle.meaning.specs.Bytes.{pick, put, both, zeros}
 use Rattle.meaning.specs.State as meaning
 use Rattle.meaning.specs.State.{Plate, Line, stateOk, fresh, plateOk}
 use Rattle.meaning.specs.Fields.{memoryLength}
-use Rattle.meaning.specs.Characters.{over}
+use Rattle.meaning.specs.Characters.{remaining}
 use Rattle.meaning.specs.Run as run
-use Rattle.meaning.specs.Run.{Call, Held, step, called, refusedBy, lends}
+use Rattle.meaning.specs.Run.{Call, Held, step, untouched, called, refusedBy, lends}
 use Rattle.meaning.proofs.Puts.{length-put}
 use Rattle.meaning.proofs.Limits.{keeps-limits, fresh-within}
 use Rattle.meaning.proofs.Sizes.{keeps-size}
 use Rattle.line.specs.declared.characters.OpenFrame.{OpenFrame}
-use Rattle.line.specs.Line.{lineOf}
-use Rattle.line.proofs.Tight.{same-line-same-frame, put-long}
+use Rattle.line.specs.declared.characters.Remaining.{Remaining}
+use Rattle.line.specs.Line.{lineOf, remainingOf}
+use Rattle.line.proofs.Tight.{same-line-same-frame, put-long, remainingBack, there-and-back, same-remaining}
 use Rattle.state.specs.declared.state.State.{State}
 use Rattle.state.proofs.Same.{same-state}
 use Rattle.board.specs.declared.limits.Board.{Board}
 use Rattle.board.specs.declared.limits.Outcome as code
+use Rattle.board.specs.declared.limits.Carried.{Carried}
+use Rattle.board.specs.declared.limits.Carried.the-variants.{Nothing, Carries}
 use Rattle.board.specs.declared.limits.Stepped.{Stepped}
-use Rattle.board.specs.Board.{stateOf, fitsIn, refusalOn, refusedAs, calledOn, outcomeOf, ReadsOldest, Steps}
+use Rattle.board.specs.Board.{stateOf, fitsIn, refusalOn, refusedAs, calledOn, outcomeOf, carriedOf, ReadsOldest, Steps}
 use Rattle.board.specs.Promises.{DoesStep, Within, SinceFresh, start, next}
 use Rattle.meaning.proofs.Choices.{told-true, true-told, pick-same}
 use Rattle.board.proofs.Bounding.{lends-poll}
@@ -41,7 +44,7 @@ module _ (p : Plate) (b : Board) (k m w : List ℕ) {r : Stepped} {k′ m′ w�
   unfolding outcomeOf refusedAs
   does-step g e s =
       let h = held-on p b k m w g e in
-      record { state = rw h at (s .state); memory = rw h at (s .memory); room = rw h at (s .room); outcome = rw h at (s .outcome) }
+      record { state = rw h at (s .state); memory = rw h at (s .memory); room = rw h at (s .room); outcome = rw h at (s .outcome); sleep = rw h at (s .sleep) }
 
   pub character-steps : (t v : ℕ) (bad : Bool) → refusalOn p b k m (length w) (run.character t v bad) ≡ 0
       → Steps p b k m w (run.character t v bad) r k′ m′ w′ → DoesStep p b k m w (run.character t v bad) r k′ m′ w′
@@ -117,20 +120,33 @@ unfolding calledOn fitsIn
 has-places p b k m w g e = go (leb (b .frame .len) 135) (eqb (length k) 135) refl e
   where
     go : (x y : Bool) → eqb (length k) 135 ≡ y
-        → (pick (both x y) (called p (stateOf b k) m w g) (record { refusal = 1; count = 0; state = stateOf b k; memory = m; room = w })) .refusal ≡ 0 → length k ≡ 135
+        → (pick (both x y) (called p (stateOf b k) m w g) (untouched 1 (stateOf b k) m w)) .refusal ≡ 0 → length k ≡ 135
     go x true q e = eqb-true (length k) 135 q
     go true false q e = absurd (omega arith)
     go false false q e = absurd (omega arith)
 
-outcomes : {a b : Board} {x y : code.Outcome} → a ≡ b → x ≡ y → _≡_ {A = Stepped} (record { board = a; outcome = x }) (record { board = b; outcome = y })
-outcomes i j = rw (i, j)
+outcomes : {a b : Board} {x y : code.Outcome} {s t : Carried} → a ≡ b → x ≡ y → s ≡ t
+    → _≡_ {A = Stepped} (record { board = a; outcome = x; sleep = s }) (record { board = b; outcome = y; sleep = t })
+outcomes i j n = rw (i, j, n)
+
+-- the meaning's case says what is carried in the code
+abbrev carriedBack : run.Carried → Carried
+carriedBack run.nothing = Nothing
+carriedBack (run.carries r) = Carries (remainingBack r)
+
+carried-back : (c : Carried) → carriedBack (carriedOf c) ≡ c
+carried-back Nothing = refl
+carried-back (Carries r) = ap Carries (there-and-back r)
+
+same-carried : (a b : Carried) → carriedOf a ≡ carriedOf b → a ≡ b
+same-carried a b e = sym (carried-back a) ∙ ap carriedBack e ∙ carried-back b
 
 -- no two differing outcomes satisfy the contract of a call
 pub calls-tight : (p : Plate) (b : Board) (k m w : List ℕ) (g : Call) {r t : Stepped} {k′ k″ m′ m″ w′ w″ : List ℕ} → Steps p b k m w g r k′ m′ w′
     → Steps p b k m w g t k″ m″ w″ → Alike r t k′ k″ m′ m″ w′ w″
 calls-tight p b k m w g {r} {t} {k′} {k″} x y =
     record {
-      stepped = outcomes (go (ℕ-discrete ((calledOn p b k m w g) .refusal) 0)) (x .outcome ∙ sym (y .outcome));
+      stepped = outcomes (go (ℕ-discrete ((calledOn p b k m w g) .refusal) 0)) (x .outcome ∙ sym (y .outcome)) (same-carried (r .sleep) (t .sleep) (x .sleep ∙ sym (y .sleep)));
       kept = x .bytes ∙ sym (y .bytes);
       memory = x .memory ∙ sym (y .memory);
       room = x .room ∙ sym (y .room);
@@ -194,8 +210,9 @@ is-open-tight b x y h i = h [] ∙ sym (i [])
 
 -- ---- the quick way
 
-pub is-over-tight : (p : Plate) (b : Board) (t : ℕ) (x y : Bool) → ((kept : List ℕ) → x ≡ over p (stateOf b kept) t) → ((kept : List ℕ) → y ≡ over p (stateOf b kept) t) → x ≡ y
-is-over-tight p b t x y h i = h [] ∙ sym (i [])
+pub remaining-tight : (p : Plate) (b : Board) (t : ℕ) (x y : Remaining) → ((kept : List ℕ) → remainingOf x ≡ remaining p (stateOf b kept) t)
+    → ((kept : List ℕ) → remainingOf y ≡ remaining p (stateOf b kept) t) → x ≡ y
+remaining-tight p b t x y h i = same-remaining x y (h [] ∙ sym (i []))
 
 pub with-character-tight : (b : Board) (kept : List ℕ) (t v : ℕ) (bad : Bool) (x y : Board) (k l : List ℕ) → TakesIn b kept t v bad x k → TakesIn b kept t v bad y l → (x ≡ y) × (k ≡ l)
 with-character-tight b kept t v bad x y k l h i =

@@ -13,23 +13,29 @@ use lib.Seq.{take-all}
 use Rattle.meaning.specs.Bytes.{pick, put, zeros}
 use Rattle.meaning.specs.State as meaning
 use Rattle.meaning.specs.State.{Plate, none, withLine}
-use Rattle.meaning.specs.Characters.{over, more, taken, closed}
+use Rattle.meaning.specs.Characters.{fullPause, remaining, over, more, taken, closed}
 use Rattle.meaning.specs.Frames.{Outcome, work, resting, still, upTo}
 use Rattle.meaning.specs.Frames as frames
 use Rattle.meaning.specs.Run as run
-use Rattle.meaning.specs.Run.{Call, Held, step, called, closes, lends, refusedBy}
+use Rattle.meaning.specs.Run.{Call, Held, step, carried, untouched, leftBy, called, closes, lends, refusedBy}
 use Rattle.line.specs.declared.characters.OpenFrame.{OpenFrame}
-use Rattle.line.specs.Line.{lineOf, noFrame, Fits, Extends}
+use Rattle.line.specs.declared.characters.Remaining.{Remaining}
+use Rattle.line.specs.declared.characters.Remaining.the-variants.{NoFrameOpen, TicksLeft}
+use Rattle.line.specs.Line.{lineOf, remainingOf, noFrame, Fits, Extends}
 use Rattle.state.specs.declared.state.State.{State}
 use Rattle.state.specs.State.{stateWith}
+use Rattle.meaning.proofs.Choices.{true-told}
+use Rattle.meaning.proofs.Lines.{noted-line}
 use Rattle.meaning.proofs.Rests.{work-rests}
+use Rattle.meaning.proofs.Sleeping.{none-carried, none-after-close, full-after-character}
 use Rattle.state.proofs.Answering.{put-nothing}
 use Rattle.board.specs.declared.limits.Board.{Board}
 use Rattle.board.specs.declared.limits.Outcome as code
 use Rattle.board.specs.declared.limits.Outcome.the-variants.{R1, Still, Over}
+use Rattle.board.specs.declared.limits.Carried.the-variants.{Nothing, Carries}
 use Rattle.board.specs.declared.limits.Stepped.{Stepped}
 use Rattle.board.specs.declared.closing.Closed.{Closed}
-use Rattle.board.specs.Board.{stateOf, fitsIn, within, takenIf, refusalOn, refusedAs, isRefusal, calledOn, outcomeOf, Steps}
+use Rattle.board.specs.Board.{stateOf, fitsIn, within, takenIf, refusalOn, refusedAs, isRefusal, calledOn, outcomeOf, carriedOf, Steps}
 use Rattle.board.specs.Work.{Closes}
 use Rattle.board.proofs.Bounding.{lends-poll, alone-by, few-kept, facts, as-told, refused-alike, none-refused, some-refused}
 
@@ -48,26 +54,21 @@ module _ (p : Plate) (b : Board) (k m w : List ℕ) (g : Call) where
   abbrev told : Outcome
   told = step p (stateOf b k) m g
 
-  held-refused : {n : ℕ} → n ≡ refusalOn p b k m (length w) g → (n ≡ 0 → ⊥)
-      → calledOn p b k m w g ≡ (record { refusal = n; count = 0; state = stateOf b k; memory = m; room = w })
+  held-refused : {n : ℕ} → n ≡ refusalOn p b k m (length w) g → (n ≡ 0 → ⊥) → calledOn p b k m w g ≡ untouched n (stateOf b k) m w
   unfolding refusalOn calledOn called
   held-refused {n} e h = go (fitsIn b k) e
     where
       go : (t : Bool) → n ≡ pick t (refusedBy p (stateOf b k) m (length w) g) 1
-          → pick t (called p (stateOf b k) m w g) (record { refusal = 1; count = 0; state = stateOf b k; memory = m; room = w })
-          ≡ (record { refusal = n; count = 0; state = stateOf b k; memory = m; room = w })
+          → pick t (called p (stateOf b k) m w g) (untouched 1 (stateOf b k) m w) ≡ untouched n (stateOf b k) m w
       go true e = let z : eqb (refusedBy p (stateOf b k) m (length w) g) 0 ≡ false = ne-eqb _ 0 (λ y. h (e ∙ y)) in rw (z, e)
       go false e = rw e
 
-  pub held-on : refusalOn p b k m (length w) g ≡ 0
-      → calledOn p b k m w g
-      ≡ (record { refusal = 0; count = length (told .reply); state = told .state; memory = told .memory; room = put w 0 (told .reply) })
+  pub held-on : refusalOn p b k m (length w) g ≡ 0 → calledOn p b k m w g ≡ leftBy p g w told
   unfolding refusalOn calledOn called
   held-on e = go (fitsIn b k) e
     where
       go : (t : Bool) → pick t (refusedBy p (stateOf b k) m (length w) g) 1 ≡ 0
-          → pick t (called p (stateOf b k) m w g) (record { refusal = 1; count = 0; state = stateOf b k; memory = m; room = w })
-          ≡ (record { refusal = 0; count = length (told .reply); state = told .state; memory = told .memory; room = put w 0 (told .reply) })
+          → pick t (called p (stateOf b k) m w g) (untouched 1 (stateOf b k) m w) ≡ leftBy p g w told
       go true e = let z : eqb (refusedBy p (stateOf b k) m (length w) g) 0 ≡ true = eq-eqb _ 0 e in rw z
       go false e = absurd (omega arith)
 
@@ -78,7 +79,7 @@ module _ (p : Plate) (b : Board) (k m w : List ℕ) (g : Call) where
       go true z = let e = eqb-true (refusalOn p b k m (length w) g) 0 z in ap (λ (h : Held). h .refusal) (held-on e) ∙ sym e
       go false z = ap (λ (h : Held). h .refusal) (held-refused refl (eqb-false (refusalOn p b k m (length w) g) 0 z))
 
-  pub refused : {o : code.Outcome} {r : Stepped} → r ≡ (record { board = b; outcome = o }) → o ≡ refusedAs (refusalOn p b k m (length w) g) Still
+  pub refused : {o : code.Outcome} {r : Stepped} → r ≡ (record { board = b; outcome = o; sleep = Nothing }) → o ≡ refusedAs (refusalOn p b k m (length w) g) Still
       → isRefusal o ≡ true → Steps p b k m w g r k m w
   unfolding outcomeOf
   refused {o} q e i =
@@ -87,6 +88,7 @@ module _ (p : Plate) (b : Board) (k m w : List ℕ) (g : Call) where
       let held = held-refused refl h in
       record {
         outcome = rw (q, held) (e ∙ refused-alike n Still _ h);
+        sleep = rw (q, held);
         state = rw (q, held);
         bytes = rw held (put-own k (b .frame .len));
         memory = rw held;
@@ -96,13 +98,14 @@ module _ (p : Plate) (b : Board) (k m w : List ℕ) (g : Call) where
       }
 
   pub stepped : {r : Stepped} {k′ m′ w′ : List ℕ} → refusalOn p b k m (length w) g ≡ 0
-      → r .outcome ≡ pick (closes p (stateOf b k) g) (Over (length (told .reply))) Still → stateOf (r .board) k′ ≡ told .state
+      → r .outcome ≡ pick (closes p (stateOf b k) g) (Over (length (told .reply))) Still → carriedOf (r .sleep) ≡ carried p (told .state) g → stateOf (r .board) k′ ≡ told .state
       → k′ ≡ put k 0 (told .state .line .kept) → m′ ≡ told .memory → w′ ≡ put w 0 (told .reply) → r .board .frame .len ≤ 135
       → Steps p b k m w g r k′ m′ w′
   unfolding outcomeOf refusedAs
-  stepped e o s kk mm ww few =
+  stepped e o z s kk mm ww few =
       record {
         outcome = rw (held-on e) o;
+        sleep = rw (held-on e) z;
         state = rw (held-on e) s;
         bytes = rw (held-on e) kk;
         memory = rw (held-on e) mm;
@@ -120,12 +123,12 @@ pub told-by : (p : Plate) (b next : Board) (k : List ℕ) {t u : Bool} → t ≡
 told-by p b next k e i = ap (λ (x : Bool). takenIf x b next) (sym i ∙ e)
 
 module _ (p : Plate) (b next : Board) (k m w : List ℕ) (g : Call) (all : length k ≡ 135) (l : lends g ≡ false) {r : Stepped} where
-  alone : refusalOn p b k m (length w) g ≡ 0 → r ≡ (record { board = next; outcome = Still }) → closes p (stateOf b k) g ≡ false
+  alone : refusalOn p b k m (length w) g ≡ 0 → r ≡ (record { board = next; outcome = Still; sleep = Nothing }) → closes p (stateOf b k) g ≡ false
       → stateOf next k ≡ (step p (stateOf b k) m g) .state → still ((step p (stateOf b k) m g) .state) m ≡ step p (stateOf b k) m g → next .frame .len ≤ 135
       → Steps p b k m w g r k m w
   unfolding still
   alone e q c h i few =
-      stepped p b k m w g e (rw (q, c)) (rw q h) (put-own k (next .frame .len) ∙ ap (λ (x : meaning.State). put k 0 (x .line .kept)) h) (ap (λ (x : Outcome). x .memory) i)
+      stepped p b k m w g e (rw (q, c)) (rw q (sym (none-carried p ((step p (stateOf b k) m g) .state) g l))) (rw q h) (put-own k (next .frame .len) ∙ ap (λ (x : meaning.State). put k 0 (x .line .kept)) h) (ap (λ (x : Outcome). x .memory) i)
       (rw (← i) (put-nothing w 0)) (rw q few)
 
   pub tells : r ≡ takenIf (within p b k) b next → closes p (stateOf b k) g ≡ false → stateOf next k ≡ (step p (stateOf b k) m g) .state
@@ -149,19 +152,20 @@ module _ (p : Plate) (b : Board) (k m w : List ℕ) (t : ℕ) where
   closed-now o = rw o
 
   module _ {r : Stepped} where
-    pub poll-still : {s : State} {f : OpenFrame} → refusalOn p b k m (length w) (run.poll t) ≡ 0 → r ≡ (record { board = record { state = s; frame = f }; outcome = Still })
-        → b ≡ (record { state = s; frame = f }) → over p (stateOf b k) t ≡ false → f .len ≤ 135 → Steps p b k m w (run.poll t) r k m w
-    unfolding step still closes
-    poll-still e q i o few =
-        stepped p b k m w (run.poll t) e (rw (q, o)) (rw (q, still-there o, i)) (rw (still-there o) (put-own k (b .frame .len))) (rw (still-there o))
+    pub poll-still : {s : State} {f : OpenFrame} {left : Remaining} → refusalOn p b k m (length w) (run.poll t) ≡ 0
+        → r ≡ (record { board = record { state = s; frame = f }; outcome = Still; sleep = Carries left }) → b ≡ (record { state = s; frame = f })
+        → remainingOf left ≡ remaining p (stateOf b k) t → over p (stateOf b k) t ≡ false → f .len ≤ 135 → Steps p b k m w (run.poll t) r k m w
+    unfolding step still closes carried
+    poll-still e q i z o few =
+        stepped p b k m w (run.poll t) e (rw (q, o)) (rw (q, still-there o) (ap run.carries z)) (rw (q, still-there o, i)) (rw (still-there o) (put-own k (b .frame .len))) (rw (still-there o))
         (rw (still-there o) (put-nothing w 0)) (rw q few)
 
     pub poll-over : {c : Closed} {f : OpenFrame} {m′ w′ : List ℕ} → refusalOn p b k m (length w) (run.poll t) ≡ 0
-        → r ≡ (record { board = record { state = c .state; frame = f }; outcome = Over (c .sent) }) → f ≡ noFrame → over p (stateOf b k) t ≡ true
+        → r ≡ (record { board = record { state = c .state; frame = f }; outcome = Over (c .sent); sleep = Carries NoFrameOpen }) → f ≡ noFrame → over p (stateOf b k) t ≡ true
         → Closes p (b .state) (b .frame) k m w c m′ w′ → Steps p b k m w (run.poll t) r k m′ w′
     unfolding step closes none
     poll-over {c} e q i o h =
-        stepped p b k m w (run.poll t) e (rw (q, o, closed-now o, h .sent)) (rw (q, i, closed-now o) (h .state))
+        stepped p b k m w (run.poll t) e (rw (q, o, closed-now o, h .sent)) (rw q (sym (none-after-close p (stateOf b k) m t (true-told (over p (stateOf b k) t) o)))) (rw (q, i, closed-now o) (h .state))
         (rw (closed-now o, ← h .state) (put-nothing k 0)) (rw (closed-now o) (h .memory)) (rw (closed-now o) (h .room)) (rw (q, i) (omega arith))
 
 -- what a call closes or not is no refusal
@@ -195,6 +199,7 @@ module _ (p : Plate) (b : Board) (k m w : List ℕ) (t : ℕ) {r : Stepped} {k�
       held-refused p b k m w g (same-refusal v bad) h ∙ sym (held-refused p b k m w (run.poll t) refl h) in
       record {
         outcome = rw same (s .outcome);
+        sleep = rw same (s .sleep);
         state = rw same (s .state);
         bytes = rw same (s .bytes);
         memory = rw same (s .memory);
@@ -211,8 +216,7 @@ module _ (p : Plate) (b : Board) (k m w : List ℕ) (t : ℕ) {r : Stepped} {k�
     willing : refusalOn p b k m (length w) (run.poll t) ≡ 0
     willing = sym (told-refusal p b k m w (run.poll t)) ∙ served (calledOn p b k m w (run.poll t)) _ (r .outcome) i (s .outcome)
 
-    on : calledOn p b k m w (run.poll t)
-        ≡ (record { refusal = 0; count = length (after .reply); state = after .state; memory = after .memory; room = put w 0 (after .reply) })
+    on : calledOn p b k m w (run.poll t) ≡ leftBy p (run.poll t) w after
     on = held-on p b k m w (run.poll t) willing
 
     rests : put k 0 (after .state .line .kept) ≡ k
@@ -233,12 +237,14 @@ module _ (p : Plate) (b : Board) (k m w : List ℕ) (t : ℕ) {r : Stepped} {k�
           all = ap length kept-still ∙ eqb-true (length k) 135 (facts p b k m (length w) (run.poll t) (lends-poll t) willing .all);
         }
 
-    pub character-taken : {v : ℕ} {bad : Bool} {f : OpenFrame} {q : Stepped} {k″ : List ℕ} → q ≡ (record { board = record { state = r .board .state; frame = f }; outcome = r .outcome })
+    pub character-taken : {v n : ℕ} {bad : Bool} {f : OpenFrame} {q : Stepped} {k″ : List ℕ}
+        → q ≡ (record { board = record { state = r .board .state; frame = f }; outcome = r .outcome; sleep = Carries (TicksLeft n) }) → n ≡ fullPause p
         → Extends (more (pick (r .board .frame .begun) (lineOf (r .board .frame) k′) none) t v bad) k′ f k″ → Steps p b k m w (run.character t v bad) q k″ m′ w′
     unfolding step closes taken withLine outcomeOf refusedAs
-    character-taken {v} {bad} {f} {q} {k″} e x =
+    character-taken {v} {n} {bad} {f} {q} {k″} e full x =
         let u : stateOf (r .board) k′ ≡ after .state = s .state ∙ ap (λ (h : Held). h .state) on in
-        stepped p b k m w (run.character t v bad) (sym (same-refusal v bad) ∙ willing) (rw e (s .outcome ∙ ap (λ (h : Held). outcomeOf h (closes p (stateOf b k) (run.poll t))) on)) (rw (e, ← u) (ap (stateWith (r .board .state)) (x .line)))
+        stepped p b k m w (run.character t v bad) (sym (same-refusal v bad) ∙ willing) (rw e (s .outcome ∙ ap (λ (h : Held). outcomeOf h (closes p (stateOf b k) (run.poll t))) on))
+        (rw (e, full) (sym (full-after-character p (stateOf b k) m t v bad))) (rw (e, ← u) (ap (stateWith (r .board .state)) (x .line)))
         (rw (← u, ← kept-still) (x .bytes)) (s .memory ∙ ap (λ (h : Held). h .memory) on) (s .room ∙ ap (λ (h : Held). h .room) on) (rw e (x .few))
 
 -- no frame is open
@@ -255,15 +261,6 @@ same-len a b h =
     omega (arith, ap length (h (zeros n)), length-take (a .frame .len) (zeros n), length-take (b .frame .len) (zeros n), length-replicate {A = ℕ} n 0)
 
 -- a noted code leaves the open frame
-noted-line : (s : meaning.State) (c : ℕ) → (meaning.noted s c) .line ≡ s .line
-unfolding meaning.noted meaning.withLock meaning.withQueue
-noted-line s c = go (eqb c 0) (meaning.locks c)
-  where
-    go : (x y : Bool) → (pick x s (pick y (meaning.withLock s true) (meaning.withQueue s (meaning.queued (s .queue) c)))) .line ≡ s .line
-    go true y = refl
-    go false true = refl
-    go false false = refl
-
 pub noted-few : (b next : Board) (c : ℕ) → ((kept : List ℕ) → stateOf next kept ≡ meaning.noted (stateOf b kept) c) → b .frame .len ≤ 135 → next .frame .len ≤ 135
 noted-few b next c e h =
     rw (same-len next b (λ kept. ap (λ (s : meaning.State). s .line .kept) (e kept) ∙ ap (λ (l : meaning.Line). l .kept) (noted-line (stateOf b kept) c))) h

@@ -7,12 +7,15 @@ use lib.Dec.{eqb, leb}
 use lib.ListN.{length, drop}
 use Rattle.meaning.specs.Bytes.{pick, both, longestRequest, put, arg}
 use Rattle.meaning.specs.State.{Plate, State, plateOk, stateOk, withQueue}
-use Rattle.meaning.specs.Run.{Call, Held, refusedBy, called, closes}
-use Rattle.line.specs.Line.{lineOf}
+use Rattle.meaning.specs.Run as run
+use Rattle.meaning.specs.Run.{Call, Held, untouched, refusedBy, called, closes}
+use Rattle.line.specs.Line.{lineOf, remainingOf}
 use Rattle.state.specs.State.{stateWith}
 use Rattle.board.specs.declared.limits.Board.{Board}
 use Rattle.board.specs.declared.limits.Outcome.{Outcome}
 use Rattle.board.specs.declared.limits.Outcome.the-variants.{R1, R2, R3, Still, Over}
+use Rattle.board.specs.declared.limits.Carried.{Carried}
+use Rattle.board.specs.declared.limits.Carried.the-variants.{Nothing, Carries}
 use Rattle.board.specs.declared.limits.Stepped.{Stepped}
 use Rattle.board.specs.declared.faults.Oldest.{Oldest}
 
@@ -37,8 +40,7 @@ refusalOn p b kept m room g = pick (fitsIn b kept) (refusedBy p (stateOf b kept)
 
 unfoldable pub calledOn : Plate → Board → List ℕ → List ℕ → List ℕ → Call → Held
 calledOn p b kept m room g =
-    pick (fitsIn b kept) (called p (stateOf b kept) m room g)
-    (record { refusal = 1; count = 0; state = stateOf b kept; memory = m; room = room })
+    pick (fitsIn b kept) (called p (stateOf b kept) m room g) (untouched 1 (stateOf b kept) m room)
 
 -- 01, "Named refusals", by their numbers; 0 where nothing was refused
 abbrev pub refusalNumber : Outcome → ℕ
@@ -71,13 +73,19 @@ refusedAs n o = pick (eqb n 0) o (pick (eqb n 1) R1 (pick (eqb n 2) R2 R3))
 unfoldable pub outcomeOf : Held → Bool → Outcome
 outcomeOf h over = refusedAs (h .refusal) (pick over (Over (h .count)) Still)
 
+-- 02, Req 03, what an answer carries, in the code's cases
+abbrev pub carriedOf : Carried → run.Carried
+carriedOf Nothing = run.nothing
+carriedOf (Carries r) = run.carries (remainingOf r)
+
 -- of a call that lends nothing: within the limits the board is the next one, else it is refused as it was
 abbrev pub takenIf : Bool → Board → Board → Stepped
-takenIf fine b next = pick fine (record { board = next; outcome = Still }) (record { board = b; outcome = R1 })
+takenIf fine b next = pick fine (record { board = next; outcome = Still; sleep = Nothing }) (record { board = b; outcome = R1; sleep = Nothing })
 
--- what a call leaves of board, kept bytes, memory and room. Places past the kept bytes are untouched
+-- what a call answers, and leaves of board, kept bytes, memory and room. Places past the kept bytes are untouched
 pub record Steps (p : Plate) (b : Board) (kept m w : List ℕ) (g : Call) (r : Stepped) (kept′ m′ w′ : List ℕ) : Type 0 where
   pub outcome : r .outcome ≡ outcomeOf (calledOn p b kept m w g) (closes p (stateOf b kept) g)
+  pub sleep : carriedOf (r .sleep) ≡ (calledOn p b kept m w g) .sleep
   pub state : stateOf (r .board) kept′ ≡ (calledOn p b kept m w g) .state
   pub bytes : kept′ ≡ put kept 0 ((calledOn p b kept m w g) .state .line .kept)
   pub memory : m′ ≡ (calledOn p b kept m w g) .memory

@@ -7,18 +7,19 @@ use lib.ListN.{length}
 use Rattle.meaning.specs.Bytes.{pick, put, longestReply, longestRequest}
 use Rattle.meaning.specs.State.{Plate, plateOk, stateOk, fresh}
 use Rattle.meaning.specs.Fields.{memoryLength}
-use Rattle.meaning.specs.Run.{Call, step, closes}
+use Rattle.meaning.specs.Run.{Call, step, closes, carried}
 use Rattle.board.specs.declared.limits.Board.{Board}
 use Rattle.board.specs.declared.limits.Outcome.the-variants.{Still, Over}
 use Rattle.board.specs.declared.limits.Stepped.{Stepped}
-use Rattle.board.specs.Board.{stateOf, Steps}
+use Rattle.board.specs.Board.{stateOf, carriedOf, Steps}
 
--- the call does the meaning's step: state, memory, reply
+-- the call does the meaning's step: state, memory, reply; and its answer carries what remains after it
 pub record DoesStep (p : Plate) (b : Board) (kept m w : List ℕ) (g : Call) (r : Stepped) (kept′ m′ w′ : List ℕ) : Type 0 where
   pub state : stateOf (r .board) kept′ ≡ (step p (stateOf b kept) m g) .state
   pub memory : m′ ≡ (step p (stateOf b kept) m g) .memory
   pub room : w′ ≡ put w 0 ((step p (stateOf b kept) m g) .reply)
   pub outcome : r .outcome ≡ pick (closes p (stateOf b kept) g) (Over (length ((step p (stateOf b kept) m g) .reply))) Still
+  pub sleep : carriedOf (r .sleep) ≡ carried p ((step p (stateOf b kept) m g) .state) g
 
 -- plate, state, kept bytes and memory are within their limits: no R1, no R2
 pub record Within (p : Plate) (b : Board) (kept m : List ℕ) : Type 0 where

@@ -11,12 +11,14 @@ ghost use Rattle.line.specs.Line.{plateOf};
 ghost use Rattle.board.specs.Board.{stateOf, within, takenIf, Steps};
 use crate::closing::close;
 use crate::limits::Board;
+use crate::limits::Carried;
 use crate::limits::Outcome;
 use crate::limits::Stepped;
 use crate::limits::refusal;
 use crate::limits::within_limits;
 use line::OpenFrame;
 use line::Plate;
+use line::Remaining;
 use state::State;
 
 // 01, "Fresh state", with the plate's address, whatever the label bytes are. Any other number of the plate that is beyond its limits is told by the
@@ -31,11 +33,15 @@ pub fn fresh(plate: Plate) -> Board
     }
 }
 
-fn stepped(state: State, frame: OpenFrame, outcome: Outcome) -> Stepped
-    ensures { λ r. ⌜ r ≡ record { board = record { state = state; frame = frame }; outcome = outcome } ⌝ }
+fn stepped(state: State, frame: OpenFrame, outcome: Outcome, sleep: Carried) -> Stepped
+    ensures { λ r. ⌜ r ≡ record { board = record { state = state; frame = frame }; outcome = outcome; sleep = sleep } ⌝ }
 {
     let board = Board { state, frame };
-    Stepped { board, outcome }
+    Stepped {
+        board,
+        outcome,
+        sleep,
+    }
 }
 
 // A poll: an open frame that is over is closed, and nothing else changes.
@@ -61,18 +67,21 @@ pub fn poll(
     let state = board.state;
     let frame = board.frame;
     if refused.is_refusal() {
-        return stepped(state, frame, refused);
+        return stepped(state, frame, refused, Carried::Nothing);
     }
-    if frame.is_over(plate, tick) {
+    let left = frame.remaining(plate, tick);
+    if left.is_over() {
         let closed = close(plate, label, state, frame, kept, memory, room);
         let next = closed.state;
         let sent = closed.sent as usize;
-        return stepped(next, OpenFrame::none(), Outcome::Over(sent));
+        let none = Carried::Carries(Remaining::NoFrameOpen);
+        return stepped(next, OpenFrame::none(), Outcome::Over(sent), none);
     }
-    stepped(state, frame, Outcome::Still)
+    stepped(state, frame, Outcome::Still, Carried::Carries(left))
 }
 
-// A character at its end: first what a poll does by then, so that where the open frame is over the character opens the next.
+// A character at its end: first what a poll does by then, so that where the open frame is over the character opens the next. It is then the last
+// one, so that the full pause remains.
 pub fn character(
     plate: Plate,
     label: &[u8],
@@ -94,7 +103,19 @@ pub fn character(
     }
     let state = after.state;
     let frame = after.frame.with_character(tick, value, parity, kept);
-    stepped(state, frame, outcome)
+    let full = Remaining::TicksLeft(plate.full_pause());
+    stepped(state, frame, outcome, Carried::Carries(full))
+}
+
+// The answer of a call that is no character and no poll.
+fn unmoved(board: Board, outcome: Outcome) -> Stepped
+    ensures { λ r. ⌜ r ≡ record { board = board; outcome = outcome; sleep = Carried.Nothing } ⌝ }
+{
+    Stepped {
+        board,
+        outcome,
+        sleep: Carried::Nothing,
+    }
 }
 
 // What lends nothing meets R1 alone; else the board is then as told.
@@ -102,14 +123,9 @@ fn told(plate: Plate, label: &[u8], board: Board, next: Board) -> Stepped
     ensures { λ r. ⌜ ((kept : List ℕ) → length kept ≡ longestRequest → r ≡ takenIf (within (plateOf plate (now (label .entry))) board kept) board next) ⌝ }
 {
     if !within_limits(plate, label.len(), board) {
-        let outcome = Outcome::R1;
-        return Stepped { board, outcome };
+        return unmoved(board, Outcome::R1);
     }
-    let outcome = Outcome::Still;
-    Stepped {
-        board: next,
-        outcome,
-    }
+    unmoved(next, Outcome::Still)
 }
 
 // 01, "measured, any 32-bit number": kept as given.

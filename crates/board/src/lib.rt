@@ -17,6 +17,7 @@ pub use closing::Closed;
 pub use closing::refuse;
 pub use faults::Oldest;
 pub use limits::Board;
+pub use limits::Carried;
 pub use limits::Outcome;
 pub use limits::Stepped;
 pub use limits::refusal;

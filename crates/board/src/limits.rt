@@ -10,6 +10,7 @@ ghost use Rattle.line.specs.Line.{plateOf};
 ghost use Rattle.board.specs.Board.{within, isRefusal, replyLength, refusalOn, refusedAs};
 use line::OpenFrame;
 use line::Plate;
+use line::Remaining;
 use state::State;
 use wire::codes::LABEL_LENGTH;
 use wire::codes::LONGEST_REPLY;
@@ -58,9 +59,17 @@ impl Outcome {
     }
 }
 
+// 02, Req 03: what an answer carries of the open frame's pause: that of a character and a poll how much remains, as it stands after the call; a
+// refused one, and that of any other call, nothing.
+pub enum Carried {
+    Nothing,
+    Carries(Remaining),
+}
+
 pub struct Stepped {
     pub board: Board,
     pub outcome: Outcome,
+    pub sleep: Carried,
 }
 
 // R1 for the calls that lend nothing, and the first of the three for the others.

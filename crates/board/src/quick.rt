@@ -4,12 +4,13 @@ ghost use mathlib.Core.Path.{_≡_};
 ghost use mathlib.Core.Bool.{true};
 ghost use mathlib.Core.List.{List};
 ghost use Prim.Native.Nat.{ℕ};
-ghost use Rattle.meaning.specs.Characters.{over};
-ghost use Rattle.line.specs.Line.{plateOf};
+ghost use Rattle.meaning.specs.Characters.{remaining};
+ghost use Rattle.line.specs.Line.{plateOf, remainingOf};
 ghost use Rattle.board.specs.Board.{stateOf, fitsIn};
 ghost use Rattle.board.specs.Quick.{TakesIn};
 use crate::limits::Board;
 use line::Plate;
+use line::Remaining;
 
 impl Board {
     pub fn is_open(self) -> bool
@@ -19,12 +20,13 @@ impl Board {
         frame.begun
     }
 
-    // Whether a character or a poll at that tick closes a frame; one that does is left to `character` or `poll`.
-    pub fn is_over(self, plate: Plate, tick: u32) -> bool
-        ensures { λ r. ⌜ ((kept l : List ℕ) → r ≡ over (plateOf plate l) (stateOf self kept) tick) ⌝ }
+    // How much of the open frame's pause remains at that tick: a character or a poll that finds it over closes the frame, and is left to
+    // `character` or `poll`.
+    pub fn remaining(self, plate: Plate, tick: u32) -> Remaining
+        ensures { λ r. ⌜ ((kept l : List ℕ) → remainingOf r ≡ remaining (plateOf plate l) (stateOf self kept) tick) ⌝ }
     {
         let frame = self.frame;
-        frame.is_over(plate, tick)
+        frame.remaining(plate, tick)
     }
 
     // A character that closes no frame, taken in.

@@ -18,7 +18,7 @@ use Rattle.meaning.proofs.Puts.{length-put, put-front}
 use Rattle.meaning.proofs.Rests.{meant-rests}
 use Rattle.meaning.proofs.Choices.{true-told}
 use Rattle.meaning.proofs.Limits.{Lim, to-lim, replies-fit}
-use Rattle.line.proofs.Limits.{whole-label, few-ticks, short-pause}
+use Rattle.meaning.proofs.Plates.{whole-label, few-ticks, short-pause}
 use Rattle.state.proofs.Answering.{put-nothing}
 use Rattle.board.specs.declared.limits.Board.{Board}
 use Rattle.board.specs.declared.limits.Outcome.the-variants.{Still, Over}

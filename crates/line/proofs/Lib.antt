@@ -2,6 +2,5 @@
 mod Product
 pub mod Kept
 pub mod Judging
-pub mod Limits
 pub mod Tight
 mod Powers

@@ -9,10 +9,13 @@ use lib.Seq.{length-take-le}
 use Rattle.meaning.specs.Bytes.{put, zeros}
 use Rattle.meaning.specs.State as meaning
 use Rattle.meaning.specs.State.{Line, labelLength, fresh, plateOk, withLine}
-use Rattle.meaning.specs.Characters.{over}
+use Rattle.meaning.specs.Characters as meaning
+use Rattle.meaning.specs.Characters.{fullPause, no-frame-open, ticks-left, remaining}
 use Rattle.line.specs.declared.plate.Plate.{Plate}
 use Rattle.line.specs.declared.characters.OpenFrame.{OpenFrame}
-use Rattle.line.specs.Line.{plateOf, lineOf, Extends}
+use Rattle.line.specs.declared.characters.Remaining.{Remaining}
+use Rattle.line.specs.declared.characters.Remaining.the-variants.{NoFrameOpen, TicksLeft}
+use Rattle.line.specs.Line.{plateOf, lineOf, remainingOf, Extends}
 
 parts : {a a′ : Bool} {b c d b′ c′ d′ : ℕ} {x y x′ y′ : Bool} → a ≡ a′ → b ≡ b′ → c ≡ c′ → d ≡ d′ → x ≡ x′ → y ≡ y′
     → _≡_ {A = OpenFrame} (record { begun = a; last = b; len = c; sum = d; longer = x; parity = y }) (record { begun = a′; last = b′; len = c′; sum = d′; longer = x′; parity = y′ })
@@ -37,10 +40,27 @@ with-character-tight l k f g a b all p q =
     let long : 135 ≤ length a = rw (p .bytes) (omega (arith, put-long k (l .kept))) in
     (same-line-same-frame f g a (p .few) (q .few) long (p .line ∙ sym (ap (lineOf g) same ∙ q .line)), same)
 
-pub is-over-tight : (p : Plate) (f : OpenFrame) (t : ℕ) (a b : Bool) → ((s : meaning.State) (k l : List ℕ) → s .line ≡ lineOf f k → a ≡ over (plateOf p l) s t)
-    → ((s : meaning.State) (k l : List ℕ) → s .line ≡ lineOf f k → b ≡ over (plateOf p l) s t) → a ≡ b
+-- the meaning's case says which one it is in the code
+abbrev pub remainingBack : meaning.Remaining → Remaining
+remainingBack no-frame-open = NoFrameOpen
+remainingBack (ticks-left n) = TicksLeft n
+
+pub there-and-back : (r : Remaining) → remainingBack (remainingOf r) ≡ r
+there-and-back NoFrameOpen = refl
+there-and-back (TicksLeft n) = refl
+
+pub same-remaining : (a b : Remaining) → remainingOf a ≡ remainingOf b → a ≡ b
+same-remaining a b e = sym (there-and-back a) ∙ ap remainingBack e ∙ there-and-back b
+
+pub remaining-tight : (p : Plate) (f : OpenFrame) (t : ℕ) (a b : Remaining) → ((s : meaning.State) (k l : List ℕ) → s .line ≡ lineOf f k → remainingOf a ≡ remaining (plateOf p l) s t)
+    → ((s : meaning.State) (k l : List ℕ) → s .line ≡ lineOf f k → remainingOf b ≡ remaining (plateOf p l) s t) → a ≡ b
 unfolding withLine
-is-over-tight p f t a b h i = let s : meaning.State = withLine (fresh (plateOf p [])) (lineOf f []) in h s [] [] refl ∙ sym (i s [] [] refl)
+remaining-tight p f t a b h i =
+    let s : meaning.State = withLine (fresh (plateOf p [])) (lineOf f []) in
+    same-remaining a b (h s [] [] refl ∙ sym (i s [] [] refl))
+
+pub full-pause-tight : (p : Plate) (a b : ℕ) → ((l : List ℕ) → a ≡ fullPause (plateOf p l)) → ((l : List ℕ) → b ≡ fullPause (plateOf p l)) → a ≡ b
+full-pause-tight p a b h i = h [] ∙ sym (i [])
 
 pub is-ok-tight : (p : Plate) (a b : Bool) → ((l : List ℕ) → length l ≡ labelLength → a ≡ plateOk (plateOf p l)) → ((l : List ℕ) → length l ≡ labelLength → b ≡ plateOk (plateOf p l)) → a ≡ b
 is-ok-tight p a b h i = h (zeros labelLength) (length-replicate {A = ℕ} labelLength 0) ∙ sym (i (zeros labelLength) (length-replicate {A = ℕ} labelLength 0))

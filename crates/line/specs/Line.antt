@@ -6,9 +6,12 @@ use mathlib.Core.List.{List}
 use lib.ListN.{length, take}
 use Rattle.meaning.specs.Bytes.{pick, longestRequest, put}
 use Rattle.meaning.specs.State as meaning
-use Rattle.meaning.specs.Characters.{Frame}
+use Rattle.meaning.specs.Characters as meaning
+use Rattle.meaning.specs.Characters.{Frame, no-frame-open, ticks-left}
 use Rattle.line.specs.declared.plate.Plate.{Plate}
 use Rattle.line.specs.declared.characters.OpenFrame.{OpenFrame}
+use Rattle.line.specs.declared.characters.Remaining.{Remaining}
+use Rattle.line.specs.declared.characters.Remaining.the-variants.{NoFrameOpen, TicksLeft}
 
 -- the label bytes are lent beside the plate's numbers
 abbrev pub plateOf : Plate → List ℕ → meaning.Plate
@@ -17,6 +20,11 @@ plateOf p label = record { total = p .total; bits = p .bits; address = p .addres
 -- the first `len` of the lent places hold the kept bytes; the others carry no meaning
 abbrev pub lineOf : OpenFrame → List ℕ → meaning.Line
 lineOf f kept = record { begun = f .begun; kept = take (f .len) kept; sum = f .sum; longer = f .longer; parity = f .parity; last = f .last }
+
+-- 02, Req 03, in the code's cases
+abbrev pub remainingOf : Remaining → meaning.Remaining
+remainingOf NoFrameOpen = no-frame-open
+remainingOf (TicksLeft n) = ticks-left n
 
 -- 01, "A closed frame": the kept bytes with what the numbers say of the frame
 abbrev pub frameOf : OpenFrame → List ℕ → Frame

@@ -1,11 +1,11 @@
-// The open frame's numbers, and one more character (01, "Characters become frames"). The kept bytes are lent, and written in place.
+// The open frame's numbers, how much of its pause remains, and one more character (01, "Characters become frames"). The kept bytes are lent, and written in place.
 ghost use mathlib.Core.Path.{_≡_};
 ghost use mathlib.Core.List.{List};
 ghost use Prim.Native.Nat.{ℕ};
 ghost use Rattle.meaning.specs.Bytes.{pick};
 ghost use Rattle.meaning.specs.State.{State, none};
-ghost use Rattle.meaning.specs.Characters.{over, more};
-ghost use Rattle.line.specs.Line.{plateOf, lineOf, noFrame, Fits, Starts, Extends};
+ghost use Rattle.meaning.specs.Characters.{remaining, ranOut, more};
+ghost use Rattle.line.specs.Line.{plateOf, lineOf, remainingOf, noFrame, Fits, Starts, Extends};
 use crate::plate::Plate;
 use crate::stamps::gap;
 use wire::codes::LONGEST_REQUEST;
@@ -19,6 +19,24 @@ pub struct OpenFrame {
     pub sum: u8,
     pub longer: bool,
     pub parity: bool,
+}
+
+// 02, Req 03: how many ticks of the pause remain, 0 when it is over.
+pub enum Remaining {
+    NoFrameOpen,
+    TicksLeft(u64),
+}
+
+impl Remaining {
+    // A frame is over exactly if no tick is left.
+    pub fn is_over(self) -> bool
+        ensures { λ r. ⌜ r ≡ ranOut (remainingOf self) ⌝ }
+    {
+        match self {
+            Remaining::NoFrameOpen => false,
+            Remaining::TicksLeft(ticks) => ticks == 0,
+        }
+    }
 }
 
 impl OpenFrame {
@@ -35,18 +53,19 @@ impl OpenFrame {
         }
     }
 
-    // Ruling of 01: equality closes. The one test that character and poll share.
-    pub fn is_over(self, plate: Plate, tick: u32) -> bool
-        ensures { λ r. ⌜ ((s : State) (kept l : List ℕ) → s .line ≡ lineOf self kept → r ≡ over (plateOf plate l) s tick) ⌝ }
+    // The one number that character and poll share. Ruling of 01: equality closes, so that it is 0 then.
+    pub fn remaining(self, plate: Plate, tick: u32) -> Remaining
+        ensures { λ r. ⌜ ((s : State) (kept l : List ℕ) → s .line ≡ lineOf self kept → remainingOf r ≡ remaining (plateOf plate l) s tick) ⌝ }
     {
-        if self.begun {
-            let pause = (plate.pause as u64) * (plate.ticks as u64);
-            if pause <= gap(self.last, tick) as u64 {
-                return true;
-            }
-            return false;
+        if !self.begun {
+            return Remaining::NoFrameOpen;
         }
-        false
+        let pause = plate.full_pause();
+        let since = gap(self.last, tick) as u64;
+        if pause <= since {
+            return Remaining::TicksLeft(0);
+        }
+        Remaining::TicksLeft(pause - since)
     }
 }
 

@@ -5,6 +5,7 @@ mod plate;
 mod stamps;
 
 pub use characters::OpenFrame;
+pub use characters::Remaining;
 pub use judge::Judgement;
 pub use judge::is_silent;
 pub use plate::Plate;

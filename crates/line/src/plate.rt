@@ -5,6 +5,7 @@ ghost use Prim.Native.Nat.{ℕ};
 ghost use lib.ListN.{length};
 ghost use Rattle.meaning.specs.Bytes.{among};
 ghost use Rattle.meaning.specs.State.{labelLength, plateOk};
+ghost use Rattle.meaning.specs.Characters.{fullPause};
 ghost use Rattle.meaning.specs.Fields.{memoryLength};
 ghost use Rattle.line.specs.Line.{plateOf};
 use wire::codes::LAST_ADDRESS;
@@ -42,6 +43,13 @@ impl Plate {
             return false;
         }
         pause_ok(self.pause)
+    }
+
+    // 01, "pause × ticks-per-bit": the gap that closes a frame, in ticks.
+    pub fn full_pause(self) -> u64
+        ensures { λ r. ⌜ ((l : List ℕ) → r ≡ fullPause (plateOf self l)) ⌝ }
+    {
+        (self.pause as u64) * (self.ticks as u64)
     }
 
     // 01, "Memory": 16T data bytes, then T status bytes.

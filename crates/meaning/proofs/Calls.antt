@@ -8,7 +8,7 @@ use lib.ListN.{length, drop}
 use lib.Seq.{drop-append-seam, take-append-seam}
 use Rattle.meaning.specs.Bytes.{pick, put}
 use Rattle.meaning.specs.Characters.{taken}
-use Rattle.meaning.specs.Run.{step, refusedBy, Held, called}
+use Rattle.meaning.specs.Run.{step, refusedBy, Held, leftBy, called}
 use Rattle.meaning.specs.Demands.{RefusedUntouched, Served, ServedOtherwise, OpensEmpty}
 use Rattle.meaning.proofs.Puts.{put-front}
 
@@ -27,15 +27,13 @@ served-otherwise p s m room g h = go (eqb (refusedBy p s m (length room) g) 0) _
     r : List ℕ
     r = (step p s m g) .reply
 
-    served : Held
-    served = record { refusal = 0; count = length r; state = (step p s m g) .state; memory = (step p s m g) .memory; room = put room 0 r }
-
-    go : (q : Bool) (y : Held) → T q → Served p s m room g (pick q served y)
+    go : (q : Bool) (y : Held) → T q → Served p s m room g (pick q (leftBy p g room (step p s m g)) y)
     go true y h = record {
       unrefused = refl;
       after = refl;
       kept = refl;
       length-told = refl;
+      sleep-told = refl;
       front = rw (put-front room r) (take-append-seam r (drop (length r) room));
       rest = rw (put-front room r) (drop-append-seam r (drop (length r) room));
     }

@@ -9,7 +9,7 @@ use Rattle.meaning.specs.Fields.{memoryLength, blocks, coded, codeNo, wr
 use Rattle.meaning.specs.Commands.{commandOf, row, lengthFits, asked, error, choose, wrongCode, readPosition, setPosition, readCounter, stepCounter, clearCounter, onField}
 use Rattle.meaning.specs.Commands.{readField, storeField, fieldStatus, create, resize, modify, delete, shapeField, freeByte, memoryStatus, setCode, readFault, readLabel, reset, setAddress, readVersion, worked}
 use Rattle.meaning.specs.Run.{Heard, step, runFrom, run}
-use Rattle.meaning.specs.Characters.{gap, over, more, taken, closed, whole}
+use Rattle.meaning.specs.Characters.{gap, over, more, taken, closed, whole, remaining, fullPause}
 use Rattle.meaning.specs.Frames.{resting, close, upTo, commandByte, dataOf, ours, judged, ending, sealed, warned, message, still, outcome, leaves, work}
 use Rattle.meaning.specs.Sheet.{Case, sheetPlate, fits, holds, allHold, sheet, SheetHolds, rows, shows, shown, allShown, RowsReached, polled, GapsClose}
 use Rattle.meaning.proofs.Choices.{both-intro}
@@ -68,7 +68,7 @@ unfolding rows allShown shown shows holds fits same work leaves still whole outc
 rows-reached = tt
 
 pub gaps-close : GapsClose
-unfolding polled run runFrom step upTo close closed resting over gap taken more withLine same work leaves still whole outcome message warned sealed
+unfolding polled run runFrom step upTo close closed resting over remaining fullPause gap taken more withLine same work leaves still whole outcome message warned sealed
     ours ending judged dataOf commandByte ownByte worked commandOf row lengthFits asked part put blank xorFrom xorAll among bytes3 bytes4 number
     blocks coded codeNo writable exists attributes table fieldCount used sound freeBlocks statusAt start survey fresh none withCodes withCounter withAddress withOffset
     withQueue code queued position offsetFor error choose clear putStatus wrongCode readPosition setPosition readCounter stepCounter clearCounter

@@ -9,7 +9,7 @@ use Rattle.meaning.specs.State.{Plate, State, none, plateOk, fresh, with
 use Rattle.meaning.specs.Fields.{blocks, coded, codeNo, writable, exists, attributes, table, fieldCount, used, sound, freeBlocks, statusAt, survey, clear, putStatus}
 use Rattle.meaning.specs.Commands.{commandOf, lengthFits, counted, row, asked, Answer, refuse, accept, error, choose, wrongCode, readPosition, setPosition, readCounter, stepCounter}
 use Rattle.meaning.specs.Commands.{clearCounter, onField, readField, storeField, fieldStatus, create, resize, modify, delete, shapeField, freeByte, memoryStatus, setCode, readFault, readLabel, reset, setAddress, readVersion}
-use Rattle.meaning.specs.Characters.{gap, over, more}
+use Rattle.meaning.specs.Characters.{gap, over, more, remaining, fullPause, no-frame-open, ticks-left}
 use Rattle.meaning.specs.Frames.{commandByte, dataOf, ours, judged, elsewhere, answered, ending, still, warned, sealed, message, outcome}
 use Rattle.meaning.specs.Run.{poll, measured, power-on, step, lends, refusedBy}
 use Rattle.meaning.specs.Bench.{writes, written, addressOk, addressByte, allowed, inRange, bad, branch, warning, bare, fromAsked, rightAddress, errorReply, rightLength, repeated, content, judge, pieceOf, handed}
@@ -52,8 +52,18 @@ gap-values = (refl, refl)
 
 pub over-values : (over eight (withLine new (record { begun = false; kept = []; sum = 0; longer = false; parity = false; last = 0 })) 1000 ≡ false)
     × (over eight (withLine new (record { begun = true; kept = []; sum = 0; longer = false; parity = false; last = 0 })) 220 ≡ true)
-unfolding over gap withLine
+unfolding over remaining fullPause gap withLine
 over-values = (refl, refl)
+
+-- 02, Req 03: of a pause of 220 ticks after 0, 219, 220 and 221; with no frame open; a clock stepped back by one tick, and one that wrapped
+abbrev since : ℕ → State
+since last = withLine new (record { begun = true; kept = []; sum = 0; longer = false; parity = false; last = last })
+
+pub remaining-values : (remaining eight (since 1000) 1000 ≡ ticks-left 220) × (remaining eight (since 1000) 1219 ≡ ticks-left 1) × (remaining eight (since 1000) 1220 ≡ ticks-left 0)
+    × (remaining eight (since 1000) 1221 ≡ ticks-left 0) × (remaining eight (withLine new none) 1000 ≡ no-frame-open) × (remaining eight (since 1000) 999 ≡ ticks-left 0)
+    × (remaining eight (since (2 ^ 32 - 1)) 9 ≡ ticks-left 210)
+unfolding remaining fullPause gap withLine none
+remaining-values = (refl, refl, refl, refl, refl, refl, refl)
 
 -- the 136th byte is not kept, and makes the frame longer; a parity fault stays
 pub more-values : ((more (record { begun = true; kept = zeros 135; sum = 0; longer = false; parity = true; last = 0 }) 9 7 false) .kept ≡ zeros 135)

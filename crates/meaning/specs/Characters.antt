@@ -1,20 +1,37 @@
--- Characters, gaps and polls: when a frame is over, what is kept of it (01, "Characters become frames"). Assumes nothing.
+-- Characters, gaps and polls: how much of its pause remains, when a frame is over, what is kept of it (01, "Characters become frames"). Assumes nothing.
 use Prim.Native.Nat.{ℕ, _+_, _-_, _*_, _%_, _^_}
 use mathlib.Core.Bool.{Bool, true, false}
 use mathlib.Core.List.{List, [], _∷_, _++_}
 use lib.ListN.{length, take}
-use lib.Dec.{leb, ltb}
+use lib.Dec.{eqb, leb, ltb}
 use lib.Bits.{bitXor}
-use Rattle.meaning.specs.Bytes.{pick, both, either, longestRequest, xorAll}
+use Rattle.meaning.specs.Bytes.{pick, either, longestRequest, xorAll}
 use Rattle.meaning.specs.State.{Plate, State, Line, none, withLine}
 
 -- 01, "a gap is taken modulo 2^32": the ticks from one stamp to another
 unfoldable pub gap : ℕ → ℕ → ℕ
 gap from to = (to + 2 ^ 32 - from) % 2 ^ 32
 
--- 01, "An open frame is closed when a character or a poll comes at least pause × ticks-per-bit after its last character": equality closes
+-- 01, "pause × ticks-per-bit": the pause that closes a frame, in ticks
+unfoldable pub fullPause : Plate → ℕ
+fullPause p = p .pause * p .ticks
+
+-- 02, Req 03, "how many ticks remain: 0 when over, a named 'no frame open' when there is none"
+pub data Remaining : Type 0 where
+  no-frame-open : Remaining
+  ticks-left : ℕ → Remaining
+
+-- 02, Req 03: of the open frame at a tick, the full pause less the gap since its last character, and never below 0
+unfoldable pub remaining : Plate → State → ℕ → Remaining
+remaining p s now = pick (s .line .begun) (ticks-left (fullPause p - gap (s .line .last) now)) no-frame-open
+
+abbrev pub ranOut : Remaining → Bool  -- 02, Req 03, "0 when over"
+ranOut no-frame-open = false
+ranOut (ticks-left n) = eqb n 0
+
+-- 01, "An open frame is closed when a character or a poll comes at least pause × ticks-per-bit after its last character": no tick remains, so that equality closes
 unfoldable pub over : Plate → State → ℕ → Bool
-over p s now = both (s .line .begun) (leb (p .pause * p .ticks) (gap (s .line .last) now))
+over p s now = ranOut (remaining p s now)
 
 -- 01, "Up to 135 bytes are kept": one more character, of an open frame
 unfoldable pub more : Line → ℕ → ℕ → Bool → Line

@@ -13,7 +13,7 @@ use Rattle.meaning.specs.State.{plateOk, stateOk, fresh}
 use Rattle.meaning.specs.Fields.{memoryLength}
 use Rattle.meaning.proofs.Limits.{fresh-within}
 use Rattle.line.specs.declared.plate.Plate.{Plate}
-use Rattle.line.proofs.Limits.{total-fits}
+use Rattle.meaning.proofs.Plates.{total-fits}
 use Rattle.board.specs.declared.limits.Board.{Board}
 use Rattle.board.specs.Board.{stateOf}
 use Rattle.tape.specs.Records.{wholeLength}

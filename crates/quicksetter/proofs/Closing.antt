@@ -15,7 +15,7 @@ use Rattle.meaning.specs.Characters.{over, more, taken, closed}
 use Rattle.meaning.specs.Commands.{commandOf}
 use Rattle.meaning.specs.Frames as frames
 use Rattle.meaning.specs.Frames.{Outcome, dataOf, still, upTo, work, resting}
-use Rattle.meaning.specs.Run.{Call, character, poll, Held, step, called, lends, refusedBy}
+use Rattle.meaning.specs.Run.{Call, character, poll, carried, Held, leftBy, step, called, lends, refusedBy}
 use Rattle.meaning.proofs.Choices.{true-told, pick-same}
 use Rattle.meaning.proofs.Limits.{to-lim}
 use Rattle.meaning.proofs.Puts.{length-put}
@@ -56,9 +56,7 @@ module _ (p : Plate) (core m w : List ℕ) (u : Unrefused p core (length m) (len
   abbrev done : Call → Outcome
   done g = step p (heldIn core) m g
 
-  served : (g : Call)
-      → coreCalled p core m w g
-      ≡ (record { refusal = 0; count = length (done g .reply); state = done g .state; memory = done g .memory; room = put w 0 (done g .reply) })
+  pub served : (g : Call) → coreCalled p core m w g ≡ leftBy p g w (done g)
   unfolding coreCalled called
   served g = let z : eqb (refusedBy p (heldIn core) m (length w) g) 0 ≡ true = eq-eqb _ 0 (free g) in rw (u .bytes, z)
 
@@ -66,7 +64,7 @@ module _ (p : Plate) (core m w : List ℕ) (u : Unrefused p core (length m) (len
   pub nothing-over : (tick : ℕ) → ((i : ℕ) → arg core i < 256) → over p (heldIn core) tick ≡ false → Polls p core m w tick 0 core m w
   unfolding callNumber coreAfter step upTo still
   nothing-over tick small o =
-      let k : coreCalled p core m w (poll tick) ≡ (record { refusal = 0; count = 0; state = heldIn core; memory = m; room = put w 0 [] }) = served (poll tick) ∙ rw o in
+      let k : coreCalled p core m w (poll tick) ≡ leftBy p (poll tick) w (still (heldIn core) m) = served (poll tick) ∙ rw o in
       record {
         called = record {
           answer = rw k;
@@ -94,8 +92,9 @@ module _ (p : Plate) (core m w : List ℕ) (u : Unrefused p core (length m) (len
       → Closes p (stateIn core) (frameIn core) (keptIn core) m w c m′ w′ → PutsBoard (c .state) f core core′ → Polls p core m w tick (c .sent) core′ m′ w′
   closed-over tick {c} {f} {m′} {w′} {core′} o e h q =
       let x : Outcome = work p (stateWith (stateIn core) none) m (closed (lineOf (frameIn core) (keptIn core))) in
-      let k : coreCalled p core m w (poll tick) ≡ (record { refusal = 0; count = c .sent; state = x .state; memory = m′; room = w′ }) =
-      served (poll tick) ∙ rw (closed-now tick o, ← h .sent, ← h .memory, ← h .room) in
+      let k : coreCalled p core m w (poll tick)
+          ≡ (record { refusal = 0; count = c .sent; sleep = carried p (x .state) (poll tick); state = x .state; memory = m′; room = w′ })
+      = served (poll tick) ∙ rw (closed-now tick o, ← h .sent, ← h .memory, ← h .room) in
       record {
         called = board-left p core m w (poll tick) (c .state) f (x .state) all k q (rw e (omega arith)) (no-line (keptIn core) (c .state) (h .state) e);
         kept = q .kept;

@@ -94,7 +94,7 @@ record Steps : Type 0 where
   closing : T (closes board (stateHeld image3) last)
 
 computed : Steps
-unfolding imageAfter calledBy isImage isOurs isCore flagsOk run.called refusedBy lends step upTo over gap still taken more withLine plateOk among stateOk apart fresh none
+unfolding imageAfter calledBy isImage isOurs isCore flagsOk run.called refusedBy lends step upTo over remaining fullPause gap still taken more withLine plateOk among stateOk apart fresh none
     imageOf headOf plateOfHead coreOf stateBytes lineBytes flagByte put stateIn frameIn part little queueOf waiting xorAll xorFrom closed whole request sealed ownByte allowed
     asked row lengthFits commandOf inRange closes close resting work ending ours leaves judged frames.outcome message warned dataOf commandByte worked memoryStatus error
     survey table sound blank fieldCount used exists blocks freeBlocks statusAt freeByte

@@ -2,15 +2,16 @@
 use Prim.Native.Nat.{ℕ, _≤_}
 use native.Mathlib.Omega.{arith}
 use mathlib.Core.Path.{_≡_, sym, ap, _∙_}
-use mathlib.Core.Bool.{Bool, false}
+use mathlib.Core.Bool.{false}
 use mathlib.Core.List.{List}
 use lib.ListN.{length}
 use Rattle.meaning.specs.State as meaning
 use Rattle.meaning.specs.State.{Plate}
-use Rattle.meaning.specs.Characters.{over}
-use Rattle.meaning.specs.Run.{Call}
+use Rattle.meaning.specs.Characters.{remaining}
+use Rattle.meaning.specs.Run.{Call, Carried}
 use Rattle.line.specs.declared.characters.OpenFrame.{OpenFrame}
-use Rattle.line.specs.Line.{lineOf}
+use Rattle.line.specs.declared.characters.Remaining.{Remaining}
+use Rattle.line.specs.Line.{lineOf, remainingOf}
 use Rattle.state.specs.declared.state.State.{State}
 use Rattle.state.specs.State.{stateWith}
 use Rattle.image.specs.Image.{isCore, frameIn, keptIn, heldIn, lineBytes, coreOf}
@@ -28,8 +29,8 @@ module _ (p : Plate) (core m w : List ℕ) (g : Call) where
   no-core e = record { answer = rw e; state = rw e; bytes = rw e; memory = rw e; room = rw e }
 
   -- the state x that the call leaves, written as a state and an open frame's numbers
-  pub board-left : (s : State) (f : OpenFrame) (x : meaning.State) {n : ℕ} {core′ m′ w′ : List ℕ} → length core ≡ 165
-      → coreCalled p core m w g ≡ (record { refusal = 0; count = n; state = x; memory = m′; room = w′ }) → PutsBoard s f core core′ → f .len ≤ 135
+  pub board-left : (s : State) (f : OpenFrame) (x : meaning.State) {n : ℕ} {z : Carried} {core′ m′ w′ : List ℕ} → length core ≡ 165
+      → coreCalled p core m w g ≡ (record { refusal = 0; count = n; sleep = z; state = x; memory = m′; room = w′ }) → PutsBoard s f core core′ → f .len ≤ 135
       → stateWith s (lineOf f (keptIn core)) ≡ x → CoreCalled p core m w g n core′ m′ w′
   unfolding callNumber coreAfter coreOf
   board-left s f x all k b few e =
@@ -43,7 +44,7 @@ module _ (p : Plate) (core m w : List ℕ) (g : Call) where
         room = rw k;
       }
 
--- the frame's test, of the state that the core holds
-pub over-in : (p : Plate) (core : List ℕ) (tick : ℕ) {f : OpenFrame} {r : Bool} → f ≡ frameIn core
-    → ((s : meaning.State) (kept : List ℕ) → s .line ≡ lineOf f kept → r ≡ over p s tick) → r ≡ over p (heldIn core) tick
-over-in p core tick e o = o (heldIn core) (keptIn core) (ap (λ (x : OpenFrame). lineOf x (keptIn core)) (sym e))
+-- what remains of the frame, of the state that the core holds
+pub remaining-in : (p : Plate) (core : List ℕ) (tick : ℕ) {f : OpenFrame} {r : Remaining} → f ≡ frameIn core
+    → ((s : meaning.State) (kept : List ℕ) → s .line ≡ lineOf f kept → remainingOf r ≡ remaining p s tick) → remainingOf r ≡ remaining p (heldIn core) tick
+remaining-in p core tick e o = o (heldIn core) (keptIn core) (ap (λ (x : OpenFrame). lineOf x (keptIn core)) (sym e))

@@ -12,7 +12,7 @@ use Rattle.meaning.specs.Bytes.{arg, among, pick, both, either}
 use Rattle.meaning.specs.State.{Plate, plateOk, stateOk, apart, locks, queueable}
 use Rattle.meaning.specs.Demands.{waits}
 use Rattle.meaning.specs.Fields.{memoryLength}
-use Rattle.meaning.specs.Run.{Call, character, poll, measured, fault, power-on, lends, Held, called, refusedBy}
+use Rattle.meaning.specs.Run.{Call, character, poll, measured, fault, power-on, lends, Held, untouched, called, refusedBy}
 use Rattle.meaning.proofs.Choices.{both-left, both-right, both-true}
 use Rattle.wire.proofs.Numbers.{low-first, little-at}
 use Rattle.line.specs.Line.{lineOf}
@@ -199,7 +199,7 @@ module _ (p : Plate) (core m w : List ℕ) (g : Call) where
   refused-call : (n : ℕ) → eqb n 0 ≡ false → isCore core ≡ true → refusedBy p (heldIn core) m (length w) g ≡ n → CoreCalled p core m w g (256 + n) core m w
   unfolding coreCalled called callNumber coreAfter
   refused-call n z e r =
-      let k : coreCalled p core m w g ≡ (record { refusal = n; count = 0; state = heldIn core; memory = m; room = w }) = rw (e, r, z) in
+      let k : coreCalled p core m w g ≡ untouched n (heldIn core) m w = rw (e, r, z) in
       record {
         answer = sym (ap callNumber k ∙ rw z);
         state = sym (ap (λ (h : Held). h .state) k);

@@ -28,7 +28,7 @@ use Rattle.meaning.proofs.Named.{deletions-named}
 use Rattle.meaning.proofs.Addresses.{answers-to-one}
 use Rattle.meaning.proofs.Room.{refused-for-want-of-room, free-by-traffic}
 use Rattle.meaning.proofs.Told.{reads-by-traffic}
-use Rattle.line.proofs.Limits.{whole-label}
+use Rattle.meaning.proofs.Plates.{whole-label}
 use Rattle.image.specs.Image.{heldIn}
 use Rattle.quicksetter.specs.Calls.{stateHeld, lastingOf, imageOf, startOk, rested, Called}
 use Rattle.quicksetter.specs.Promises.{Ran, began, called, restarted, QsRuns, QsMemoryByTraffic, QsTrafficAlone, QsCarriedTheCode, QsDeletionsNamed, QsAnswersToOne, ClosesNext, closes-next, QsRefusedForRoom, QsRepliesAsMeant, QsFreeByTraffic, QsReadsByTraffic}

@@ -16,7 +16,7 @@ use Rattle.meaning.proofs.Limits.{to-lim, fresh-within}
 use Rattle.meaning.proofs.Choices.{both-false, told-true, true-told}
 use Rattle.line.specs.declared.characters.OpenFrame.{OpenFrame}
 use Rattle.line.specs.Line.{plateOf, lineOf, noFrame, Fits}
-use Rattle.line.proofs.Limits.{whole-label}
+use Rattle.meaning.proofs.Plates.{whole-label}
 use Rattle.state.specs.declared.state.State.{State}
 use Rattle.state.specs.State.{stateWith}
 use Rattle.state.specs.Queue.{queueOf, waiting}

@@ -19,12 +19,12 @@ use Rattle.meaning.proofs.Choices.{told-true, true-told, pick-same, both-left, 
 use Rattle.meaning.proofs.Limits.{to-lim, keeps-limits, replies-fit}
 use Rattle.meaning.proofs.Sizes.{keeps-size}
 use Rattle.meaning.proofs.Puts.{length-put}
-use Rattle.line.proofs.Limits.{few-bits}
+use Rattle.meaning.proofs.Plates.{few-bits}
 use Rattle.image.specs.Image.{flagByte, flagsOk, isOurs, isCore, headIn, coreIn, heldIn, keptIn, restedIn, stateBytes, lineBytes, headOf, coreOf}
 use Rattle.image.proofs.Standing.{Typed}
 use Rattle.image.proofs.Parts.{kept-length}
 use Rattle.image.proofs.Round.{good}
-use Rattle.quicksetter.specs.Calls.{isImage, plateHeld, stateHeld, lastingOf, imageAfter, imageOf, startOk, rested, restartOk, Called, Makes, Freshens, Restarts}
+use Rattle.quicksetter.specs.Calls.{isImage, plateHeld, stateHeld, lastingOf, calledBy, imageAfter, imageOf, startOk, rested, restartOk, Called, Makes, Freshens, Restarts}
 use Rattle.quicksetter.specs.Promises.{Reached, start, next, off, QsNeverRefused}
 use Rattle.quicksetter.proofs.Heads.{ours-length, core-of-whole, plate-stays, still-ours}
 use Rattle.quicksetter.proofs.Starting.{nothing-long, head-whole, fresh-holds, made-holds, plate-again, core-again}
@@ -175,9 +175,9 @@ goes-on p img m w g r img′ m′ w′ h wide c =
 
 -- what a call leaves, by the plate that the host began with
 pub steps-so : (p : Plate) (img m w : List ℕ) (g : Call) (r : ℕ) (img′ m′ w′ : List ℕ) → Holds p img m → 134 ≤ length w → Called img m w g r img′ m′ w′
-    → Served p (stateHeld img) m w g (record { refusal = 0; count = r; state = stateHeld img′; memory = m′; room = w′ })
+    → Served p (stateHeld img) m w g (record { refusal = 0; count = r; sleep = (calledBy img m w g) .sleep; state = stateHeld img′; memory = m′; room = w′ })
 steps-so p img m w g r img′ m′ w′ h wide c =
-    subst (λ (q : Plate). Served q (stateHeld img) m w g (record { refusal = 0; count = r; state = stateHeld img′; memory = m′; room = w′ })) (h .told)
+    subst (λ (q : Plate). Served q (stateHeld img) m w g (record { refusal = 0; count = r; sleep = (calledBy img m w g) .sleep; state = stateHeld img′; memory = m′; room = w′ })) (h .told)
     (qs-steps img m w g r img′ m′ w′ c (h .image) (rw (free-so p img m w g h wide) tt))
 
 pub reached : (p : Plate) (img m : List ℕ) → Reached p img m → Holds p img m

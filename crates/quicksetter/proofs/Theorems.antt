@@ -7,7 +7,7 @@ use lib.Dec.{T, eqb}
 use lib.ListN.{length, drop}
 use Rattle.meaning.specs.State.{State}
 use Rattle.meaning.specs.Frames.{Outcome, still}
-use Rattle.meaning.specs.Run.{Call, poll, step, Held, called, refusedBy}
+use Rattle.meaning.specs.Run.{Call, poll, step, Held, untouched, called, refusedBy}
 use Rattle.meaning.specs.Bench.{warning}
 use Rattle.meaning.specs.Demands.{waits}
 use Rattle.meaning.proofs.Calls as calls
@@ -36,6 +36,7 @@ qs-steps img m w g r img′ m′ w′ c e free =
       after = c .state ∙ ap (λ (h : Held). h .state) k ∙ s .after;
       kept = c .memory ∙ ap (λ (h : Held). h .memory) k ∙ s .kept;
       length-told = n ∙ s .length-told;
+      sleep-told = ap (λ (h : Held). h .sleep) k ∙ s .sleep-told;
       front = rw (n, q) (s .front);
       rest = rw (n, q) (s .rest);
     }
@@ -61,7 +62,7 @@ qs-poll-without-frame img m w now r img′ m′ w′ c e low free n =
 
 -- a refusal by its number: nothing is done
 module _ (img m w : List ℕ) (g : Call) {r : ℕ} {img′ m′ w′ : List ℕ} (c : Called img m w g r img′ m′ w′) where
-  nothing-done : (n : ℕ) → eqb n 0 ≡ false → calledBy img m w g ≡ (record { refusal = n; count = 0; state = stateHeld img; memory = m; room = w })
+  nothing-done : (n : ℕ) → eqb n 0 ≡ false → calledBy img m w g ≡ untouched n (stateHeld img) m w
       → Untouched n img m w r img′ m′ w′
   unfolding callNumber imageAfter
   nothing-done n z k =

@@ -1,5 +1,5 @@
 -- What a call from C leaves of image, memory and room, and the number that comes back (01, "Named refusals"). Assumes nothing.
-use Prim.Native.Nat.{ℕ, _+_}
+use Prim.Native.Nat.{ℕ, _+_, _*_, _/_, _%_}
 use mathlib.Core.Path.{_≡_}
 use mathlib.Core.Bool.{Bool}
 use mathlib.Core.List.{List, _++_}
@@ -7,7 +7,8 @@ use lib.Dec.{eqb}
 use lib.ListN.{length}
 use Rattle.meaning.specs.Bytes.{pick, both, longestRequest, zeros}
 use Rattle.meaning.specs.State as meaning
-use Rattle.meaning.specs.Run.{Call, Held, called}
+use Rattle.meaning.specs.Characters.{no-frame-open, ticks-left}
+use Rattle.meaning.specs.Run.{Call, Carried, nothing, carries, Held, untouched, called}
 use Rattle.line.specs.declared.plate.Plate.{Plate}
 use Rattle.line.specs.Line.{plateOf}
 use Rattle.state.specs.State.{stateWith}
@@ -35,8 +36,7 @@ lastingOf img = lastingIn (coreIn img)
 -- the meaning's call on the plate and the state that the image holds; what is no image is R1
 unfoldable pub calledBy : List ℕ → List ℕ → List ℕ → Call → Held
 calledBy img m room g =
-    pick (isImage img) (called (plateHeld img) (stateHeld img) m room g)
-    (record { refusal = 1; count = 0; state = stateHeld img; memory = m; room = room })
+    pick (isImage img) (called (plateHeld img) (stateHeld img) m room g) (untouched 1 (stateHeld img) m room)
 
 -- 0 for silence, 1 to 134 the reply's length, 256 + n for Rn
 unfoldable pub callNumber : Held → ℕ
@@ -52,6 +52,27 @@ pub record Called (img m w : List ℕ) (g : Call) (r : ℕ) (img′ m′ w′ : 
   pub image : img′ ≡ imageAfter img (calledBy img m w g)
   pub memory : m′ ≡ (calledBy img m w g) .memory
   pub room : w′ ≡ (calledBy img m w g) .room
+
+-- 02, Req 03: how long the host may sleep, in ticks; no frame open has a number of its own, and a refused call, which has no ticks, another
+unfoldable pub sleepNumber : Carried → ℕ
+sleepNumber nothing = 0xFFFFFFFE
+sleepNumber (carries no-frame-open) = 0xFFFFFFFF
+sleepNumber (carries (ticks-left n)) = n
+
+-- 02, Req 03: a character's and a poll's number holds both: the one above in its low 32 bits, how long the host may sleep in its high 32 bits
+unfoldable pub answerNumber : Held → ℕ
+answerNumber h = sleepNumber (h .sleep) * 0x100000000 + callNumber h
+
+pub record CalledWithSleep (img m w : List ℕ) (g : Call) (r : ℕ) (img′ m′ w′ : List ℕ) : Type 0 where
+  pub number : r ≡ answerNumber (calledBy img m w g)
+  pub called : Called img m w g (callNumber (calledBy img m w g)) img′ m′ w′
+
+-- its halves, QS_REPLY and QS_SLEEP of host/quicksetter.h
+unfoldable pub replyIn : ℕ → ℕ
+replyIn r = r % 0x100000000
+
+unfoldable pub sleepIn : ℕ → ℕ
+sleepIn r = r / 0x100000000
 
 -- a plate and a state as an image, over the 135 places for kept bytes
 unfoldable pub imageOf : meaning.Plate → meaning.State → List ℕ → List ℕ

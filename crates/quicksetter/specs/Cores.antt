@@ -10,7 +10,7 @@ use Rattle.meaning.specs.State as meaning
 use Rattle.meaning.specs.Fields.{memoryLength}
 use Rattle.meaning.specs.Characters.{over}
 use Rattle.meaning.specs.Frames.{dataOf}
-use Rattle.meaning.specs.Run.{Call, poll, Held, called}
+use Rattle.meaning.specs.Run.{Call, poll, Held, untouched, called}
 use Rattle.line.specs.declared.plate.Plate.{Plate}
 use Rattle.board.specs.Work.{Workable, Serves, Closes}
 use Rattle.image.specs.Image.{keptAt, coreLength, numberAt, countAt, isOurs, isCore, headIn, coreIn, plateOfHead, labelIn, stateIn, frameIn, heldIn, keptIn, coreOf}
@@ -20,8 +20,7 @@ use Rattle.quicksetter.specs.Calls.{plateHeld, callNumber}
 -- the meaning's call on the state that the core holds; what is no core is R1
 unfoldable pub coreCalled : meaning.Plate → List ℕ → List ℕ → List ℕ → Call → Held
 coreCalled p core m room g =
-    pick (isCore core) (called p (heldIn core) m room g)
-    (record { refusal = 1; count = 0; state = heldIn core; memory = m; room = room })
+    pick (isCore core) (called p (heldIn core) m room g) (untouched 1 (heldIn core) m room)
 
 unfoldable pub coreAfter : List ℕ → Held → List ℕ
 coreAfter core h = pick (eqb (h .refusal) 0) (coreOf (h .state) (keptIn core)) core

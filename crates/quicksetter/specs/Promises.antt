@@ -15,14 +15,14 @@ use Rattle.meaning.specs.Run.{Call, poll, measured, power-on, refusedBy, run, c
 use Rattle.meaning.specs.Bench.{allowed, request, warning, bare}
 use Rattle.meaning.specs.Ledger.{fieldsOf, granted, back, byteOf, addressOf, Agrees, AnswersTo, Honest, DeletedByName, Wanted, roomReply}
 use Rattle.meaning.specs.Demands.{waits, meant, Served}
-use Rattle.quicksetter.specs.Calls.{isImage, plateHeld, stateHeld, lastingOf, Called, Freshens, Restarts}
+use Rattle.quicksetter.specs.Calls.{isImage, plateHeld, stateHeld, lastingOf, calledBy, Called, Freshens, Restarts}
 
 -- 01, "Characters become frames", "Faults": where nothing is refused, any of the five calls does the meaning's step on the state that the image holds: the number is the
 -- reply's length, the image then holds the step's state, the memory is the step's, the reply fills the front of the room and the rest is what it was
 abbrev pub QsSteps : Type 0
 QsSteps = (img m w : List ℕ) (g : Call) (r : ℕ) (img′ m′ w′ : List ℕ) → Called img m w g r img′ m′ w′
     → isImage img ≡ true → T (eqb (refusedBy (plateHeld img) (stateHeld img) m (length w) g) 0)
-    → Served (plateHeld img) (stateHeld img) m w g (record { refusal = 0; count = r; state = stateHeld img′; memory = m′; room = w′ })
+    → Served (plateHeld img) (stateHeld img) m w g (record { refusal = 0; count = r; sleep = (calledBy img m w g) .sleep; state = stateHeld img′; memory = m′; room = w′ })
 
 -- 256 + n comes back; image, memory and room are what they were
 pub record Untouched (n : ℕ) (img m w : List ℕ) (r : ℕ) (img′ m′ w′ : List ℕ) : Type 0 where

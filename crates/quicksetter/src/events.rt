@@ -5,16 +5,19 @@ ghost use Prim.Native.Nat.{ℕ, _+_, _≤_};
 ghost use lib.ListN.{length};
 ghost use Rattle.meaning.specs.Bytes.{differ};
 ghost use Rattle.meaning.specs.State.{labelLength, lastAddress, apart, none, ownByte};
-ghost use Rattle.meaning.specs.Characters.{over};
+ghost use Rattle.meaning.specs.Characters.{remaining};
 ghost use Rattle.meaning.specs.Demands.{waits};
 ghost use Rattle.meaning.specs.Run as run;
-ghost use Rattle.line.specs.Line.{plateOf};
+ghost use Rattle.line.specs.Line.{plateOf, remainingOf};
 ghost use Rattle.state.specs.Queue.{queueOf};
 ghost use Rattle.state.specs.State.{stateWith};
 ghost use Rattle.image.specs.Image.{keptAt, coreLength, stateIn, heldIn};
-ghost use Rattle.quicksetter.specs.Calls.{Called};
+ghost use Rattle.quicksetter.specs.Calls.{CalledWithSleep};
 ghost use Rattle.quicksetter.specs.Cores.{possible, ImageUnrefused, ImageServable, ImageServed, ImageAnswered, ImageShuts, ImagePolls};
-use crate::given::REFUSED;
+use crate::given::NO_FRAME_OPEN;
+use crate::given::NOT_CALLED;
+use crate::given::answer_number;
+use crate::given::sleep_number;
 use image::ADDRESS;
 use image::CODES;
 use image::CORE;
@@ -27,6 +30,7 @@ use image::WAITING;
 use line::Judgement;
 use line::OpenFrame;
 use line::Plate;
+use line::Remaining;
 use wire::codes::LONGEST_REPLY;
 
 // R1 of the plate and of the core, but for the waiting codes. What a host may get wrong comes first. A counter of three bytes is never too large.
@@ -68,13 +72,13 @@ fn waits(core: &[u8]) -> bool
     wire::number_at(core, WAITING) != 0
 }
 
-// Whether the core's open frame is over at that tick.
-fn is_over(core: &[u8], tick: u32, plate: Plate) -> bool
+// How much of the core's open frame remains at that tick.
+fn remaining(core: &[u8], tick: u32, plate: Plate) -> Remaining
     requires { ⌜ coreLength ≤ length (now core) ⌝ }
-    ensures { λ r. ⌜ ((l : List ℕ) → r ≡ over (plateOf plate l) (heldIn (now (core .entry))) tick) ⌝ }
+    ensures { λ r. ⌜ ((l : List ℕ) → remainingOf r ≡ remaining (plateOf plate l) (heldIn (now (core .entry))) tick) ⌝ }
 {
     let frame = image::frame_in(core);
-    frame.is_over(plate, tick)
+    frame.remaining(plate, tick)
 }
 
 // The board's address byte.
@@ -143,13 +147,14 @@ fn shut(image: &mut [u8], memory: &mut [u8], room: &mut [u8]) -> u8
 }
 
 // What a character finds done by its tick, as a poll would do it.
-fn polled(image: &mut [u8], tick: u32, memory: &mut [u8], room: &mut [u8]) -> usize
+fn polled(image: &mut [u8], tick: u32, memory: &mut [u8], room: &mut [u8]) -> u8
     requires { ⌜ ImageUnrefused (now image) (length (now memory)) (length (now room)) ⌝ }
     ensures { λ r. ⌜ ImagePolls (now (image .entry)) (now (memory .entry)) (now (room .entry)) tick r (now (image .exit)) (now (memory .exit)) (now (room .exit)) ⌝ }
 {
     let plate = image::plate_in(image);
-    if is_over(&image[CORE..LENGTH], tick, plate) {
-        return shut(image, memory, room) as usize;
+    let left = remaining(&image[CORE..LENGTH], tick, plate);
+    if left.is_over() {
+        return shut(image, memory, room);
     }
     0
 }
@@ -160,6 +165,7 @@ fn is_fault(parity: u8) -> bool
     parity != 0
 }
 
+// 02, Req 03: the character is then the last one, so that the full pause remains.
 #[no_mangle]
 pub extern "C" fn qs_character(
     image: &mut [u8],
@@ -168,52 +174,53 @@ pub extern "C" fn qs_character(
     parity: u8,
     memory: &mut [u8],
     room: &mut [u8],
-) -> usize
-    ensures { λ r. ⌜ Called (now (image .entry)) (now (memory .entry)) (now (room .entry)) (run.character tick value (differ parity 0)) r (now (image .exit)) (now (memory .exit)) (now (room .exit)) ⌝ }
+) -> u64
+    ensures { λ r. ⌜ CalledWithSleep (now (image .entry)) (now (memory .entry)) (now (room .entry)) (run.character tick value (differ parity 0)) r (now (image .exit)) (now (memory .exit)) (now (room .exit)) ⌝ }
 {
     if !image::is_ours(image) {
-        return REFUSED + 1;
+        return NOT_CALLED + 1;
     }
     let plate = image::plate_in(image);
     if !is_possible(&image[CORE..LENGTH], plate) {
-        return REFUSED + 1;
+        return NOT_CALLED + 1;
     }
     if !is_sound(&image[CORE..LENGTH]) {
-        return REFUSED + 1;
+        return NOT_CALLED + 1;
     }
     if memory.len() as u64 != plate.memory_length() {
-        return REFUSED + 2;
+        return NOT_CALLED + 2;
     }
     if room.len() < LONGEST_REPLY {
-        return REFUSED + 3;
+        return NOT_CALLED + 3;
     }
     let sent = polled(image, tick, memory, room);
     image::take_character(tick, value, is_fault(parity), &mut image[CORE..LENGTH]);
-    sent
+    answer_number(plate.full_pause(), sent)
 }
 
 #[no_mangle]
-pub extern "C" fn qs_poll(image: &mut [u8], tick: u32, memory: &mut [u8], room: &mut [u8]) -> usize
-    ensures { λ r. ⌜ Called (now (image .entry)) (now (memory .entry)) (now (room .entry)) (run.poll tick) r (now (image .exit)) (now (memory .exit)) (now (room .exit)) ⌝ }
+pub extern "C" fn qs_poll(image: &mut [u8], tick: u32, memory: &mut [u8], room: &mut [u8]) -> u64
+    ensures { λ r. ⌜ CalledWithSleep (now (image .entry)) (now (memory .entry)) (now (room .entry)) (run.poll tick) r (now (image .exit)) (now (memory .exit)) (now (room .exit)) ⌝ }
 {
     if !image::is_ours(image) {
-        return REFUSED + 1;
+        return NOT_CALLED + 1;
     }
     let plate = image::plate_in(image);
     if !is_possible(&image[CORE..LENGTH], plate) {
-        return REFUSED + 1;
+        return NOT_CALLED + 1;
     }
     if !is_sound(&image[CORE..LENGTH]) {
-        return REFUSED + 1;
+        return NOT_CALLED + 1;
     }
     if memory.len() as u64 != plate.memory_length() {
-        return REFUSED + 2;
+        return NOT_CALLED + 2;
     }
     if room.len() < LONGEST_REPLY {
-        return REFUSED + 3;
+        return NOT_CALLED + 3;
     }
-    if is_over(&image[CORE..LENGTH], tick, plate) {
-        return shut(image, memory, room) as usize;
+    let left = remaining(&image[CORE..LENGTH], tick, plate);
+    if left.is_over() {
+        return answer_number(NO_FRAME_OPEN, shut(image, memory, room));
     }
-    0
+    answer_number(sleep_number(left), 0)
 }

@@ -36,7 +36,7 @@ prints = tt
 
 -- the poll's record, cut by a byte: its place is 39
 pub cut-short : T (same (answersOf (take 46 tape)) (firstLine ++ (98 ∷ 97 ∷ 100 ∷ 32 ∷ 51 ∷ 57 ∷ 10 ∷ [])))
-unfolding same part put blank xorFrom xorAll among plateOk fresh none withLine ownByte gap over more taken upTo still step little lengthAt recordAt sized characterIn callOf saidBy decimalIn decimalOf firstLine badLine printedOf badRecord begun stepped turn answersFrom answersOf
+unfolding same part put blank xorFrom xorAll among plateOk fresh none withLine ownByte gap fullPause remaining over more taken upTo still step little lengthAt recordAt sized characterIn callOf saidBy decimalIn decimalOf firstLine badLine printedOf badRecord begun stepped turn answersFrom answersOf
 cut-short = tt
 
 -- 01, "first and once": a second plate is bad, at place 9

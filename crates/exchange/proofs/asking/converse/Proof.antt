@@ -4,7 +4,7 @@ use Prim.Native.Nat.{ℕ, _+_, _%_, _^_, _<_, _≤_}
 use lib.ListN.{length}
 use lib.Seq.{length-take-le}
 use Rattle.exchange.proofs.Answering.{reply-fits, converses}
-use Rattle.line.proofs.Limits.{few-ticks, short-pause}
+use Rattle.meaning.proofs.Plates.{few-ticks, short-pause}
 use borrow.Author.Needs.{needs}
 use Rattle.exchange.proofs.asking.converse.Statement.{statement}
 use Rattle.exchange.proofs.asking.converse.Tie as tie

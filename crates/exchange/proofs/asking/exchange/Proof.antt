@@ -13,7 +13,7 @@ use Rattle.board.proofs.Bounding.{lends-poll}
 use Rattle.exchange.proofs.Stepping.{within, wide}
 use Rattle.exchange.proofs.Refusing.{Wrote, wrote, none-applies, passes-unsent, passes-refused, refused-open, refused-slow, refused-bench, passes-unwritten, passes-heard}
 use denote.Ref.{now}
-use Rattle.line.proofs.Limits.{few-ticks, short-pause}
+use Rattle.meaning.proofs.Plates.{few-ticks, short-pause}
 use borrow.Author.Needs.{needs}
 use Rattle.exchange.proofs.asking.exchange.Statement.{statement}
 use Rattle.exchange.proofs.asking.exchange.Tie as tie

@@ -7,7 +7,7 @@ use lib.ListN.{length, take, drop}
 use lib.Seq.{take-all}
 use Rattle.meaning.specs.Bytes.{put, zeros}
 use Rattle.meaning.proofs.Puts.{length-put, put-all, put-put}
-use Rattle.line.proofs.Limits.{total-fits, few-bits, low-address, few-ticks, short-pause, whole-label}
+use Rattle.meaning.proofs.Plates.{total-fits, few-bits, low-address, few-ticks, short-pause, whole-label}
 use Rattle.image.specs.Image.{headOf}
 use Rattle.image.proofs.Standing.{part-filled}
 use borrow.Author.Needs.{needs}

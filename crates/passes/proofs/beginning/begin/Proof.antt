@@ -3,7 +3,7 @@ use mathlib.Core.Path.{_≡_, refl}
 use mathlib.Core.List.{[], _∷_}
 use types.Run.{OneOf, miss}
 use denote.Enum.Declared.{tagOf}
-use Rattle.line.proofs.Limits.{low-address}
+use Rattle.meaning.proofs.Plates.{low-address}
 use Rattle.turns.proofs.Beginning.{opens-as}
 use Rattle.passes.specs.Beginnings.{goes-on, begins}
 use Rattle.passes.specs.declared.session.Phase.{Phase}

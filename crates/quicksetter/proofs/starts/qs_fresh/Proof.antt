@@ -5,7 +5,7 @@ use denote.Ref.{now}
 use borrow.Author.Tests.{not-true, not-false}
 use Rattle.meaning.specs.State.{Plate}
 use Rattle.line.specs.Line.{plateOf}
-use Rattle.line.proofs.Limits.{low-address}
+use Rattle.meaning.proofs.Plates.{low-address}
 use Rattle.quicksetter.specs.Calls.{plateFrom}
 use Rattle.quicksetter.proofs.Starting.{no-plate, no-label, no-length, started, fresh-counts, fresh-fine}
 use borrow.Author.Needs.{needs}
