@@ -9,7 +9,7 @@ use lib.Seq.{length-take-le}
 use Rattle.meaning.specs.Bytes.{put, zeros}
 use Rattle.meaning.specs.State as meaning
 use Rattle.meaning.specs.State.{Line, labelLength, fresh, plateOk, withLine}
-use Rattle.meaning.specs.Characters as meaning
+use Rattle.meaning.specs.Characters as characters
 use Rattle.meaning.specs.Characters.{fullPause, no-frame-open, ticks-left, remaining}
 use Rattle.line.specs.declared.plate.Plate.{Plate}
 use Rattle.line.specs.declared.characters.OpenFrame.{OpenFrame}
@@ -41,7 +41,7 @@ with-character-tight l k f g a b all p q =
     (same-line-same-frame f g a (p .few) (q .few) long (p .line ∙ sym (ap (lineOf g) same ∙ q .line)), same)
 
 -- the meaning's case says which one it is in the code
-abbrev pub remainingBack : meaning.Remaining → Remaining
+abbrev pub remainingBack : characters.Remaining → Remaining
 remainingBack no-frame-open = NoFrameOpen
 remainingBack (ticks-left n) = TicksLeft n
 

@@ -6,7 +6,7 @@ use mathlib.Core.List.{List}
 use lib.ListN.{length, take}
 use Rattle.meaning.specs.Bytes.{pick, longestRequest, put}
 use Rattle.meaning.specs.State as meaning
-use Rattle.meaning.specs.Characters as meaning
+use Rattle.meaning.specs.Characters as characters
 use Rattle.meaning.specs.Characters.{Frame, no-frame-open, ticks-left}
 use Rattle.line.specs.declared.plate.Plate.{Plate}
 use Rattle.line.specs.declared.characters.OpenFrame.{OpenFrame}
@@ -22,7 +22,7 @@ abbrev pub lineOf : OpenFrame → List ℕ → meaning.Line
 lineOf f kept = record { begun = f .begun; kept = take (f .len) kept; sum = f .sum; longer = f .longer; parity = f .parity; last = f .last }
 
 -- 02, Req 03, in the code's cases
-abbrev pub remainingOf : Remaining → meaning.Remaining
+abbrev pub remainingOf : Remaining → characters.Remaining
 remainingOf NoFrameOpen = no-frame-open
 remainingOf (TicksLeft n) = ticks-left n
 

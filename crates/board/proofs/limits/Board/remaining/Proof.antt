@@ -1,17 +1,17 @@
--- `board::limits::Board::is_over` meets its contract. Assumes nothing.
+-- `board::limits::Board::remaining` meets its contract. Assumes nothing.
 use mathlib.Core.Path.{refl}
 use borrow.Author.Needs.{needs}
-use Rattle.board.proofs.limits.Board.is_over.Statement.{statement}
-use Rattle.board.proofs.limits.Board.is_over.Tie as tie
-use Rattle.board.proofs.limits.Board.is_over.Reads as reads
-use Rattle.board.proofs.limits.Board.is_over.Lts as lts
-use Rattle.line.proofs.characters.OpenFrame.is_over.Reads as is-over-reads
+use Rattle.board.proofs.limits.Board.remaining.Statement.{statement}
+use Rattle.board.proofs.limits.Board.remaining.Tie as tie
+use Rattle.board.proofs.limits.Board.remaining.Reads as reads
+use Rattle.board.proofs.limits.Board.remaining.Lts as lts
+use Rattle.line.proofs.characters.OpenFrame.remaining.Reads as remaining-reads
 
-is-over-requires : tie.Need-is-over-requires
-is-over-requires c κs = search needs
+remaining-requires : tie.Need-remaining-requires
+remaining-requires c κs = search needs
 
 returns : tie.Need-returns
-returns c = λ kept l. c .is-over .ensures _ kept l refl
+returns c = λ kept l. c .remaining .ensures _ kept l refl
 
-pub is-over-spec : {M : Type 1} → statement M
-is-over-spec = tie.close (tie.spec is-over-requires returns)
+pub remaining-spec : {M : Type 1} → statement M
+remaining-spec = tie.close (tie.spec remaining-requires returns)

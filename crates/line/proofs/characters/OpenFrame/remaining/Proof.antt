@@ -1,45 +1,53 @@
--- `line::characters::OpenFrame::is_over` meets its contract. Assumes nothing.
-use mathlib.Core.Path.{sym, ap}
-use borrow.Author.Tests.{le-leb, lt-leb}
-use Rattle.line.proofs.Product.{below}
-use Rattle.meaning.specs.State.{Line}
-use Rattle.meaning.specs.Characters.{over}
+-- `line::characters::OpenFrame::remaining` meets its contract. Assumes nothing.
+use Prim.Native.Nat.{ℕ, _-_}
+use mathlib.Core.Path.{_≡_, refl, ap, _∙_}
+use mathlib.Core.Bool.{true}
+use native.Mathlib.Omega.{arith}
+use borrow.Author.Tests.{not-true, not-false}
+use Rattle.meaning.specs.State.{Plate, State, Line}
+use Rattle.meaning.specs.Characters.{gap, fullPause, ticks-left, remaining}
 use borrow.Author.Needs.{needs}
-use Rattle.line.proofs.characters.OpenFrame.is_over.Statement.{statement}
-use Rattle.line.proofs.characters.OpenFrame.is_over.Tie as tie
+use Rattle.line.proofs.characters.OpenFrame.remaining.Statement.{statement}
+use Rattle.line.proofs.characters.OpenFrame.remaining.Tie as tie
 
-cast-pause : tie.Need-cast-pause
-cast-pause c = search needs
+-- of an open frame the pause less the gap
+left-so : (p : Plate) (s : State) (now : ℕ) {n : ℕ} → s .line .begun ≡ true → n ≡ fullPause p - gap (s .line .last) now → ticks-left n ≡ remaining p s now
+unfolding remaining
+left-so p s now b e = rw (b, e)
 
-cast-pause-2 : tie.Need-cast-pause-2
-cast-pause-2 c = search needs
+returns : tie.Need-returns
+unfolding remaining
+returns c = λ s kept l e. rw (ap (λ (x : Line). x .begun) e ∙ not-true _ (c .if1 .taken))
 
-mul-pause : tie.Need-mul-pause
-mul-pause c = record { fits = below 32 (search needs) (search needs) }
+full-pause-requires : tie.Need-full-pause-requires
+full-pause-requires c κs = search needs
 
 gap-requires : tie.Need-gap-requires
 gap-requires c κs = search needs
 
-cast-if2 : tie.Need-cast-if2
-cast-if2 c = search needs
-
-returns : tie.Need-returns
-unfolding over
-returns c =
-    let after-1 = c .before .before .before .before in
-    λ s kept l e. rw (ap (λ (x : Line). x .begun) e, ap (λ (x : Line). x .last) e) (simp (after-1 .if1 .taken, le-leb _ _ (c .if2 .taken), sym (c .before .gap .ensures)))
+cast-since : tie.Need-cast-since
+cast-since c = search needs
 
 returns-2 : tie.Need-returns-2
-unfolding over
 returns-2 c =
-    let after-1 = c .before .before .before .before in
-    λ s kept l e. rw (ap (λ (x : Line). x .begun) e, ap (λ (x : Line). x .last) e) (simp (after-1 .if1 .taken, lt-leb _ _ (c .if2 .left), sym (c .before .gap .ensures)))
+    let after-gap = c .before in
+    let after-pause = after-gap .before in
+    let start = after-pause .before .before .before in
+    λ s kept l e. left-so _ s _ (ap (λ (x : Line). x .begun) e ∙ not-false _ (after-pause .before .if1 .left))
+    (omega (arith, c .if2 .taken, after-pause .full-pause .ensures l, after-gap .gap .ensures, ap (λ (x : Line). gap (x .last) (start .args .tick)) e))
+
+sub-t8 : tie.Need-sub-t8
+sub-t8 c = search needs
 
 returns-3 : tie.Need-returns-3
-unfolding over
-returns-3 c = λ s kept l e. rw (ap (λ (x : Line). x .begun) e) (simp (c .if1 .left))
+returns-3 c =
+    let after-gap = c .before in
+    let after-pause = after-gap .before in
+    let start = after-pause .before .before .before in
+    λ s kept l e. left-so _ s _ (ap (λ (x : Line). x .begun) e ∙ not-false _ (after-pause .before .if1 .left))
+    (omega (arith, after-pause .full-pause .ensures l, after-gap .gap .ensures, ap (λ (x : Line). gap (x .last) (start .args .tick)) e))
 
-pub is-over-spec : {M : Type 1} → statement M
-is-over-spec =
+pub remaining-spec : {M : Type 1} → statement M
+remaining-spec =
     tie.close
-    (tie.spec cast-pause cast-pause-2 mul-pause gap-requires cast-if2 returns returns-2 returns-3)
+    (tie.spec returns full-pause-requires gap-requires cast-since returns-2 sub-t8 returns-3)

@@ -1,0 +1,20 @@
+-- `line::characters::Remaining::is_over` meets its contract. Assumes nothing.
+use mathlib.Core.Path.{sym}
+use borrow.Author.Needs.{needs}
+use Rattle.line.proofs.characters.Remaining.is_over.Statement.{statement}
+use Rattle.line.proofs.characters.Remaining.is_over.Tie as tie
+
+enum-told : tie.Need-enum-told
+enum-told c = search needs
+
+enum-known-self : tie.Need-enum-known-self
+enum-known-self c = search needs
+
+returns : tie.Need-returns
+returns c = search needs
+
+returns-2 : tie.Need-returns-2
+returns-2 c = rw (c .before .self .given .1)
+
+pub is-over-spec : {M : Type 1} → statement M
+is-over-spec = tie.close (tie.spec enum-told enum-known-self returns returns-2)
