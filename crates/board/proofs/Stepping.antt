@@ -13,14 +13,14 @@ use lib.Seq.{take-all}
 use Rattle.meaning.specs.Bytes.{pick, put, zeros}
 use Rattle.meaning.specs.State as meaning
 use Rattle.meaning.specs.State.{Plate, none, withLine}
-use Rattle.meaning.specs.Characters.{fullPause, remaining, over, more, taken, closed}
+use Rattle.meaning.specs.Characters.{fullPause, ticks-left, remaining, over, more, taken, closed}
 use Rattle.meaning.specs.Frames.{Outcome, work, resting, still, upTo}
 use Rattle.meaning.specs.Frames as frames
 use Rattle.meaning.specs.Run as run
 use Rattle.meaning.specs.Run.{Call, Held, step, carried, untouched, leftBy, called, closes, lends, refusedBy}
 use Rattle.line.specs.declared.characters.OpenFrame.{OpenFrame}
 use Rattle.line.specs.declared.characters.Remaining.{Remaining}
-use Rattle.line.specs.declared.characters.Remaining.the-variants.{NoFrameOpen, TicksLeft}
+use Rattle.line.specs.declared.characters.Remaining.the-variants.{NoFrameOpen}
 use Rattle.line.specs.Line.{lineOf, remainingOf, noFrame, Fits, Extends}
 use Rattle.state.specs.declared.state.State.{State}
 use Rattle.state.specs.State.{stateWith}
@@ -32,6 +32,7 @@ use Rattle.state.proofs.Answering.{put-nothing}
 use Rattle.board.specs.declared.limits.Board.{Board}
 use Rattle.board.specs.declared.limits.Outcome as code
 use Rattle.board.specs.declared.limits.Outcome.the-variants.{R1, Still, Over}
+use Rattle.board.specs.declared.limits.Carried.{Carried}
 use Rattle.board.specs.declared.limits.Carried.the-variants.{Nothing, Carries}
 use Rattle.board.specs.declared.limits.Stepped.{Stepped}
 use Rattle.board.specs.declared.closing.Closed.{Closed}
@@ -237,14 +238,14 @@ module _ (p : Plate) (b : Board) (k m w : List ℕ) (t : ℕ) {r : Stepped} {k�
           all = ap length kept-still ∙ eqb-true (length k) 135 (facts p b k m (length w) (run.poll t) (lends-poll t) willing .all);
         }
 
-    pub character-taken : {v n : ℕ} {bad : Bool} {f : OpenFrame} {q : Stepped} {k″ : List ℕ}
-        → q ≡ (record { board = record { state = r .board .state; frame = f }; outcome = r .outcome; sleep = Carries (TicksLeft n) }) → n ≡ fullPause p
+    pub character-taken : {v : ℕ} {bad : Bool} {f : OpenFrame} {z : Carried} {q : Stepped} {k″ : List ℕ}
+        → q ≡ (record { board = record { state = r .board .state; frame = f }; outcome = r .outcome; sleep = z }) → carriedOf z ≡ run.carries (ticks-left (fullPause p))
         → Extends (more (pick (r .board .frame .begun) (lineOf (r .board .frame) k′) none) t v bad) k′ f k″ → Steps p b k m w (run.character t v bad) q k″ m′ w′
     unfolding step closes taken withLine outcomeOf refusedAs
-    character-taken {v} {n} {bad} {f} {q} {k″} e full x =
+    character-taken {v} {bad} {f} {z} {q} {k″} e full x =
         let u : stateOf (r .board) k′ ≡ after .state = s .state ∙ ap (λ (h : Held). h .state) on in
         stepped p b k m w (run.character t v bad) (sym (same-refusal v bad) ∙ willing) (rw e (s .outcome ∙ ap (λ (h : Held). outcomeOf h (closes p (stateOf b k) (run.poll t))) on))
-        (rw (e, full) (sym (full-after-character p (stateOf b k) m t v bad))) (rw (e, ← u) (ap (stateWith (r .board .state)) (x .line)))
+        (rw e (full ∙ sym (full-after-character p (stateOf b k) m t v bad))) (rw (e, ← u) (ap (stateWith (r .board .state)) (x .line)))
         (rw (← u, ← kept-still) (x .bytes)) (s .memory ∙ ap (λ (h : Held). h .memory) on) (s .room ∙ ap (λ (h : Held). h .room) on) (rw e (x .few))
 
 -- no frame is open

@@ -6,9 +6,10 @@ ghost use lib.ListN.{length};
 ghost use Rattle.meaning.specs.Bytes.{longestRequest};
 ghost use Rattle.meaning.specs.State as meaning;
 ghost use Rattle.meaning.specs.State.{lastAddress};
+ghost use Rattle.meaning.specs.Characters.{fullPause, ticks-left};
 ghost use Rattle.meaning.specs.Run as run;
 ghost use Rattle.line.specs.Line.{plateOf};
-ghost use Rattle.board.specs.Board.{stateOf, within, takenIf, Steps};
+ghost use Rattle.board.specs.Board.{stateOf, within, takenIf, carriedOf, Steps};
 use crate::closing::close;
 use crate::limits::Board;
 use crate::limits::Carried;
@@ -80,8 +81,14 @@ pub fn poll(
     stepped(state, frame, Outcome::Still, Carried::Carries(left))
 }
 
-// A character at its end: first what a poll does by then, so that where the open frame is over the character opens the next. It is then the last
-// one, so that the full pause remains.
+// What a character's answer carries: it is the last one then.
+fn full_pause(plate: Plate) -> Carried
+    ensures { λ r. ⌜ ((l : List ℕ) → carriedOf r ≡ run.carries (ticks-left (fullPause (plateOf plate l)))) ⌝ }
+{
+    Carried::Carries(Remaining::TicksLeft(plate.full_pause()))
+}
+
+// A character at its end: first what a poll does by then, so that where the open frame is over the character opens the next.
 pub fn character(
     plate: Plate,
     label: &[u8],
@@ -103,8 +110,7 @@ pub fn character(
     }
     let state = after.state;
     let frame = after.frame.with_character(tick, value, parity, kept);
-    let full = Remaining::TicksLeft(plate.full_pause());
-    stepped(state, frame, outcome, Carried::Carries(full))
+    stepped(state, frame, outcome, full_pause(plate))
 }
 
 // The answer of a call that is no character and no poll.

@@ -1,5 +1,6 @@
 -- `board::calls::poll` meets its contract. Assumes nothing.
 use Rattle.meaning.specs.Run.{poll}
+use Rattle.meaning.proofs.Gaps.{over-told}
 use Rattle.board.proofs.Bounding.{ready, lends-poll, none-refused}
 use mathlib.Core.Path.{_≡_, refl, sym, ap, _∙_}
 use denote.Ref.{now}
@@ -48,12 +49,15 @@ returns : tie.Need-returns
 returns c =
     let t = c .before .before in refused _ _ _ _ _ _ (c .stepped .ensures) (told (t .before .before .before)) (sym (t .is-refusal .ensures) ∙ c .before .if1 .taken)
 
+remaining-requires : tie.Need-remaining-requires
+remaining-requires c κs = search needs
+
 is-over-requires : tie.Need-is-over-requires
 is-over-requires c κs = search needs
 
 close-requires : tie.Need-close-requires
 close-requires c κs =
-    let after-else1 = c .before .before .before .before .before in
+    let after-else1 = c .before .before .before .before .before .before in
     enough (after-else1)
 
 cast-sent : tie.Need-cast-sent
@@ -79,8 +83,10 @@ returns-2 c =
     let after-close = c .before .before .before .before .before .before .before .before in
     let after-2 = after-close .before .before .before .before in
     let after-is-over = after-2 .before in
-    let after-else1 = after-is-over .before in
-    poll-over _ _ _ _ _ _ (willing (after-else1)) (c .stepped2 .ensures) (c .before .none .ensures) (sym (after-is-over .is-over .ensures _ _ _ refl) ∙ after-2 .if2 .taken) (after-close .close .ensures)
+    let after-remaining = after-is-over .before in
+    let after-else1 = after-remaining .before in
+    let left = after-remaining .remaining .ensures _ _ (now (start (tested after-else1) .args .label)) refl in
+    poll-over _ _ _ _ _ _ (willing (after-else1)) (c .stepped2 .ensures) (c .before .none .ensures) (over-told _ _ _ left ∙ sym (after-is-over .is-over .ensures) ∙ after-2 .if2 .taken) (after-close .close .ensures)
 
 stepped-requires-3 : tie.Need-stepped-requires-3
 stepped-requires-3 c κs = search needs
@@ -88,8 +94,10 @@ stepped-requires-3 c κs = search needs
 returns-3 : tie.Need-returns-3
 returns-3 c =
     let after-is-over = c .before .before in
-    let after-else1 = after-is-over .before in
-    poll-still _ _ _ _ _ _ (willing (after-else1)) (c .stepped3 .ensures) refl (sym (after-is-over .is-over .ensures _ _ _ refl) ∙ c .before .if2 .left) (enough (after-else1) .fits .few)
+    let after-remaining = after-is-over .before in
+    let after-else1 = after-remaining .before in
+    let left = after-remaining .remaining .ensures _ _ (now (start (tested after-else1) .args .label)) refl in
+    poll-still _ _ _ _ _ _ (willing (after-else1)) (c .stepped3 .ensures) refl left (over-told _ _ _ left ∙ sym (after-is-over .is-over .ensures) ∙ c .before .if2 .left) (enough (after-else1) .fits .few)
 
 pub poll-spec : {M : Type 1} → statement M
 poll-spec =
@@ -99,6 +107,7 @@ poll-spec =
     is-refusal-requires
     stepped-requires
     returns
+    remaining-requires
     is-over-requires
     close-requires
     cast-sent
