@@ -9,7 +9,7 @@ use lib.ListN.{length, take, drop}
 use lib.Seq.{take-length, take-append-seam}
 use Rattle.meaning.specs.Bytes.{pick, put}
 use Rattle.meaning.specs.State.{Plate, State, Line, none, withLine, plateOk, stateOk}
-use Rattle.meaning.specs.Characters.{over}
+use Rattle.meaning.specs.Characters.{fullPause, over}
 use Rattle.meaning.specs.Frames.{Outcome, still, resting}
 use Rattle.meaning.specs.Run.{poll, step, runFrom, closes}
 use Rattle.meaning.specs.Bench.{addressFor, request, judge}
@@ -18,7 +18,7 @@ use Rattle.meaning.proofs.Puts.{length-put, put-front}
 use Rattle.meaning.proofs.Rests.{meant-rests}
 use Rattle.meaning.proofs.Choices.{true-told}
 use Rattle.meaning.proofs.Limits.{Lim, to-lim, replies-fit}
-use Rattle.meaning.proofs.Plates.{whole-label, few-ticks, short-pause}
+use Rattle.meaning.proofs.Plates.{whole-label, longest-pause}
 use Rattle.state.proofs.Answering.{put-nothing}
 use Rattle.board.specs.declared.limits.Board.{Board}
 use Rattle.board.specs.declared.limits.Outcome.the-variants.{Still, Over}
@@ -39,8 +39,8 @@ use Rattle.exchange.proofs.Closing.{over-now, poll-answers, verdict-ans
 -- the pause as a number of ticks fits 32 bits
 
 module _ (p : Plate) (ok : plateOk p ≡ true) where
-  pub pause-fits : p .pause * p .ticks < 2 ^ 32
-  pause-fits = omega (arith, mul-le-mul-left (p .pause) (few-ticks p ok), short-pause p ok)
+  pub pause-fits : fullPause p < 2 ^ 32
+  pause-fits = omega (arith, longest-pause p ok)
 
 -- ---- the poll
 
@@ -54,7 +54,7 @@ answer-rests p s m a c d = go (reached s a)
     go false = refl
 
 module _ (p : Plate) (b : Board) (tick spacing : ℕ) (q kept m w : List ℕ) (clear : Clear p b spacing q kept m w) where
-  pub clear-pause : p .pause * p .ticks < 2 ^ 32
+  pub clear-pause : fullPause p < 2 ^ 32
   clear-pause = pause-fits p (clear .within .plate)
 
   module _ {e : Sent} {k₁ m₁ w₁ : List ℕ} (sent : SendsRequest p b tick spacing q kept m w e k₁ m₁ w₁) (t : ℕ) {r : Stepped} {k₂ m₂ w₂ : List ℕ}
@@ -80,7 +80,7 @@ module _ (p : Plate) (b : Board) (tick spacing : ℕ) (q kept m w : List ℕ) (c
         go false = omega arith
 
     -- Demand 2 in code: what the request comes to
-    module _ (low : tick < 2 ^ 32) (at : t ≡ (e .last + p .pause * p .ticks) % 2 ^ 32) (n c : ℕ) (d : List ℕ) (asks : Asks n c d q) where
+    module _ (low : tick < 2 ^ 32) (at : t ≡ (e .last + fullPause p) % 2 ^ 32) (n c : ℕ) (d : List ℕ) (asks : Asks n c d q) where
       abbrev a : ℕ
       a = addressFor n
 
@@ -97,8 +97,8 @@ module _ (p : Plate) (b : Board) (tick spacing : ℕ) (q kept m w : List ℕ) (c
       short : length (request a c d) ≤ 135
       short = rw (asks .bytes) at (clear .short)
 
-      tick-is : t ≡ (stampOf tick spacing (length (request a c d) - 1) + p .pause * p .ticks) % 2 ^ 32
-      tick-is = at ∙ ap (λ (x : ℕ). (x + p .pause * p .ticks) % 2 ^ 32) (sent .last ∙ ap (λ (l : List ℕ). stampOf tick spacing (length l - 1)) (asks .bytes))
+      tick-is : t ≡ (stampOf tick spacing (length (request a c d) - 1) + fullPause p) % 2 ^ 32
+      tick-is = at ∙ ap (λ (x : ℕ). (x + fullPause p) % 2 ^ 32) (sent .last ∙ ap (λ (l : List ℕ). stampOf tick spacing (length l - 1)) (asks .bytes))
 
       state-is : stateOf (e .board) k₁ ≡ (runFrom p (stateOf b kept) m (sending tick spacing (request a c d) (length (request a c d)))) .state
       state-is = sent .taken .state ∙ ap (λ (l : List ℕ). (runFrom p (stateOf b kept) m (sending tick spacing l (length l))) .state) (asks .bytes)

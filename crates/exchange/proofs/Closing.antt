@@ -11,7 +11,7 @@ use Rattle.meaning.specs.Bytes.{pick, either, arg}
 use Rattle.meaning.specs.State.{Plate, State, ownByte, withLine}
 use Rattle.meaning.specs.Fields.{memoryLength}
 use Rattle.meaning.specs.Commands.{commandOf, worked}
-use Rattle.meaning.specs.Characters.{closed}
+use Rattle.meaning.specs.Characters.{fullPause, closed}
 use Rattle.meaning.specs.Frames.{sealed, ours, still, resting, upTo}
 use Rattle.meaning.specs.Characters as characters
 use Rattle.meaning.specs.Frames as frames
@@ -41,7 +41,7 @@ unfolding request
 request-long a c d = omega (arith, length-sealed (a ∷ c ∷ d))
 
 module _ (p : Plate) (s : State) (m : List ℕ) (tick spacing : ℕ) (a c : ℕ) (d : List ℕ) (idle : s .line .begun ≡ false) (low : tick < 2 ^ 32)
-    (close : spacing < p .pause * p .ticks) (few : p .pause * p .ticks < 2 ^ 32) (short : length (request a c d) ≤ 135)
+    (close : spacing < fullPause p) (few : fullPause p < 2 ^ 32) (short : length (request a c d) ≤ 135)
     (home : s .address ≤ 31) (labelled : length (p .label) ≡ 41) (size : length m ≡ memoryLength (p .total)) (may : T (allowed (commandOf c) d)) where
   abbrev q : List ℕ
   q = request a c d
@@ -50,7 +50,7 @@ module _ (p : Plate) (s : State) (m : List ℕ) (tick spacing : ℕ) (a c : ℕ)
   gs = sending tick spacing q (length q)
 
   abbrev now : ℕ
-  now = (stampOf tick spacing (length q - 1) + p .pause * p .ticks) % 2 ^ 32
+  now = (stampOf tick spacing (length q - 1) + fullPause p) % 2 ^ 32
 
   one-last : length q ≡ suc (length q - 1)
   one-last = omega (arith, request-long a c d)

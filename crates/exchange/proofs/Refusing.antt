@@ -10,6 +10,7 @@ use lib.Seq.{take-append-seam}
 use borrow.Author.Tests.{ne-eqb, le-leb, lt-leb, eqb-false}
 use Rattle.meaning.specs.Bytes.{pick, both, put}
 use Rattle.meaning.specs.State.{Plate}
+use Rattle.meaning.specs.Characters.{fullPause}
 use Rattle.meaning.specs.Commands.{commandOf}
 use Rattle.meaning.specs.Run.{poll}
 use Rattle.meaning.specs.Bench.{addressOk, addressFor, allowed, request, writes}
@@ -135,16 +136,16 @@ module _ (p : Plate) (b : Board) (n c : ℕ) (d : List ℕ) (spacing : ℕ) (q k
     refused-open o = rw (e, o)
 
     module _ (i : (stateOf b kept) .line .begun ≡ false) where
-      pub refused-slow : p .pause * p .ticks ≤ spacing → refusalFor p b n c d spacing q kept m w ≡ 7
+      pub refused-slow : fullPause p ≤ spacing → refusalFor p b n c d spacing q kept m w ≡ 7
       unfolding refusalFor
-      refused-slow h = rw (e, i, le-leb (p .pause * p .ticks) spacing h)
+      refused-slow h = rw (e, i, le-leb (fullPause p) spacing h)
 
-      pub refused-bench : spacing < p .pause * p .ticks → refusalFor p b n c d spacing q kept m w ≡ (writes n c d q) .refusal
+      pub refused-bench : spacing < fullPause p → refusalFor p b n c d spacing q kept m w ≡ (writes n c d q) .refusal
       unfolding refusalFor
-      refused-bench h = rw (e, i, lt-leb (p .pause * p .ticks) spacing h)
+      refused-bench h = rw (e, i, lt-leb (fullPause p) spacing h)
 
       -- R4 and R5: the request's buffer too is as it was
-      pub passes-unwritten : spacing < p .pause * p .ticks → {k : ℕ} {q′ : List ℕ} {x : Refusal} {r : Exchanged} → (k ≡ 0 → ⊥)
+      pub passes-unwritten : spacing < fullPause p → {k : ℕ} {q′ : List ℕ} {x : Refusal} {r : Exchanged} → (k ≡ 0 → ⊥)
           → (record { refusal = k; count = 0; buffer = q′ }) ≡ writes n c d q → unsentNumber x ≡ k → r ≡ (record { board = b; ended = Refused x })
           → Passes p b n c d spacing q kept m w r q′ kept m w
       passes-unwritten near {k} h y z j =

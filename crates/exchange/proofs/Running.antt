@@ -11,10 +11,11 @@ use lib.Seq.{take-suc, take-length, length-take-le}
 use borrow.Author.Tests.{lt-ltb, lt-leb, le-leb}
 use Rattle.meaning.specs.Bytes.{pick, arg}
 use Rattle.meaning.specs.State.{Plate, State, none, withLine}
-use Rattle.meaning.specs.Characters.{gap, over, more, taken}
+use Rattle.meaning.specs.Characters.{gap, fullPause, remaining, over, more, taken}
 use Rattle.meaning.specs.Frames.{Outcome, still, resting, upTo}
 use Rattle.meaning.specs.Run.{character, step, runFrom, closes}
 use Rattle.meaning.specs.Bench.{request}
+use Rattle.meaning.proofs.Gaps.{over-is}
 use Rattle.meaning.specs.Demands.{Sent, Told, spoken, calm, unbroken}
 use Rattle.exchange.specs.Calls.{stampOf, sending}
 use Rattle.exchange.proofs.Stamps.{gap-of-spacing, stamp-low}
@@ -51,14 +52,14 @@ pub record Runs (p : Plate) (s : State) (m : List ℕ) (tick spacing : ℕ) (q :
   pub waits : over p ((runFrom p s m (sending tick spacing q i)) .state) (stampOf tick spacing i) ≡ false
 
 -- a character one spacing after the last
-near : (p : Plate) (s : State) (t v spacing : ℕ) → t < 2 ^ 32 → spacing < p .pause * p .ticks → over p (taken s t v false) ((t + spacing) % 2 ^ 32) ≡ false
-unfolding over taken withLine more
+near : (p : Plate) (s : State) (t v spacing : ℕ) → t < 2 ^ 32 → spacing < fullPause p → over p (taken s t v false) ((t + spacing) % 2 ^ 32) ≡ false
+unfolding taken withLine more
 near p s t v spacing low close =
-    rw (gap-of-spacing t spacing low) (lt-leb (p .pause * p .ticks) (spacing % 2 ^ 32) (omega (arith, mod-le spacing (2 ^ 32))))
+    over-is p (taken s t v false) ((t + spacing) % 2 ^ 32) ∙ rw (gap-of-spacing t spacing low) (lt-leb (fullPause p) (spacing % 2 ^ 32) (omega (arith, mod-le spacing (2 ^ 32))))
 
-module _ (p : Plate) (s : State) (m : List ℕ) (tick spacing : ℕ) (q : List ℕ) (idle : s .line .begun ≡ false) (low : tick < 2 ^ 32) (close : spacing < p .pause * p .ticks) (short : length q ≤ 135) where
+module _ (p : Plate) (s : State) (m : List ℕ) (tick spacing : ℕ) (q : List ℕ) (idle : s .line .begun ≡ false) (low : tick < 2 ^ 32) (close : spacing < fullPause p) (short : length q ≤ 135) where
   runs-none : Runs p s m tick spacing q 0
-  unfolding sending runFrom unbroken spoken still none stampOf over
+  unfolding sending runFrom unbroken spoken still none stampOf over remaining
   runs-none = record { steady = tt; said = refl; kept = rw idle; memory = refl; rests = refl; waits = rw idle }
 
   runs-more : (i : ℕ) → suc i ≤ length q → Runs p s m tick spacing q i → Runs p s m tick spacing q (suc i)
@@ -91,13 +92,13 @@ module _ (p : Plate) (s : State) (m : List ℕ) (tick spacing : ℕ) (q : List �
       ap (λ (x : Outcome). x .state) (character-waits p (o .state) (o .memory) (stampOf tick spacing i) (arg q i) (runs i (omega arith) .waits))
 
   -- so a poll that comes one pause after it closes the frame
-  pub pause-closes : (i : ℕ) → suc i ≤ length q → p .pause * p .ticks < 2 ^ 32
-      → over p ((runFrom p s m (sending tick spacing q (suc i))) .state) ((stampOf tick spacing i + p .pause * p .ticks) % 2 ^ 32) ≡ true
-  unfolding over taken withLine more
+  pub pause-closes : (i : ℕ) → suc i ≤ length q → fullPause p < 2 ^ 32
+      → over p ((runFrom p s m (sending tick spacing q (suc i))) .state) ((stampOf tick spacing i + fullPause p) % 2 ^ 32) ≡ true
+  unfolding taken withLine more
   pause-closes i h few =
-      let g : gap (stampOf tick spacing i) ((stampOf tick spacing i + p .pause * p .ticks) % 2 ^ 32) ≡ p .pause * p .ticks
-      = gap-of-spacing (stampOf tick spacing i) (p .pause * p .ticks) (stamp-low tick spacing i low) ∙ mod-eq-of-lt few in
-      rw (last-taken i h, g) (le-leb (p .pause * p .ticks) (p .pause * p .ticks) (omega arith))
+      let g : gap (stampOf tick spacing i) ((stampOf tick spacing i + fullPause p) % 2 ^ 32) ≡ fullPause p
+      = gap-of-spacing (stampOf tick spacing i) (fullPause p) (stamp-low tick spacing i low) ∙ mod-eq-of-lt few in
+      over-is p _ _ ∙ rw (last-taken i h, g) (le-leb (fullPause p) (fullPause p) (omega arith))
 
   pub begun-then : (i : ℕ) → suc i ≤ length q → (runFrom p s m (sending tick spacing q (suc i))) .state .line .begun ≡ true
   unfolding taken withLine more

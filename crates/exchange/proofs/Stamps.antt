@@ -3,18 +3,16 @@ use Prim.Native.Nat.{ℕ, zero, suc, _+_, _-_, _%_, _^_, _<_}
 use mathlib.Core.Path.{_≡_, refl, ap, _∙_}
 use native.Mathlib.Omega.{arith}
 use native.Mathlib.Numerals.{add-one}
-use native.Mathlib.Nat.{mod-lt, mod-add-mod, add-mod-right}
+use native.Mathlib.Nat.{zero-add, mod-lt}
 use Rattle.meaning.specs.Characters.{gap}
+use Rattle.meaning.specs.Sleeping.{later}
+use Rattle.meaning.proofs.Gaps.{gap-self, gap-later}
 use Rattle.exchange.specs.Calls.{stampOf}
 
 -- the next stamp by wrapping add, the gap by wrapping subtract: the spacing modulo 2^32, from every tick
 pub gap-of-spacing : (tick spacing : ℕ) → tick < 2 ^ 32 → gap tick ((tick + spacing) % 2 ^ 32) ≡ spacing % 2 ^ 32
-unfolding gap
-gap-of-spacing tick spacing low =
-    let w : ℕ = 2 ^ 32 - tick in
-    let e : (tick + spacing) % 2 ^ 32 + 2 ^ 32 - tick ≡ (tick + spacing) % 2 ^ 32 + w = omega arith in
-    let f : tick + spacing + w ≡ spacing + 2 ^ 32 = omega arith in
-    rw (e, mod-add-mod (tick + spacing) (2 ^ 32) w, f) (add-mod-right spacing (2 ^ 32))
+unfolding later
+gap-of-spacing tick spacing low = gap-later tick tick spacing low ∙ rw (gap-self tick, zero-add)
 
 pub stamp-low : (tick spacing i : ℕ) → tick < 2 ^ 32 → stampOf tick spacing i < 2 ^ 32
 unfolding stampOf

@@ -6,6 +6,7 @@ use mathlib.Core.List.{List, [], _∷_}
 use lib.ListN.{length, take}
 use Rattle.meaning.specs.Bytes.{longestRequest, longestReply, arg, put}
 use Rattle.meaning.specs.State.{Plate}
+use Rattle.meaning.specs.Characters.{fullPause}
 use Rattle.meaning.specs.Run.{Call, character, runFrom}
 use Rattle.board.specs.declared.limits.Board.{Board}
 use Rattle.board.specs.Board.{stateOf}
@@ -27,7 +28,7 @@ pub record Clear (p : Plate) (b : Board) (spacing : ℕ) (q kept m w : List ℕ)
   pub within : Within p b kept m
   pub wide : longestReply ≤ length w
   pub idle : (stateOf b kept) .line .begun ≡ false
-  pub close : spacing < p .pause * p .ticks
+  pub close : spacing < fullPause p
   pub short : length q ≤ longestRequest
 
 -- the first n bytes of q are sent: the board is that of the calls so far, their bytes are kept, and nothing came back

@@ -7,6 +7,7 @@ use lib.Dec.{T, eqb, leb}
 use lib.ListN.{length, take}
 use Rattle.meaning.specs.Bytes.{pick, either, part, put}
 use Rattle.meaning.specs.State.{Plate, State, ownByte}
+use Rattle.meaning.specs.Characters.{fullPause}
 use Rattle.meaning.specs.Commands.{commandOf, worked}
 use Rattle.meaning.specs.Frames.{Outcome, still, resting}
 use Rattle.meaning.specs.Run.{poll}
@@ -55,7 +56,7 @@ unfoldable pub refusalFor : Plate → Board → ℕ → ℕ → List ℕ → ℕ
 refusalFor p b n c d spacing q kept m w =
     pick (not (eqb (refusalOn p b kept m (length w) (poll 0)) 0)) (refusalOn p b kept m (length w) (poll 0))
     (pick ((stateOf b kept) .line .begun) 6
-    (pick (leb (p .pause * p .ticks) spacing) 7
+    (pick (leb (fullPause p) spacing) 7
     ((writes n c d q) .refusal)))
 
 -- 01, "Broadcast FFh is taken too": the address byte is this board's or broadcast

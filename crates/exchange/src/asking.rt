@@ -5,7 +5,6 @@ ghost use Prim.Native.Nat.{ℕ};
 ghost use Rattle.line.specs.Line.{plateOf};
 ghost use Rattle.exchange.specs.Calls.{Clear};
 ghost use Rattle.exchange.specs.Passing.{Asks, Converses, Passes};
-use crate::sending::pause_of;
 use crate::sending::send;
 use bench::Verdict;
 use bench::Written;
@@ -65,7 +64,7 @@ fn converse(
     ensures { λ r. ⌜ ((n c : ℕ) (d : List ℕ) → Asks n c d (now (asked .entry)) → Converses (plateOf plate (now (label .entry))) board n c d (now (kept .entry)) (now (memory .entry)) (now (room .entry)) r (now (kept .exit)) (now (memory .exit)) (now (room .exit))) ⌝ }
 {
     let sent = send(plate, label, board, tick, apart, asked, kept, memory, room);
-    let over = line::stamp_after(sent.last, pause_of(plate));
+    let over = line::stamp_after(sent.last, plate.full_pause() as u32);
     let waiting = sent.board;
     let closed = board::poll(plate, label, waiting, over, kept, memory, room);
     let next = closed.board;
@@ -110,7 +109,7 @@ pub fn exchange(
     if board.is_open() {
         return unsent(board, Refusal::FrameOpen);
     }
-    if pause_of(plate) <= apart {
+    if plate.full_pause() <= apart as u64 {
         return unsent(board, Refusal::TooSlow);
     }
     match bench::write_request(address, command, body, request) {

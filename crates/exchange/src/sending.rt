@@ -1,6 +1,4 @@
 // A request on the line, character by character (01, "Characters become frames").
-ghost use mathlib.Core.Path.{_≡_};
-ghost use Prim.Native.Nat.{_*_, _≤_};
 ghost use Rattle.line.specs.Line.{plateOf};
 ghost use Rattle.exchange.specs.Calls.{Clear, SendsRequest};
 use board::Board;
@@ -10,14 +8,6 @@ use line::Plate;
 pub(crate) struct Sent {
     pub board: Board,
     pub last: u32,
-}
-
-// 01, "pause × ticks-per-bit": the gap that closes a frame, in ticks.
-pub(crate) fn pause_of(plate: Plate) -> u32
-    requires { ⌜ (plate .pause ≤ 55) × (plate .ticks ≤ 64) ⌝ }
-    ensures { λ r. ⌜ r ≡ plate .pause * plate .ticks ⌝ }
-{
-    plate.pause * plate.ticks
 }
 
 // The first character ends at `tick`, each further one `apart` ticks after the last.

@@ -4,7 +4,9 @@ use Prim.Native.Nat.{ℕ, _+_, _%_, _^_, _<_, _≤_}
 use lib.ListN.{length}
 use lib.Seq.{length-take-le}
 use Rattle.exchange.proofs.Answering.{reply-fits, converses}
-use Rattle.meaning.proofs.Plates.{few-ticks, short-pause}
+use native.Mathlib.Omega.{arith}
+use denote.Ref.{now}
+use Rattle.meaning.proofs.Plates.{longest-pause}
 use borrow.Author.Needs.{needs}
 use Rattle.exchange.proofs.asking.converse.Statement.{statement}
 use Rattle.exchange.proofs.asking.converse.Tie as tie
@@ -13,8 +15,8 @@ use Rattle.exchange.proofs.asking.converse.Lts as lts
 use Rattle.bench.proofs.judge.Reads as judge-reads
 use Rattle.board.proofs.poll.Reads as poll-reads
 use Rattle.board.proofs.limits.Outcome.reply_length.Reads as reply-length-reads
-use Rattle.exchange.proofs.sending.pause_of.Reads as pause-of-reads
 use Rattle.exchange.proofs.sending.send.Reads as send-reads
+use Rattle.line.proofs.plate.Plate.full_pause.Reads as full-pause-reads
 use Rattle.line.proofs.stamp_after.Reads as stamp-after-reads
 
 tick-low : (c : tie.Start) → c .args .tick < 2 ^ 32
@@ -25,10 +27,13 @@ send-requires c κs =
     let start = c .before .before .before .before .before .before .before .before in
     start .pre
 
-pause-of-requires : tie.Need-pause-of-requires
-pause-of-requires c κs =
-    let start = c .before .before .before .before .before .before .before .before .before .before .before .before .before .before .before in
-    (short-pause _ (start .pre .within .plate), few-ticks _ (start .pre .within .plate))
+full-pause-requires : tie.Need-full-pause-requires
+full-pause-requires c κs = search needs
+
+cast-stamp-after : tie.Need-cast-stamp-after
+cast-stamp-after c =
+    let start = c .before .before .before .before .before .before .before .before .before .before .before .before .before .before .before .before in
+    record { fits = omega (arith, c .full-pause .ensures (now (start .args .label)), longest-pause _ (start .pre .within .plate)) }
 
 stamp-after-requires : tie.Need-stamp-after-requires
 stamp-after-requires c κs = search needs
@@ -71,7 +76,7 @@ returns c n k d h = let r = c .before .before in
     let t = u .before .before .before .before .before in
     let v = t .before .before .before .before .before .before .before .before in
     let a = v .before .before .before .before .before .before .before .before .before in
-    let at = t .stamp-after .ensures ∙ ap (λ (x : ℕ). (v .send .result .last + x) % 2 ^ 32) (t .before .pause-of .ensures) in
+    let at = t .stamp-after .ensures ∙ ap (λ (x : ℕ). (v .send .result .last + x) % 2 ^ 32) (t .before .full-pause .ensures (now (a .args .label))) in
     converses _ _ _ _ _ _ _ _ (a .pre) (v .send .ensures) _ (u .poll .ensures) (tick-low a) at n k d h (r .reply-length .ensures) (c .judge .ensures) refl
 
 pub converse-spec : {M : Type 1} → statement M
@@ -79,7 +84,8 @@ converse-spec =
     tie.close
     (tie.spec
     send-requires
-    pause-of-requires
+    full-pause-requires
+    cast-stamp-after
     stamp-after-requires
     poll-requires
     reply-length-requires

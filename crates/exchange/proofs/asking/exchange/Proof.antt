@@ -1,9 +1,10 @@
 -- `exchange::asking::exchange` meets its contract. Assumes nothing.
 use mathlib.Core.Path.{_≡_, refl, sym, _∙_}
-use Prim.Native.Nat.{_*_, _<_}
+use Prim.Native.Nat.{_<_}
 use lib.ListN.{length}
 use lib.Seq.{length-take-le}
 use borrow.Author.Tests.{eqb-false}
+use Rattle.meaning.specs.Characters.{fullPause}
 use Rattle.meaning.specs.Run.{poll}
 use Rattle.line.specs.Line.{plateOf}
 use Rattle.board.specs.Board.{stateOf, refusalOn, refusedAs}
@@ -13,7 +14,6 @@ use Rattle.board.proofs.Bounding.{lends-poll}
 use Rattle.exchange.proofs.Stepping.{within, wide}
 use Rattle.exchange.proofs.Refusing.{Wrote, wrote, none-applies, passes-unsent, passes-refused, refused-open, refused-slow, refused-bench, passes-unwritten, passes-heard}
 use denote.Ref.{now}
-use Rattle.meaning.proofs.Plates.{few-ticks, short-pause}
 use borrow.Author.Needs.{needs}
 use Rattle.exchange.proofs.asking.exchange.Statement.{statement}
 use Rattle.exchange.proofs.asking.exchange.Tie as tie
@@ -24,7 +24,6 @@ use Rattle.board.proofs.refusal.Reads as refusal-reads
 use Rattle.exchange.proofs.asking.converse.Reads as converse-reads
 use Rattle.board.proofs.limits.Board.is_open.Reads as is-open-reads
 use Rattle.exchange.proofs.asking.unsent.Reads as unsent-reads
-use Rattle.exchange.proofs.sending.pause_of.Reads as pause-of-reads
 
 abbrev start : tie.After-refusal → tie.Start
 start c =
@@ -55,8 +54,8 @@ tried c =
     let at-match-keys4 = c .before .before .before .before in
     at-match-keys4
 
-near : (c : tie.Else2) → let a = start (tried c .before) .args in a .apart < a .plate .pause * a .plate .ticks
-near c = rw (c .before .pause-of .ensures) at (c .if2 .left)
+near : (c : tie.Else2) → let a = start (tried c .before) .args in a .apart < fullPause (plateOf (a .plate) (now (a .label)))
+near c = rw (c .before .full-pause .ensures (now (start (tried c .before) .args .label))) at (c .if2 .left)
 
 -- the request is written
 written : (c : tie.After-known-told)
@@ -113,10 +112,8 @@ returns-4 c =
     let o = t .before in
     passes-refused _ _ _ _ _ _ _ _ _ _ (refused-open _ _ _ _ _ _ _ _ _ _ (unrefused (o .before)) (sym (o .is-open .ensures (start (o .before .before) .args .kept .now)) ∙ t .if1 .taken)) (eqb-false 6 0 refl) refl (c .unsent4 .ensures)
 
-pause-of-requires : tie.Need-pause-of-requires
-pause-of-requires c κs =
-    let good = within _ _ _ _ _ (poll 0) (lends-poll 0) (unrefused (c .before .before)) in
-    (short-pause _ (good .plate), few-ticks _ (good .plate))
+full-pause-requires : tie.Need-full-pause-requires
+full-pause-requires c κs = search needs
 
 unsent-requires-5 : tie.Need-unsent-requires-5
 unsent-requires-5 c κs = search needs
@@ -125,7 +122,7 @@ returns-5 : tie.Need-returns-5
 returns-5 c =
     let t = c .before in
     let o = t .before .before in
-    let slow = rw (t .before .pause-of .ensures) at (t .if2 .taken) in
+    let slow = rw (t .before .full-pause .ensures (now (start (o .before .before .before) .args .label))) at (t .if2 .taken) in
     passes-refused _ _ _ _ _ _ _ _ _ _ (refused-slow _ _ _ _ _ _ _ _ _ _ (unrefused (o .before .before)) (idle o) slow) (eqb-false 7 0 refl) refl (c .unsent5 .ensures)
 
 write-request-requires : tie.Need-write-request-requires
@@ -231,7 +228,7 @@ exchange-spec =
     is-open-requires
     unsent-requires-4
     returns-4
-    pause-of-requires
+    full-pause-requires
     unsent-requires-5
     returns-5
     write-request-requires
