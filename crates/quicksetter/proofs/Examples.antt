@@ -9,7 +9,7 @@ use lib.ListN.{length, length-replicate}
 use Rattle.meaning.specs.Bytes.{blank, part, put, zeros, little, xorAll, xorFrom, among}
 use Rattle.meaning.specs.State.{Plate, none, fresh, plateOk, stateOk, apart, withLine, ownByte}
 use Rattle.meaning.specs.Fields.{memoryLength, exists, blocks, table, fieldCount, used, sound, freeBlocks, statusAt, survey}
-use Rattle.meaning.specs.Characters.{over, gap, taken, more, closed, whole}
+use Rattle.meaning.specs.Characters.{over, gap, taken, more, closed, whole, remaining, fullPause}
 use Rattle.meaning.specs.Commands.{commandOf, row, lengthFits, asked, error, freeByte, memoryStatus, worked}
 use Rattle.meaning.specs.Frames as frames
 use Rattle.meaning.specs.Frames.{commandByte, dataOf, ours, judged, ending, sealed, warned, message, still, leaves, work, resting, close, upTo}

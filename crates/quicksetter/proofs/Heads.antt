@@ -97,7 +97,7 @@ module _ (img m w : List ℕ) (g : Call) where
   unfolding calledBy callNumber imageAfter isImage
   not-ours e = record { answer = rw e; state = rw e; image = rw e; memory = rw e; room = rw e }
 
-  same-call : isOurs img ≡ true → calledBy img m w g ≡ coreCalled (plateHeld img) (coreIn img) m w g
+  pub same-call : isOurs img ≡ true → calledBy img m w g ≡ coreCalled (plateHeld img) (coreIn img) m w g
   unfolding calledBy coreCalled isImage
   same-call e = rw e
 

@@ -7,11 +7,11 @@ use mathlib.Core.List.{List}
 use lib.ListN.{length}
 use Rattle.meaning.specs.State as meaning
 use Rattle.meaning.specs.State.{Plate}
+use Rattle.meaning.specs.Characters as characters
 use Rattle.meaning.specs.Characters.{remaining}
 use Rattle.meaning.specs.Run.{Call, Carried}
 use Rattle.line.specs.declared.characters.OpenFrame.{OpenFrame}
-use Rattle.line.specs.declared.characters.Remaining.{Remaining}
-use Rattle.line.specs.Line.{lineOf, remainingOf}
+use Rattle.line.specs.Line.{lineOf}
 use Rattle.state.specs.declared.state.State.{State}
 use Rattle.state.specs.State.{stateWith}
 use Rattle.image.specs.Image.{isCore, frameIn, keptIn, heldIn, lineBytes, coreOf}
@@ -45,6 +45,6 @@ module _ (p : Plate) (core m w : List ℕ) (g : Call) where
       }
 
 -- what remains of the frame, of the state that the core holds
-pub remaining-in : (p : Plate) (core : List ℕ) (tick : ℕ) {f : OpenFrame} {r : Remaining} → f ≡ frameIn core
-    → ((s : meaning.State) (kept : List ℕ) → s .line ≡ lineOf f kept → remainingOf r ≡ remaining p s tick) → remainingOf r ≡ remaining p (heldIn core) tick
+pub remaining-in : (p : Plate) (core : List ℕ) (tick : ℕ) {f : OpenFrame} {r : characters.Remaining} → f ≡ frameIn core
+    → ((s : meaning.State) (kept : List ℕ) → s .line ≡ lineOf f kept → r ≡ remaining p s tick) → r ≡ remaining p (heldIn core) tick
 remaining-in p core tick e o = o (heldIn core) (keptIn core) (ap (λ (x : OpenFrame). lineOf x (keptIn core)) (sym e))

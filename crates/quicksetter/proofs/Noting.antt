@@ -12,7 +12,7 @@ use Rattle.meaning.specs.State as meaning
 use Rattle.meaning.specs.State.{Plate, none, withMeasured, noted, poweredOn, withQueue, withLock}
 use Rattle.meaning.specs.Fields.{memoryLength}
 use Rattle.meaning.specs.Frames.{still}
-use Rattle.meaning.specs.Run.{Call, measured, fault, power-on, lends, step, called, refusedBy}
+use Rattle.meaning.specs.Run.{Call, measured, fault, power-on, lends, step, carried, called, refusedBy}
 use Rattle.line.specs.declared.characters.OpenFrame.{OpenFrame}
 use Rattle.line.specs.Line.{lineOf, noFrame}
 use Rattle.state.specs.declared.faults.Faults.{Faults}
@@ -52,7 +52,7 @@ module _ (p : Plate) (core : List ℕ) (u : Unrefused p core (memoryLength (p .t
     unfolding coreCalled called still
     told-in s f x i b few e =
         let z : eqb (refusedBy p (heldIn core) m (length w) g) 0 ≡ true = eq-eqb _ 0 unrefused-alone in
-        board-left p core m w g s f x (well .all) (rw (u .bytes, z, i, ← put-nothing w 0)) b few e
+        board-left p core m w g s f x {z = carried p x g} (well .all) (rw (u .bytes, z, i, ← put-nothing w 0)) b few e
 
   few : frameIn core .len ≤ 135
   unfolding frameIn

@@ -8,12 +8,12 @@ use lib.ListN.{length, take, drop, length-append, take-append-drop}
 use lib.Seq.{take-at}
 use Rattle.meaning.specs.Bytes.{pick, arg}
 use Rattle.meaning.specs.State.{none}
+use Rattle.meaning.specs.Characters as characters
 use Rattle.meaning.specs.Characters.{remaining, over, more}
 use Rattle.meaning.specs.Fields.{memoryLength}
 use Rattle.meaning.specs.Run.{Call, character, poll, lends}
 use Rattle.line.specs.declared.plate.Plate as line
-use Rattle.line.specs.declared.characters.Remaining.{Remaining}
-use Rattle.line.specs.Line.{plateOf, lineOf, remainingOf}
+use Rattle.line.specs.Line.{plateOf, lineOf}
 use Rattle.image.specs.Image.{isOurs, isCore, headIn, coreIn, plateOfHead, labelIn, frameIn, keptIn, heldIn}
 use Rattle.image.specs.Writes.{Takes}
 use Rattle.image.proofs.Round.{good}
@@ -51,8 +51,7 @@ module _ (img m w : List ℕ) (e : isOurs img ≡ true) {p : line.Plate} (q : p 
       let k : 0 ≡ refusalIn (plateHeld img) (coreIn img) (length m) (length w) = rw (q, lent-core img all) at r in
       record { ours = e; core = unrefused (plateHeld img) (coreIn img) (length m) (length w) k }
 
-  pub remaining-so : (tick : ℕ) {r : Remaining} → remainingOf r ≡ remaining (plateOf p (labelIn img)) (heldIn (take 165 (drop 47 img))) tick
-      → remainingOf r ≡ remaining (plateHeld img) (stateHeld img) tick
+  pub remaining-so : (tick : ℕ) {r : characters.Remaining} → r ≡ remaining (plateOf p (labelIn img)) (heldIn (take 165 (drop 47 img))) tick → r ≡ remaining (plateHeld img) (stateHeld img) tick
   remaining-so tick r = rw (q, lent-core img all) at r
 
 -- of an image that is not refused

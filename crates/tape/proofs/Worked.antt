@@ -7,7 +7,7 @@ use Rattle.meaning.specs.Bytes.{same, part, put, blank, xorFrom, xorAll, among,
 use Rattle.meaning.specs.State.{plateOk, fresh, none, withLine, ownByte}
 use Rattle.meaning.specs.Fields.{blocks, exists, table, fieldCount, used, sound, freeBlocks, statusAt, survey}
 use Rattle.meaning.specs.Commands.{commandOf, row, lengthFits, asked, error, freeByte, memoryStatus, worked}
-use Rattle.meaning.specs.Characters.{gap, over, more, taken, closed}
+use Rattle.meaning.specs.Characters.{gap, over, more, taken, closed, remaining, fullPause}
 use Rattle.meaning.specs.Frames.{resting, close, upTo, commandByte, dataOf, ours, judged, ending, sealed, warned, message, still, outcome, leaves, work}
 use Rattle.meaning.specs.Run.{step}
 use Rattle.tape.specs.Records.{lengthAt, recordAt}

@@ -2,15 +2,17 @@
 use mathlib.Core.Path.{sym, _∙_}
 use native.Mathlib.Omega.{arith}
 use denote.Ref.{now}
+use Rattle.meaning.proofs.Gaps.{over-told}
 use Rattle.quicksetter.proofs.Heads.{ours-length}
-use Rattle.quicksetter.proofs.Wholes.{over-so, polled-over, polled-early}
+use Rattle.quicksetter.proofs.Wholes.{remaining-so, polled-over, polled-early}
 use borrow.Author.Needs.{needs}
 use Rattle.quicksetter.proofs.events.polled.Statement.{statement}
 use Rattle.quicksetter.proofs.events.polled.Tie as tie
 use Rattle.quicksetter.proofs.events.polled.Reads as reads
 use Rattle.quicksetter.proofs.events.polled.Lts as lts
 use Rattle.image.proofs.plate_in.Reads as plate-in-reads
-use Rattle.quicksetter.proofs.events.is_over.Reads as is-over-reads
+use Rattle.line.proofs.characters.Remaining.is_over.Reads as is-over-reads
+use Rattle.quicksetter.proofs.events.remaining.Reads as remaining-reads
 use Rattle.quicksetter.proofs.events.shut.Reads as shut-reads
 
 plate-in-requires : tie.Need-plate-in-requires
@@ -18,25 +20,25 @@ plate-in-requires c κs =
     let start = c .before .before .before .before in
     omega (arith, ours-length _ (start .pre .ours))
 
-sub-is-over : tie.Need-sub-is-over
-sub-is-over c = search needs
+sub-remaining : tie.Need-sub-remaining
+sub-remaining c = search needs
 
-part-is-over-start : tie.Need-part-is-over-start
-part-is-over-start c = search needs
+part-remaining-start : tie.Need-part-remaining-start
+part-remaining-start c = search needs
 
-part-is-over-end : tie.Need-part-is-over-end
-part-is-over-end c =
+part-remaining-end : tie.Need-part-remaining-end
+part-remaining-end c =
     let start = c .before .before .before .before .before .before in
     omega (arith, ours-length _ (start .pre .ours))
+
+remaining-requires : tie.Need-remaining-requires
+remaining-requires c κs = search needs
 
 is-over-requires : tie.Need-is-over-requires
 is-over-requires c κs = search needs
 
 shut-requires : tie.Need-shut-requires
 shut-requires c κs = search needs
-
-cast-result : tie.Need-cast-result
-cast-result c = search needs
 
 same-length : tie.Need-same-length
 same-length c = search needs
@@ -52,9 +54,11 @@ returns c =
     let after-shut = c .before .before .before .before .before .before in
     let after-if1 = after-shut .before .before .before .before in
     let after-is-over = after-if1 .before in
-    let after-plate-in = after-is-over .before .before .before in
+    let after-remaining = after-is-over .before in
+    let after-plate-in = after-remaining .before .before .before in
     let start = after-plate-in .before .before .before .before .before in
-    let o = sym (over-so _ (now (start .args .memory)) (now (start .args .room)) (start .pre .ours) (after-plate-in .plate-in .ensures) _ (after-is-over .is-over .ensures _)) ∙ after-if1 .if1 .taken in
+    let left = remaining-so _ (now (start .args .memory)) (now (start .args .room)) (start .pre .ours) (after-plate-in .plate-in .ensures) _ (after-remaining .remaining .ensures _) in
+    let o = over-told _ _ _ left ∙ sym (after-is-over .is-over .ensures) ∙ after-if1 .if1 .taken in
     polled-over _ (now (start .args .memory)) (now (start .args .room)) (start .pre) _ o (after-shut .shut .ensures)
 
 same-length-4 : tie.Need-same-length-4
@@ -62,10 +66,13 @@ same-length-4 c = search needs
 
 returns-2 : tie.Need-returns-2
 returns-2 c =
-    let after-plate-in = c .before .before .before .before in
+    let after-is-over = c .before in
+    let after-remaining = after-is-over .before in
+    let after-plate-in = after-remaining .before .before .before in
     let after-slice-known = after-plate-in .before .before .before .before in
     let start = after-slice-known .before in
-    let o = sym (over-so _ (now (start .args .memory)) (now (start .args .room)) (start .pre .ours) (after-plate-in .plate-in .ensures) _ (c .before .is-over .ensures _)) ∙ c .if1 .left in
+    let left = remaining-so _ (now (start .args .memory)) (now (start .args .room)) (start .pre .ours) (after-plate-in .plate-in .ensures) _ (after-remaining .remaining .ensures _) in
+    let o = over-told _ _ _ left ∙ sym (after-is-over .is-over .ensures) ∙ c .if1 .left in
     polled-early _ (now (start .args .memory)) (now (start .args .room)) (start .pre) _ (λ i. (after-slice-known .slice-known .given i) .fits) o
 
 pub polled-spec : {M : Type 1} → statement M
@@ -73,12 +80,12 @@ polled-spec =
     tie.close
     (tie.spec
     plate-in-requires
-    sub-is-over
-    part-is-over-start
-    part-is-over-end
+    sub-remaining
+    part-remaining-start
+    part-remaining-end
+    remaining-requires
     is-over-requires
     shut-requires
-    cast-result
     same-length
     same-length-2
     same-length-3

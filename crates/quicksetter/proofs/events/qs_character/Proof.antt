@@ -1,15 +1,20 @@
 -- `quicksetter::events::qs_character` meets its contract. Assumes nothing.
-use mathlib.Core.Path.{_≡_, sym, _∙_}
+use mathlib.Core.Path.{_≡_, sym, ap, _∙_}
 use mathlib.Core.Bool.{true}
 use native.Mathlib.Omega.{arith}
 use denote.Ref.{now}
 use lib.ListN.{length}
-use Rattle.image.specs.Image.{isOurs}
+use Rattle.meaning.specs.Characters.{fullPause}
+use Rattle.line.specs.declared.plate.Plate.{Plate}
+use Rattle.line.specs.Line.{plateOf}
+use Rattle.image.specs.Image.{isOurs, labelIn}
+use Rattle.quicksetter.specs.Calls.{plateHeld}
 use Rattle.quicksetter.specs.Cores.{ImageUnrefused}
 use borrow.Author.Tests.{not-true, not-false}
 use Rattle.quicksetter.proofs.Heads.{ours-length, ours-label, not-ours}
 use Rattle.quicksetter.proofs.Refusing.{lends-character, impossible, unsound, other-size, too-narrow, none-applies}
 use Rattle.quicksetter.proofs.Wholes.{some-refusal, refused-whole, workable, as-long, lent-still, character-whole}
+use Rattle.quicksetter.proofs.Numbers.{with-sleep, refused-with-sleep, low-pause, full-sleep}
 use borrow.Author.Needs.{needs}
 use Rattle.quicksetter.proofs.events.qs_character.Statement.{statement}
 use Rattle.quicksetter.proofs.events.qs_character.Tie as tie
@@ -18,7 +23,9 @@ use Rattle.quicksetter.proofs.events.qs_character.Lts as lts
 use Rattle.image.proofs.is_ours.Reads as is-ours-reads
 use Rattle.image.proofs.plate_in.Reads as plate-in-reads
 use Rattle.image.proofs.take_character.Reads as take-character-reads
+use Rattle.line.proofs.plate.Plate.full_pause.Reads as full-pause-reads
 use Rattle.line.proofs.plate.Plate.memory_length.Reads as memory-length-reads
+use Rattle.quicksetter.proofs.given.answer_number.Reads as answer-number-reads
 use Rattle.quicksetter.proofs.events.is_fault.Reads as is-fault-reads
 use Rattle.quicksetter.proofs.events.is_possible.Reads as is-possible-reads
 use Rattle.quicksetter.proofs.events.is_sound.Reads as is-sound-reads
@@ -63,7 +70,7 @@ same-length : tie.Need-same-length
 same-length c = search needs
 
 returns : tie.Need-returns
-returns c = not-ours _ _ _ _ (sym (c .before .is-ours .ensures) ∙ not-true _ (c .if1 .taken))
+returns c = refused-with-sleep _ _ _ _ 1 (not-ours _ _ _ _ (sym (c .before .is-ours .ensures) ∙ not-true _ (c .if1 .taken)))
 
 plate-in-requires : tie.Need-plate-in-requires
 plate-in-requires c κs = omega (arith, ours-length _ (ours (c .before)))
@@ -93,8 +100,8 @@ returns-2 c =
     let after-plate-in = c .before .before .before .before in
     let after-if1 = after-plate-in .before .before in
     let start = after-if1 .before .before .before .before .before .before in
-    refused-whole _ (now (start .args .memory)) (now (start .args .room)) (ours (after-if1)) (after-plate-in .plate-in .ensures) _ (lends-character _ _ _)
-    (impossible _ _ _ _ (sym (c .before .is-possible .ensures _ (ours-label _ (ours (after-if1)))) ∙ not-true _ (c .if2 .taken))) some-refusal
+    refused-with-sleep _ _ _ _ 1 (refused-whole _ (now (start .args .memory)) (now (start .args .room)) (ours (after-if1)) (after-plate-in .plate-in .ensures) _ (lends-character _ _ _)
+    (impossible _ _ _ _ (sym (c .before .is-possible .ensures _ (ours-label _ (ours (after-if1)))) ∙ not-true _ (c .if2 .taken))) some-refusal)
 
 sub-is-sound : tie.Need-sub-is-sound
 sub-is-sound c = search needs
@@ -123,8 +130,8 @@ returns-3 c =
     let after-plate-in = after-is-possible .before .before .before in
     let after-if1 = after-plate-in .before .before in
     let start = after-if1 .before .before .before .before .before .before in
-    refused-whole _ (now (start .args .memory)) (now (start .args .room)) (ours (after-if1)) (after-plate-in .plate-in .ensures) _ (lends-character _ _ _)
-    (unsound _ _ _ _ (sym (after-is-possible .is-possible .ensures _ (ours-label _ (ours (after-if1)))) ∙ not-false _ (after-if2 .if2 .left)) (sym (c .before .is-sound .ensures) ∙ not-true _ (c .if3 .taken))) some-refusal
+    refused-with-sleep _ _ _ _ 1 (refused-whole _ (now (start .args .memory)) (now (start .args .room)) (ours (after-if1)) (after-plate-in .plate-in .ensures) _ (lends-character _ _ _)
+    (unsound _ _ _ _ (sym (after-is-possible .is-possible .ensures _ (ours-label _ (ours (after-if1)))) ∙ not-false _ (after-if2 .if2 .left)) (sym (c .before .is-sound .ensures) ∙ not-true _ (c .if3 .taken))) some-refusal)
 
 memory-length-requires : tie.Need-memory-length-requires
 memory-length-requires c κs = search needs
@@ -144,9 +151,9 @@ returns-4 c =
     let after-plate-in = after-is-possible .before .before .before in
     let after-if1 = after-plate-in .before .before in
     let start = after-if1 .before .before .before .before .before .before in
-    refused-whole _ (now (start .args .memory)) (now (start .args .room)) (ours (after-if1)) (after-plate-in .plate-in .ensures) _ (lends-character _ _ _)
+    refused-with-sleep _ _ _ _ 2 (refused-whole _ (now (start .args .memory)) (now (start .args .room)) (ours (after-if1)) (after-plate-in .plate-in .ensures) _ (lends-character _ _ _)
     (other-size _ _ _ _ (sym (after-is-possible .is-possible .ensures _ (ours-label _ (ours (after-if1)))) ∙ not-false _ (after-if2 .if2 .left)) (sym (after-is-sound .is-sound .ensures) ∙ not-false _ (after-if3 .if3 .left))
-    (λ e. c .if4 .taken (e ∙ sym (c .before .memory-length .ensures)))) some-refusal
+    (λ e. c .if4 .taken (e ∙ sym (c .before .memory-length .ensures)))) some-refusal)
 
 add-result-5 : tie.Need-add-result-5
 add-result-5 c = search needs
@@ -164,9 +171,9 @@ returns-5 c =
     let after-plate-in = after-is-possible .before .before .before in
     let after-if1 = after-plate-in .before .before in
     let start = after-if1 .before .before .before .before .before .before in
-    refused-whole _ (now (start .args .memory)) (now (start .args .room)) (ours (after-if1)) (after-plate-in .plate-in .ensures) _ (lends-character _ _ _)
+    refused-with-sleep _ _ _ _ 3 (refused-whole _ (now (start .args .memory)) (now (start .args .room)) (ours (after-if1)) (after-plate-in .plate-in .ensures) _ (lends-character _ _ _)
     (too-narrow _ _ _ _ (sym (after-is-possible .is-possible .ensures _ (ours-label _ (ours (after-if1)))) ∙ not-false _ (after-if2 .if2 .left)) (sym (after-is-sound .is-sound .ensures) ∙ not-false _ (after-if3 .if3 .left))
-    (c .before .if4 .left ∙ after-memory-length .memory-length .ensures) (c .if5 .taken)) some-refusal
+    (c .before .if4 .left ∙ after-memory-length .memory-length .ensures) (c .if5 .taken)) some-refusal)
 
 polled-requires : tie.Need-polled-requires
 polled-requires c κs =
@@ -194,6 +201,24 @@ take-character-requires c κs =
     let after-if5 = after-polled .before .before .before .before in
     lent-still _ _ _ (fine (after-if5)) _ (after-polled .polled .ensures)
 
+full-pause-requires : tie.Need-full-pause-requires
+full-pause-requires c κs = search needs
+
+abbrev else5 : tie.After-full-pause → tie.Else5
+else5 c =
+    let after-polled = c .before .before .before .before .before .before .before .before .before .before .before .before in
+    after-polled .before .before .before .before
+
+-- the full pause of the image's plate
+full : (c : tie.After-full-pause) → c .full-pause .result ≡ fullPause (plateHeld (now (start5 (else5 c) .args .image)))
+full c =
+    let after-plate-in = else5 c .before .before .before .before .before .before .before .before .before .before .before in
+    let img = now (start5 (else5 c) .args .image) in
+    c .full-pause .ensures (labelIn img) ∙ ap (λ (q : Plate). fullPause (plateOf q (labelIn img))) (after-plate-in .plate-in .ensures)
+
+answer-number-requires : tie.Need-answer-number-requires
+answer-number-requires c κs = rw (full c) (low-pause _ (fine (else5 c) .core .plate))
+
 same-length-6 : tie.Need-same-length-6
 same-length-6 c = search needs
 
@@ -205,12 +230,14 @@ same-length-8 c = search needs
 
 returns-6 : tie.Need-returns-6
 returns-6 c =
-    let after-take-character = c .before .before in
+    let after-full-pause = c .before in
+    let after-take-character = after-full-pause .before .before .before in
     let after-is-fault = after-take-character .before .before in
     let after-slice-known4 = after-is-fault .before .before .before .before .before in
     let after-polled = after-slice-known4 .before .before in
-    let after-if5 = after-polled .before .before .before .before in
-    character-whole _ _ _ (fine (after-if5)) _ (after-polled .polled .ensures) _ (after-is-fault .is-fault .ensures) (λ i. (after-slice-known4 .slice-known4 .given i) .fits) (after-take-character .take-character .ensures)
+    let u = fine (after-polled .before .before .before .before) in
+    let r = character-whole _ _ _ u _ (after-polled .polled .ensures) _ (after-is-fault .is-fault .ensures) (λ i. (after-slice-known4 .slice-known4 .given i) .fits) (after-take-character .take-character .ensures) in
+    rw (c .answer-number .ensures, full after-full-pause) (with-sleep _ _ _ _ r (full-sleep _ _ _ u _ _ _))
 
 pub qs-character-spec : {M : Type 1} → statement M
 qs-character-spec =
@@ -248,6 +275,8 @@ qs-character-spec =
     part-take-character-start
     part-take-character-end
     take-character-requires
+    full-pause-requires
+    answer-number-requires
     same-length-6
     same-length-7
     same-length-8

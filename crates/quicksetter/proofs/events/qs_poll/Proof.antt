@@ -4,12 +4,17 @@ use mathlib.Core.Bool.{true}
 use native.Mathlib.Omega.{arith}
 use denote.Ref.{now}
 use lib.ListN.{length}
+use Rattle.meaning.specs.Characters.{remaining}
+use Rattle.meaning.proofs.Gaps.{over-told}
+use Rattle.line.specs.Line.{remainingOf}
 use Rattle.image.specs.Image.{isOurs}
+use Rattle.quicksetter.specs.Calls.{plateHeld, stateHeld}
 use Rattle.quicksetter.specs.Cores.{ImageUnrefused}
 use borrow.Author.Tests.{not-true, not-false}
 use Rattle.quicksetter.proofs.Heads.{ours-length, ours-label, not-ours}
 use Rattle.quicksetter.proofs.Refusing.{lends-poll, impossible, unsound, other-size, too-narrow, none-applies}
-use Rattle.quicksetter.proofs.Wholes.{some-refusal, refused-whole, workable, over-so, polled-over, polled-early, poll-whole}
+use Rattle.quicksetter.proofs.Wholes.{some-refusal, refused-whole, workable, remaining-so, polled-over, polled-early, poll-whole}
+use Rattle.quicksetter.proofs.Numbers.{with-sleep, refused-with-sleep, low-sleep, shut-sleep, left-sleep}
 use borrow.Author.Needs.{needs}
 use Rattle.quicksetter.proofs.events.qs_poll.Statement.{statement}
 use Rattle.quicksetter.proofs.events.qs_poll.Tie as tie
@@ -18,7 +23,10 @@ use Rattle.quicksetter.proofs.events.qs_poll.Lts as lts
 use Rattle.image.proofs.is_ours.Reads as is-ours-reads
 use Rattle.image.proofs.plate_in.Reads as plate-in-reads
 use Rattle.line.proofs.plate.Plate.memory_length.Reads as memory-length-reads
-use Rattle.quicksetter.proofs.events.is_over.Reads as is-over-reads
+use Rattle.line.proofs.characters.Remaining.is_over.Reads as is-over-reads
+use Rattle.quicksetter.proofs.events.remaining.Reads as remaining-reads
+use Rattle.quicksetter.proofs.given.answer_number.Reads as answer-number-reads
+use Rattle.quicksetter.proofs.given.sleep_number.Reads as sleep-number-reads
 use Rattle.quicksetter.proofs.events.is_possible.Reads as is-possible-reads
 use Rattle.quicksetter.proofs.events.is_sound.Reads as is-sound-reads
 use Rattle.quicksetter.proofs.events.shut.Reads as shut-reads
@@ -62,7 +70,7 @@ same-length : tie.Need-same-length
 same-length c = search needs
 
 returns : tie.Need-returns
-returns c = not-ours _ _ _ _ (sym (c .before .is-ours .ensures) ∙ not-true _ (c .if1 .taken))
+returns c = refused-with-sleep _ _ _ _ 1 (not-ours _ _ _ _ (sym (c .before .is-ours .ensures) ∙ not-true _ (c .if1 .taken)))
 
 plate-in-requires : tie.Need-plate-in-requires
 plate-in-requires c κs = omega (arith, ours-length _ (ours (c .before)))
@@ -92,8 +100,8 @@ returns-2 c =
     let after-plate-in = c .before .before .before .before in
     let after-if1 = after-plate-in .before .before in
     let start = after-if1 .before .before .before .before .before .before in
-    refused-whole _ (now (start .args .memory)) (now (start .args .room)) (ours (after-if1)) (after-plate-in .plate-in .ensures) _ (lends-poll _)
-    (impossible _ _ _ _ (sym (c .before .is-possible .ensures _ (ours-label _ (ours (after-if1)))) ∙ not-true _ (c .if2 .taken))) some-refusal
+    refused-with-sleep _ _ _ _ 1 (refused-whole _ (now (start .args .memory)) (now (start .args .room)) (ours (after-if1)) (after-plate-in .plate-in .ensures) _ (lends-poll _)
+    (impossible _ _ _ _ (sym (c .before .is-possible .ensures _ (ours-label _ (ours (after-if1)))) ∙ not-true _ (c .if2 .taken))) some-refusal)
 
 sub-is-sound : tie.Need-sub-is-sound
 sub-is-sound c = search needs
@@ -122,8 +130,8 @@ returns-3 c =
     let after-plate-in = after-is-possible .before .before .before in
     let after-if1 = after-plate-in .before .before in
     let start = after-if1 .before .before .before .before .before .before in
-    refused-whole _ (now (start .args .memory)) (now (start .args .room)) (ours (after-if1)) (after-plate-in .plate-in .ensures) _ (lends-poll _)
-    (unsound _ _ _ _ (sym (after-is-possible .is-possible .ensures _ (ours-label _ (ours (after-if1)))) ∙ not-false _ (after-if2 .if2 .left)) (sym (c .before .is-sound .ensures) ∙ not-true _ (c .if3 .taken))) some-refusal
+    refused-with-sleep _ _ _ _ 1 (refused-whole _ (now (start .args .memory)) (now (start .args .room)) (ours (after-if1)) (after-plate-in .plate-in .ensures) _ (lends-poll _)
+    (unsound _ _ _ _ (sym (after-is-possible .is-possible .ensures _ (ours-label _ (ours (after-if1)))) ∙ not-false _ (after-if2 .if2 .left)) (sym (c .before .is-sound .ensures) ∙ not-true _ (c .if3 .taken))) some-refusal)
 
 memory-length-requires : tie.Need-memory-length-requires
 memory-length-requires c κs = search needs
@@ -143,9 +151,9 @@ returns-4 c =
     let after-plate-in = after-is-possible .before .before .before in
     let after-if1 = after-plate-in .before .before in
     let start = after-if1 .before .before .before .before .before .before in
-    refused-whole _ (now (start .args .memory)) (now (start .args .room)) (ours (after-if1)) (after-plate-in .plate-in .ensures) _ (lends-poll _)
+    refused-with-sleep _ _ _ _ 2 (refused-whole _ (now (start .args .memory)) (now (start .args .room)) (ours (after-if1)) (after-plate-in .plate-in .ensures) _ (lends-poll _)
     (other-size _ _ _ _ (sym (after-is-possible .is-possible .ensures _ (ours-label _ (ours (after-if1)))) ∙ not-false _ (after-if2 .if2 .left)) (sym (after-is-sound .is-sound .ensures) ∙ not-false _ (after-if3 .if3 .left))
-    (λ e. c .if4 .taken (e ∙ sym (c .before .memory-length .ensures)))) some-refusal
+    (λ e. c .if4 .taken (e ∙ sym (c .before .memory-length .ensures)))) some-refusal)
 
 add-result-5 : tie.Need-add-result-5
 add-result-5 c = search needs
@@ -163,31 +171,44 @@ returns-5 c =
     let after-plate-in = after-is-possible .before .before .before in
     let after-if1 = after-plate-in .before .before in
     let start = after-if1 .before .before .before .before .before .before in
-    refused-whole _ (now (start .args .memory)) (now (start .args .room)) (ours (after-if1)) (after-plate-in .plate-in .ensures) _ (lends-poll _)
+    refused-with-sleep _ _ _ _ 3 (refused-whole _ (now (start .args .memory)) (now (start .args .room)) (ours (after-if1)) (after-plate-in .plate-in .ensures) _ (lends-poll _)
     (too-narrow _ _ _ _ (sym (after-is-possible .is-possible .ensures _ (ours-label _ (ours (after-if1)))) ∙ not-false _ (after-if2 .if2 .left)) (sym (after-is-sound .is-sound .ensures) ∙ not-false _ (after-if3 .if3 .left))
-    (c .before .if4 .left ∙ after-memory-length .memory-length .ensures) (c .if5 .taken)) some-refusal
+    (c .before .if4 .left ∙ after-memory-length .memory-length .ensures) (c .if5 .taken)) some-refusal)
 
-sub-is-over : tie.Need-sub-is-over
-sub-is-over c = search needs
+sub-remaining : tie.Need-sub-remaining
+sub-remaining c = search needs
 
-part-is-over-start : tie.Need-part-is-over-start
-part-is-over-start c = search needs
+part-remaining-start : tie.Need-part-remaining-start
+part-remaining-start c = search needs
 
-part-is-over-end : tie.Need-part-is-over-end
-part-is-over-end c =
+part-remaining-end : tie.Need-part-remaining-end
+part-remaining-end c =
     let after-if1 = c .before .before .before .before .before .before .before .before .before .before .before .before .before .before in
     omega (arith, ours-length _ (ours (after-if1)))
+
+remaining-requires : tie.Need-remaining-requires
+remaining-requires c κs = search needs
+
+-- what remains of the frame that the image holds
+left : (c : tie.After-remaining) → let a = start5 (c .before .before .before) .args in
+    remainingOf (c .remaining .result) ≡ remaining (plateHeld (now (a .image))) (stateHeld (now (a .image))) (a .tick)
+left c =
+    let after-if5 = c .before .before .before in
+    let after-plate-in = after-if5 .before .before .before .before .before .before .before .before .before .before .before in
+    let after-if1 = after-plate-in .before .before in
+    let start = start1 after-if1 in
+    remaining-so _ (now (start .args .memory)) (now (start .args .room)) (ours (after-if1)) (after-plate-in .plate-in .ensures) _ (c .remaining .ensures _)
 
 is-over-requires : tie.Need-is-over-requires
 is-over-requires c κs = search needs
 
 shut-requires : tie.Need-shut-requires
 shut-requires c κs =
-    let after-if5 = c .before .before .before .before .before .before .before in
+    let after-if5 = c .before .before .before .before .before .before .before .before in
     fine (after-if5)
 
-cast-result : tie.Need-cast-result
-cast-result c = search needs
+answer-number-requires : tie.Need-answer-number-requires
+answer-number-requires c κs = search needs
 
 same-length-6 : tie.Need-same-length-6
 same-length-6 c = search needs
@@ -200,28 +221,37 @@ same-length-8 c = search needs
 
 returns-6 : tie.Need-returns-6
 returns-6 c =
-    let after-shut = c .before .before .before .before .before .before in
+    let after-shut = c .before .before .before .before .before .before .before in
     let after-if6 = after-shut .before .before .before .before in
     let after-is-over = after-if6 .before in
-    let after-if5 = after-is-over .before .before .before in
-    let after-plate-in = after-if5 .before .before .before .before .before .before .before .before .before .before .before in
-    let after-if1 = after-plate-in .before .before in
-    let start = after-if1 .before .before .before .before .before .before in
-    let o = sym (over-so _ (now (start .args .memory)) (now (start .args .room)) (ours (after-if1)) (after-plate-in .plate-in .ensures) _ (after-is-over .is-over .ensures _)) ∙ after-if6 .if6 .taken in
-    poll-whole _ _ _ (fine (after-if5)) _ (polled-over _ _ _ (fine (after-if5)) _ o (after-shut .shut .ensures))
+    let after-remaining = after-is-over .before in
+    let u = fine (after-remaining .before .before .before) in
+    let o = over-told _ _ _ (left after-remaining) ∙ sym (after-is-over .is-over .ensures) ∙ after-if6 .if6 .taken in
+    rw (c .answer-number .ensures) (with-sleep _ _ _ _ (poll-whole _ _ _ u _ (polled-over _ _ _ u _ o (after-shut .shut .ensures))) (shut-sleep _ _ _ u _ o))
+
+sleep-number-requires : tie.Need-sleep-number-requires
+sleep-number-requires c κs = search needs
+
+answer-number-requires-2 : tie.Need-answer-number-requires-2
+answer-number-requires-2 c κs =
+    let after-remaining = c .before .before .before in
+    rw (c .sleep-number .ensures) (low-sleep _ _ _ (fine (after-remaining .before .before .before) .core .plate) (left after-remaining))
 
 same-length-9 : tie.Need-same-length-9
 same-length-9 c = search needs
 
 returns-7 : tie.Need-returns-7
 returns-7 c =
-    let after-if5 = c .before .before .before .before in
-    let after-plate-in = after-if5 .before .before .before .before .before .before .before .before .before .before .before in
-    let after-if1 = after-plate-in .before .before in
-    let after-slice-known = after-if1 .before .before .before .before .before in
-    let start = after-slice-known .before in
-    let o = sym (over-so _ (now (start .args .memory)) (now (start .args .room)) (ours (after-if1)) (after-plate-in .plate-in .ensures) _ (c .before .is-over .ensures _)) ∙ c .if6 .left in
-    poll-whole _ _ _ (fine (after-if5)) _ (polled-early _ _ _ (fine (after-if5)) _ (λ i. (after-slice-known .slice-known .given i) .fits) o)
+    let after-sleep-number = c .before in
+    let after-if6 = after-sleep-number .before in
+    let after-is-over = after-if6 .before in
+    let after-remaining = after-is-over .before in
+    let after-if5 = after-remaining .before .before .before in
+    let after-slice-known = after-if5 .before .before .before .before .before .before .before .before .before .before .before .before .before .before .before .before .before .before in
+    let u = fine after-if5 in
+    let o = over-told _ _ _ (left after-remaining) ∙ sym (after-is-over .is-over .ensures) ∙ after-if6 .if6 .left in
+    rw (c .answer-number2 .ensures, after-sleep-number .sleep-number .ensures)
+    (with-sleep _ _ _ _ (poll-whole _ _ _ u _ (polled-early _ _ _ u _ (λ i. (after-slice-known .slice-known .given i) .fits) o)) (left-sleep _ _ _ u _ o (left after-remaining)))
 
 pub qs-poll-spec : {M : Type 1} → statement M
 qs-poll-spec =
@@ -253,15 +283,18 @@ qs-poll-spec =
     add-result-5
     same-length-5
     returns-5
-    sub-is-over
-    part-is-over-start
-    part-is-over-end
+    sub-remaining
+    part-remaining-start
+    part-remaining-end
+    remaining-requires
     is-over-requires
     shut-requires
-    cast-result
+    answer-number-requires
     same-length-6
     same-length-7
     same-length-8
     returns-6
+    sleep-number-requires
+    answer-number-requires-2
     same-length-9
     returns-7)
