@@ -21,7 +21,7 @@ use Rattle.meaning.proofs.Sizes.{keeps-size}
 use Rattle.line.specs.declared.characters.OpenFrame.{OpenFrame}
 use Rattle.line.specs.declared.characters.Remaining.{Remaining}
 use Rattle.line.specs.Line.{lineOf, remainingOf}
-use Rattle.line.proofs.Tight.{same-line-same-frame, put-long, remainingBack, there-and-back, same-remaining}
+use Rattle.line.proofs.Tight.{same-line-same-frame, put-long, there-and-back, same-remaining}
 use Rattle.state.specs.declared.state.State.{State}
 use Rattle.state.proofs.Same.{same-state}
 use Rattle.board.specs.declared.limits.Board.{Board}
@@ -36,7 +36,7 @@ use Rattle.board.proofs.Bounding.{lends-poll}
 use Rattle.board.specs.declared.faults.Oldest.{Oldest}
 use Rattle.board.specs.Quick.{TakesIn}
 use Rattle.board.proofs.Stepping.{held-on, same-len}
-use Rattle.board.proofs.Quickening.{fits-told}
+use Rattle.board.proofs.Quickening.{fits-told, carriedBack}
 
 -- where nothing is refused, the call does the meaning's step
 module _ (p : Plate) (b : Board) (k m w : List ℕ) {r : Stepped} {k′ m′ w′ : List ℕ} where
@@ -130,10 +130,6 @@ outcomes : {a b : Board} {x y : code.Outcome} {s t : Carried} → a ≡ b → x 
 outcomes i j n = rw (i, j, n)
 
 -- the meaning's case says what is carried in the code
-abbrev carriedBack : run.Carried → Carried
-carriedBack run.nothing = Nothing
-carriedBack (run.carries r) = Carries (remainingBack r)
-
 carried-back : (c : Carried) → carriedBack (carriedOf c) ≡ c
 carried-back Nothing = refl
 carried-back (Carries r) = ap Carries (there-and-back r)

@@ -11,13 +11,16 @@ use Rattle.meaning.specs.State as meaning
 use Rattle.meaning.specs.State.{Plate, none, withLine}
 use Rattle.meaning.specs.Characters.{over, more, taken}
 use Rattle.meaning.specs.Frames.{Outcome, still, upTo}
+use Rattle.meaning.specs.Run as run
 use Rattle.meaning.specs.Run.{Call, character, poll, measured, fault, power-on, step, closes, carried}
 use Rattle.meaning.proofs.Choices.{both-left, both-right}
 use Rattle.line.specs.declared.characters.OpenFrame.{OpenFrame}
 use Rattle.line.specs.Line.{lineOf, Fits, Extends}
+use Rattle.line.proofs.Tight.{remainingBack, back-and-there}
 use Rattle.state.proofs.Answering.{put-nothing}
 use Rattle.board.specs.declared.limits.Board.{Board}
 use Rattle.board.specs.declared.limits.Carried.{Carried}
+use Rattle.board.specs.declared.limits.Carried.the-variants.{Nothing, Carries}
 use Rattle.board.specs.declared.limits.Outcome.the-variants.{Still}
 use Rattle.board.specs.Board.{stateOf, fitsIn, refusalOn, carriedOf, Steps}
 use Rattle.board.specs.Quick.{TakesIn, ClosesNone}
@@ -70,11 +73,21 @@ module _ (p : Plate) (b : Board) (kept : List ℕ) (t : ℕ) (o : over p (stateO
   unfolding step closes upTo still
   polled-quickly fits = record { none = o; state = λ m. rw o; bytes = put-own kept (b .frame .len); fits = fits }
 
+-- what is carried, in the code's cases
+abbrev pub carriedBack : run.Carried → Carried
+carriedBack run.nothing = Nothing
+carriedBack (run.carries r) = Carries (remainingBack r)
+
+carried-forth : (x : run.Carried) → carriedOf (carriedBack x) ≡ x
+carried-forth run.nothing = refl
+carried-forth (run.carries r) = ap run.carries (back-and-there r)
+
 -- .. so where nothing is refused, the quick way is the call
-pub quick-steps : (p : Plate) (b : Board) (k m w : List ℕ) (g : Call) {b′ : Board} {k′ : List ℕ} {z : Carried} → refusalOn p b k m (length w) g ≡ 0
-    → ClosesNone p b k g b′ k′ → carriedOf z ≡ carried p (stateOf b′ k′) g → Steps p b k m w g (record { board = b′; outcome = Still; sleep = z }) k′ m w
+pub quick-steps : (p : Plate) (b : Board) (k m w : List ℕ) (g : Call) {b′ : Board} {k′ : List ℕ} → refusalOn p b k m (length w) g ≡ 0
+    → ClosesNone p b k g b′ k′ → Steps p b k m w g (record { board = b′; outcome = Still; sleep = carriedBack (carried p (stateOf b′ k′) g) }) k′ m w
 unfolding still
-quick-steps p b k m w g {b′} {k′} e q z =
+quick-steps p b k m w g {b′} {k′} e q =
+    let z = carried-forth (carried p (stateOf b′ k′) g) in
     let s = quiet-step p (stateOf b k) m g (q .none) in
     stepped p b k m w g e (rw (q .none)) (z ∙ ap (λ (x : meaning.State). carried p x g) (q .state m)) (q .state m) (q .bytes ∙ ap (λ (x : meaning.State). put k 0 (x .line .kept)) (q .state m)) (sym (ap (λ (o : Outcome). o .memory) s))
     (put-nothing w 0 ∙ sym (ap (λ (o : Outcome). put w 0 (o .reply)) s)) (fits-told b′ k′ (q .fits) .few)

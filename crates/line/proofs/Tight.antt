@@ -49,6 +49,10 @@ pub there-and-back : (r : Remaining) → remainingBack (remainingOf r) ≡ r
 there-and-back NoFrameOpen = refl
 there-and-back (TicksLeft n) = refl
 
+pub back-and-there : (x : characters.Remaining) → remainingOf (remainingBack x) ≡ x
+back-and-there no-frame-open = refl
+back-and-there (ticks-left n) = refl
+
 pub same-remaining : (a b : Remaining) → remainingOf a ≡ remainingOf b → a ≡ b
 same-remaining a b e = sym (there-and-back a) ∙ ap remainingBack e ∙ there-and-back b
 

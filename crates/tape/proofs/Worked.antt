@@ -29,7 +29,7 @@ answer =
 
 pub prints : T (same (answersOf tape) (firstLine ++ answer))
 unfolding same part put blank xorFrom xorAll among plateOk fresh none withLine ownByte blocks exists table fieldCount used sound freeBlocks statusAt
-    survey commandOf row lengthFits asked error freeByte memoryStatus worked gap over more taken closed resting close upTo commandByte dataOf ours
+    survey commandOf row lengthFits asked error freeByte memoryStatus worked gap fullPause remaining over more taken closed resting close upTo commandByte dataOf ours
     judged ending sealed warned message still outcome leaves work step little lengthAt recordAt sized characterIn callOf saidBy decimalIn decimalOf
     digitOf hexOf replyLine firstLine badLine printedOf badRecord begun stepped turn answersFrom answersOf
 prints = tt

@@ -4,6 +4,7 @@ ghost use mathlib.Core.Bool.{true, false};
 ghost use mathlib.Core.List.{List};
 ghost use Prim.Native.Nat.{ℕ, _+_, _≤_};
 ghost use lib.ListN.{length};
+ghost use Rattle.meaning.specs.Characters.{over};
 ghost use Rattle.board.specs.Board.{stateOf, replyLength};
 ghost use Rattle.tape.specs.Answers.{running};
 ghost use Rattle.tape.specs.Reader.{saidOf};
@@ -11,6 +12,7 @@ ghost use Rattle.tape.specs.Passes.{longestLine};
 ghost use Rattle.turns.specs.Openings.{tapePlate};
 ghost use Rattle.turns.specs.Turns.{Sound, quickly, Calls, Turns, Fitting, Answered};
 use board::Board;
+use board::Carried;
 use board::Outcome;
 use board::Stepped;
 use line::Plate;
@@ -31,6 +33,13 @@ struct Called {
     bad: bool,
 }
 
+fn closes(plate: Plate, board: Board, tick: u32) -> bool
+    ensures { λ r. ⌜ ((kept : List ℕ) → r ≡ over (tapePlate plate) (stateOf board kept) tick) ⌝ }
+{
+    let left = board.remaining(plate, tick);
+    left.is_over()
+}
+
 // Most records are characters inside a frame, or polls: what closes no frame need not be turned here, since it prints nothing.
 pub fn closes_none(plate: Plate, board: Board, event: Event) -> bool
     ensures { λ r. ⌜ ((kept : List ℕ) → r ≡ quickly (tapePlate plate) (stateOf board kept) (saidOf event)) ⌝ }
@@ -40,8 +49,8 @@ pub fn closes_none(plate: Plate, board: Board, event: Event) -> bool
             tick,
             value: _,
             parity: _,
-        } => !board.is_over(plate, tick),
-        Event::Poll { tick } => !board.is_over(plate, tick),
+        } => !closes(plate, board, tick),
+        Event::Poll { tick } => !closes(plate, board, tick),
         _ => false,
     }
 }
@@ -83,6 +92,7 @@ fn not_called(board: Board) -> Called
     let stepped = Stepped {
         board,
         outcome: Outcome::Still,
+        sleep: Carried::Nothing,
     };
     Called {
         stepped,

@@ -7,25 +7,25 @@ use Rattle.turns.proofs.answering.closes_none.Statement.{statement}
 use Rattle.turns.proofs.answering.closes_none.Tie as tie
 use Rattle.turns.proofs.answering.closes_none.Reads as reads
 use Rattle.turns.proofs.answering.closes_none.Lts as lts
-use Rattle.board.proofs.limits.Board.is_over.Reads as is-over-reads
+use Rattle.turns.proofs.answering.closes.Reads as closes-reads
 
 enum-known-event : tie.Need-enum-known-event
 enum-known-event c = search needs
 
-is-over-requires : tie.Need-is-over-requires
-is-over-requires c κs = search needs
+closes-requires : tie.Need-closes-requires
+closes-requires c κs = search needs
 
 enum-known-event-2 : tie.Need-enum-known-event-2
 enum-known-event-2 c = search needs
 
-is-over-requires-2 : tie.Need-is-over-requires-2
-is-over-requires-2 c κs = search needs
+closes-requires-2 : tie.Need-closes-requires-2
+closes-requires-2 c κs = search needs
 
 returns : tie.Need-returns
-returns c = λ kept. rw (c .before .before .event .given .1) (ap not (c .is-over .ensures kept _))
+returns c = λ kept. rw (c .before .before .event .given .1) (ap not (c .closes .ensures kept))
 
 returns-2 : tie.Need-returns-2
-returns-2 c = λ kept. rw (c .before .before .event2 .given .1) (ap not (c .is-over2 .ensures kept _))
+returns-2 c = λ kept. rw (c .before .before .event2 .given .1) (ap not (c .closes2 .ensures kept))
 
 returns-3 : tie.Need-returns-3
 returns-3 c = λ kept. sym (other-kind (c .before .args .event) _ _ (c .match .keys3))
@@ -35,9 +35,9 @@ closes-none-spec =
     tie.close
     (tie.spec
     enum-known-event
-    is-over-requires
+    closes-requires
     enum-known-event-2
-    is-over-requires-2
+    closes-requires-2
     returns
     returns-2
     returns-3)
