@@ -1,6 +1,6 @@
-/* A small firmware host for one board, to be copied: a receive queue, a clock, the lent buffers, and a flash that keeps what must last. main plays the drive
- * and the supply: it sends the frames of the bench sheet, gives the board another address, lets the line echo, takes the supply away, prints all with the
- * replies, and ends in 1 if a reply is not the one that belongs there. */
+/* A small firmware host for one board, to be copied: a receive queue, a clock, an alarm by which it sleeps, the lent buffers, and a flash that keeps what must
+ * last. main plays the drive, the supply and the timer that wakes the host: it sends the frames of the bench sheet, gives the board another address, lets the
+ * line echo, takes the supply away, prints all with the replies, counts how often the host woke, and ends in 1 if a reply is not the one that belongs there. */
 #include "quicksetter.h"
 
 #include <inttypes.h>
@@ -17,7 +17,8 @@ static uint32_t ticks_of_microseconds(uint64_t microseconds) {
     return (uint32_t)(microseconds * 24 / 625);
 }
 
-/* A 32-bit timer widened to 64 bits: right as long as it is read once in 71 minutes, which polling does. */
+/* A 32-bit timer widened to 64 bits: right as long as it is read once in 71 minutes. While a frame is open the alarm sees to that; while none is, the host may
+ * sleep for longer, and the turns of the timer that it then misses matter to no gap. */
 static uint64_t widened(uint64_t before, uint32_t timer) {
     return before + (uint32_t)(timer - (uint32_t)before);
 }
@@ -80,6 +81,8 @@ struct host {
     struct queue queue;
     struct flash *flash;
     uint64_t microseconds;
+    uint32_t called;       /* the tick of the last character or poll */
+    uint32_t sleep;        /* for how many ticks from there the host may sleep, or QS_NO_FRAME_OPEN */
     volatile bool sending; /* while the host's own reply is on the line */
 };
 
@@ -148,6 +151,7 @@ static enum start host_start(struct host *host, struct plate plate, struct flash
     memset(host, 0, sizeof *host);
     host->flash = flash;
     host->memory_length = plate.total <= LARGEST_TOTAL ? QS_MEMORY_LENGTH(plate.total) : 0;
+    host->sleep = QS_NO_FRAME_OPEN;
     enum start start = image_and_memory(host, plate);
     if (start != NO_PLATE)
         (void)qs_measured(host->image, sizeof host->image, position);
@@ -164,23 +168,43 @@ static void host_received(struct host *host, uint32_t timer, uint8_t value, bool
     queue->written++;
 }
 
-/* One turn of the main loop: takes the oldest character, or polls if none waits. Returns the length of the reply in host->room that is now to be sent, 0 for
- * none. What the reply acknowledges is in the flash before it is sent. A reply to a frame that the next character closed is not sent: the master is sending
- * already. The lengths are the host's own and the image is what the last call left, so no refusal can come; if one does, the board keeps silent. */
+/* Whether the main loop may sleep on: no character waits, and the pause of an open frame is not over. A firmware calls it with interrupts off, and goes to sleep
+ * before they are on again, with the timer's alarm set to the tick host->called + host->sleep if a frame is open: a character that ends between the look at
+ * the queue and the sleep would else lie in the queue until the alarm, or for ever. */
+static bool host_may_sleep(struct host *host, uint32_t timer) {
+    if (host->queue.taken != host->queue.written)
+        return false;
+    return host->sleep == QS_NO_FRAME_OPEN || host_now(host, timer) - host->called < host->sleep;
+}
+
+/* What a character or a poll at a tick told: the reply's length, 0 for none or a refusal, and how long the host may sleep. */
+static uint64_t told(struct host *host, uint32_t tick, uint64_t result) {
+    host->called = tick;
+    host->sleep = QS_IS_REFUSED(result) ? QS_NO_FRAME_OPEN : QS_SLEEP(result);
+    return QS_IS_REFUSED(result) ? 0 : QS_REPLY(result);
+}
+
+static uint64_t take_character(struct host *host) {
+    struct received r = host->queue.places[host->queue.taken % QUEUE_PLACES];
+    host->queue.taken++;
+    return told(host, r.tick,
+                qs_character(host->image, sizeof host->image, r.tick, r.value, r.parity, host->memory, host->memory_length, host->room, sizeof host->room));
+}
+
+static uint64_t poll_at(struct host *host, uint32_t now) {
+    return told(host, now, qs_poll(host->image, sizeof host->image, now, host->memory, host->memory_length, host->room, sizeof host->room));
+}
+
+/* One turn of the main loop, when something woke it: takes the oldest character, or polls if none waits. Returns the length of the reply in host->room that is
+ * now to be sent, 0 for none. What the reply acknowledges is in the flash before it is sent. A reply to a frame that the next character closed is not sent: the
+ * master is sending already. The lengths are the host's own and the image is what the last call left, so no refusal can come; if one does, the board keeps
+ * silent. */
 static uint64_t host_turn(struct host *host, uint32_t timer) {
-    struct queue *queue = &host->queue;
-    uint64_t length;
     /* The clock is read before the queue: a character that ends in between is then never older than the poll. */
     uint32_t now = host_now(host, timer);
-    bool line_is_busy = queue->taken != queue->written;
-    if (line_is_busy) {
-        struct received r = queue->places[queue->taken % QUEUE_PLACES];
-        queue->taken++;
-        length = qs_character(host->image, sizeof host->image, r.tick, r.value, r.parity, host->memory, host->memory_length, host->room, sizeof host->room);
-    } else {
-        length = qs_poll(host->image, sizeof host->image, now, host->memory, host->memory_length, host->room, sizeof host->room);
-    }
-    if (length == 0 || QS_IS_REFUSED(length))
+    bool line_is_busy = host->queue.taken != host->queue.written;
+    uint64_t length = line_is_busy ? take_character(host) : poll_at(host, now);
+    if (length == 0)
         return 0;
     if (QS_MAY_CHANGE(host->room[1]))
         host_keep(host);
@@ -197,11 +221,20 @@ enum { BIT_MICROSECONDS = 105, CHARACTER_BITS = 11, PAUSE_BITS = 55, PATIENCE_BI
 /* The host's 32-bit microsecond timer. */
 static uint32_t timer;
 
-/* How often the host wanted to send while the drive did. */
-static unsigned collisions;
+/* How often the host wanted to send while the drive did; beats of a timer of one bit time; how often the host was woken. */
+static unsigned collisions, beats, wake_ups;
 
 static void pass(unsigned bits) {
     timer += bits * BIT_MICROSECONDS;
+    beats += bits;
+}
+
+/* Character and alarm wake the host; on any other beat it sleeps on. Returns the length of the reply that it then wants to send. */
+static uint64_t beat(struct host *host) {
+    if (host_may_sleep(host, timer))
+        return 0;
+    wake_ups++;
+    return host_turn(host, timer);
 }
 
 /* The host sends its reply, and the half-duplex line brings each character back to it. */
@@ -218,7 +251,7 @@ static void send_frame(struct host *host, const uint8_t *frame, uint64_t length)
     for (uint64_t i = 0; i < length; i++) {
         pass(CHARACTER_BITS);
         host_received(host, timer, frame[i], false);
-        collisions += host_turn(host, timer) != 0;
+        collisions += beat(host) != 0;
     }
 }
 
@@ -228,7 +261,7 @@ static uint64_t exchange(struct host *host, const uint8_t *frame, uint64_t lengt
     send_frame(host, frame, length);
     for (unsigned waited = 0; replied == 0 && waited < PATIENCE_BITS; waited++) {
         pass(1);
-        replied = host_turn(host, timer);
+        replied = beat(host);
     }
     if (replied != 0)
         send_reply(host, replied);
@@ -454,6 +487,8 @@ int main(void) {
     good &= new_address_is_kept(&host, &moved);
     good &= lost_address_is_the_plates(&host, &moved);
     good &= bench_side(&host, &bench);
+    good &= wake_ups * 4 < beats;
+    printf("The host was woken %u times; polling on each bit time it would have been %u times\n", wake_ups, beats);
     printf("%s\n", good ? "example: every reply is the one that belongs there" : "example: a reply is not the one that belongs there");
     return good ? 0 : 1;
 }

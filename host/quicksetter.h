@@ -5,8 +5,8 @@
  *           the new one in it.
  *   memory  QS_MEMORY_LENGTH(total) bytes, the motor's data fields: all 00h on a new board, later what the last call left there.
  *   room    at least QS_REPLY_ROOM bytes; a reply fills its front.
- * Each received character goes to qs_character with the tick of its end. Between characters the host calls qs_poll, so that a frame is closed and answered
- * when its pause is over. Both may return a reply: the one to the frame that this very call closed.
+ * Each received character goes to qs_character with the tick of its end. When the pause after it is over the host calls qs_poll, so that the frame is closed
+ * and answered. Both may return a reply: the one to the frame that this very call closed. Both tell how long the host may sleep (below).
  *
  * The plate is given once, when the image is made, and stands in it from then on:
  *   total    blocks of QS_BLOCK bytes in memory, 1 to 112
@@ -15,6 +15,30 @@
  *   ticks    ticks per bit, one of 1, 2, 4, 8, 16, 32, 64; a tick is 1/38400 s
  *   pause    bit times without a character that close a frame, 22 or 55
  *   label    QS_LABEL_LENGTH bytes, any: what 52h and 56h tell of the board (below)
+ *
+ * Sleep. The host need not poll on every beat of a timer: the result of qs_character and qs_poll says at which tick the open frame's pause is over (02, Req
+ * 03). A poll exactly that many ticks after the tick that was handed in, by a counter that wraps around, closes the frame; an earlier one does not. It holds
+ * until the next character, closing poll or qs_power_on; measured positions, fault codes and polls that close nothing change nothing about it.
+ *
+ *     uint32_t called = 0, sleep = QS_NO_FRAME_OPEN;      what the last result told, and for which tick
+ *     for (;;) {
+ *         interrupts off;
+ *         if (no character waits && (sleep == QS_NO_FRAME_OPEN || ticks_now() - called < sleep))
+ *             sleep until an interrupt, and where sleep != QS_NO_FRAME_OPEN with the alarm at tick called + sleep;
+ *         interrupts on;
+ *         called = ticks_now();                           before the look at the queue: a character is then never younger than a poll after it
+ *         if (a character waits)
+ *             result = qs_character(.., called = its own tick, ..);
+ *         else
+ *             result = qs_poll(.., called, ..);
+ *         sleep = QS_SLEEP(result);
+ *         if (QS_REPLY(result) is a length) keep what must last, send the reply;
+ *     }
+ *
+ * The look at the queue and the sleep are one step that no interrupt divides. Otherwise a character that ends in between is in the queue of a processor that
+ * sleeps: it waits for the alarm, and where no frame was open, for ever. Most processors have a sleep that a pending interrupt ends also while interrupts are
+ * off; it is then served when they are on again. The same look takes care of an alarm whose tick has gone by already, after a long write to flash: it would
+ * come only when the counter has gone round.
  *
  * Only numbers and pointers to bytes cross. Every length, and every number of bytes that comes back, is a uint64_t, also where size_t has 32 bits.
  *
@@ -35,7 +59,7 @@
  *     fed its own reply takes it for a request and answers it, for ever.
  *   - tick is a counter of 1/38400 s that wraps around at exactly 2^32 and never steps back behind a character that was handed in. A 32-bit microsecond
  *     timer that is divided wraps early: count ticks in the timer itself, or keep 64 bits and convert (host/example.c, ticks_of_microseconds).
- *   - qs_poll is called often enough: a frame is answered at the first poll after its pause. The reply is due within the times beside the commands below,
+ *   - qs_poll is called in time: a frame is answered at the first poll after its pause, which QS_SLEEP foretells. The reply is due within the times beside the commands below,
  *     counted from the end of the pause; they hold the flash write too.
  *   - A reply that qs_character returns answers the frame before: the master is sending again already. A host that is about to send lets it go and sends
  *     nothing; what the request changed stays changed, and is written to flash all the same.
@@ -67,7 +91,7 @@
 extern "C" {
 #endif
 
-#define QS_VERSION "0.4.0" /* CHANGELOG.md tells what a host must change from one to the next */
+#define QS_VERSION "0.5.0" /* CHANGELOG.md tells what a host must change from one to the next */
 
 /* ---- sizes ---------------------------------------------------------------------------------------------------------------------------------------------- */
 
@@ -83,14 +107,21 @@ extern "C" {
 
 /* ---- results -------------------------------------------------------------------------------------------------------------------------------------------- */
 
-/* Board calls and qs_request return a number of bytes, or QS_REFUSED and the number of the refusal. */
+/* Board calls and qs_request return a number of bytes, or QS_REFUSED and the number of the refusal; qs_character and qs_poll return that in QS_REPLY. */
 #define QS_REFUSED 256
 #define QS_R1 (QS_REFUSED + 1) /* a plate or state number beyond its limit, another layout number, another length of image, label or lasting bytes */
 #define QS_R2 (QS_REFUSED + 2) /* memory not QS_MEMORY_LENGTH(total) bytes long */
 #define QS_R3 (QS_REFUSED + 3) /* reply room under QS_REPLY_ROOM bytes, needed or not */
 #define QS_R4 (QS_REFUSED + 4) /* request buffer under QS_REQUEST_BUFFER bytes, needed or not */
 #define QS_R5 (QS_REFUSED + 5) /* a request that the bench does not write */
-#define QS_IS_REFUSED(result) ((result) > QS_REFUSED)
+#define QS_IS_REFUSED(result) (QS_REPLY(result) > QS_REFUSED) /* of any of them */
+
+/* The two numbers in what qs_character and qs_poll return: the one above, and for how many ticks after the tick that was handed in the host may sleep. */
+#define QS_REPLY(result) ((result)&0xFFFFFFFF)
+#define QS_SLEEP(result) ((uint32_t)((uint64_t)(result) >> 32)) /* 1 to QS_LONGEST_SLEEP, or one of the two below; never 0 */
+#define QS_LONGEST_SLEEP 3520                                   /* the longest pause, 55 bit times of 64 ticks */
+#define QS_NO_FRAME_OPEN 0xFFFFFFFFu                            /* until the next character there is nothing to poll for */
+#define QS_SLEEP_REFUSED 0xFFFFFFFEu                            /* the call was refused, and tells nothing */
 
 /* qs_judge returns one of these. */
 #define QS_VERDICT_DONE 0
@@ -266,15 +297,15 @@ uint64_t qs_restart(uint32_t total, uint32_t bits, uint32_t address, uint32_t ti
 
 /* A character came. tick is the time of its end; parity is 0, or anything else if the character had a parity fault. If its gap to the last character is at
  * least pause * ticks, it closes the open frame, which is then answered, and opens the next one.
- * Returns the length of the reply to the closed frame, 1 to QS_REPLY_ROOM bytes at the room's front with the rest of the room as it was, or 0 for none; then
- * all of the room is as it was.
- * Refuses QS_R1, QS_R2, QS_R3 in this order. */
+ * Returns, in QS_REPLY, the length of the reply to the closed frame, 1 to QS_REPLY_ROOM bytes at the room's front with the rest of the room as it was, or 0 for
+ * none; then all of the room is as it was. In QS_SLEEP, the full pause, pause * ticks: the character is the last one now.
+ * Refuses QS_R1, QS_R2, QS_R3 in this order, with QS_SLEEP_REFUSED. */
 uint64_t qs_character(uint8_t *image, uint64_t image_length, uint32_t tick, uint8_t value, uint8_t parity, uint8_t *memory, uint64_t memory_length,
                       uint8_t *room, uint64_t room_length);
 
 /* The host looks whether the open frame is over: it is closed and answered if tick is at least pause * ticks after its last character. With no frame open,
  * or too early, nothing changes.
- * Returns and refuses as qs_character does. */
+ * Returns and refuses as qs_character does, but for QS_SLEEP: QS_NO_FRAME_OPEN if it closed the frame or none was open, else what is left of the pause. */
 uint64_t qs_poll(uint8_t *image, uint64_t image_length, uint32_t tick, uint8_t *memory, uint64_t memory_length, uint8_t *room, uint64_t room_length);
 
 /* The host gives the measured position, any number; 42h and 43h reduce it mod 2^bits. It holds for frames that close later, open ones included.

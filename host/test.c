@@ -53,11 +53,11 @@ static uint64_t make_restart(struct plate p) {
 }
 
 static uint64_t character_with(struct lengths n, uint32_t tick, uint8_t value, uint8_t parity) {
-    return qs_character(lent.image, n.image, tick, value, parity, lent.memory, n.memory, lent.room, n.room);
+    return reply_of(qs_character(lent.image, n.image, tick, value, parity, lent.memory, n.memory, lent.room, n.room), lent.image, tick);
 }
 
 static uint64_t poll_with(struct lengths n, uint32_t tick) {
-    return qs_poll(lent.image, n.image, tick, lent.memory, n.memory, lent.room, n.room);
+    return reply_of(qs_poll(lent.image, n.image, tick, lent.memory, n.memory, lent.room, n.room), lent.image, tick);
 }
 
 static uint64_t measured_with(struct lengths n, uint32_t position) {
@@ -950,6 +950,91 @@ static void test_gaps(void) {
     }
 }
 
+/* ---- how long the host may sleep ------------------------------------------------------------------------------------------------------------------------ */
+
+static uint64_t whole_poll(struct plate p, uint32_t tick) {
+    struct lengths n = right(p);
+    return qs_poll(lent.image, n.image, tick, lent.memory, n.memory, lent.room, n.room);
+}
+
+/* The numbers of a poll so many ticks after the last character, which came at `last`. */
+static void sleeps(struct plate p, uint32_t last, uint32_t later, uint64_t reply, uint32_t sleep) {
+    open_frame(p, last - 2);
+    uint64_t result = whole_poll(p, last + later);
+    check(QS_REPLY(result) == reply && QS_SLEEP(result) == sleep, "the reply and the sleep of a poll", later);
+}
+
+/* A frame of a pause of 220 ticks, of the longest one and of the shortest, at ticks round the wrap too; a clock that steps back by a tick, and by half a round. */
+static void test_sleeps(void) {
+    static const struct plate LONGEST = {112, 24, 0, 64, 55}, SHORTEST = {112, 24, 0, 1, 22};
+    static const uint32_t lasts[] = {1000, 2, 1, 0, UINT32_MAX, UINT32_MAX - 100, UINT32_MAX - 219, UINT32_MAX - 220, UINT32_MAX / 2};
+    for (size_t i = 0; i < COUNT(lasts); i++) {
+        sleeps(SHEET, lasts[i], 0, 0, 220);
+        sleeps(SHEET, lasts[i], 1, 0, 219);
+        sleeps(SHEET, lasts[i], 219, 0, 1);
+        sleeps(SHEET, lasts[i], 220, 5, QS_NO_FRAME_OPEN);
+        sleeps(SHEET, lasts[i], 221, 5, QS_NO_FRAME_OPEN);
+        sleeps(SHEET, lasts[i], UINT32_MAX, 5, QS_NO_FRAME_OPEN);
+        sleeps(SHEET, lasts[i], UINT32_MAX / 2 + 1, 5, QS_NO_FRAME_OPEN);
+        sleeps(LONGEST, lasts[i], 0, 0, QS_LONGEST_SLEEP);
+        sleeps(LONGEST, lasts[i], 3519, 0, 1);
+        sleeps(LONGEST, lasts[i], 3520, 5, QS_NO_FRAME_OPEN);
+        sleeps(SHORTEST, lasts[i], 0, 0, 22);
+        sleeps(SHORTEST, lasts[i], 21, 0, 1);
+        sleeps(SHORTEST, lasts[i], 22, 5, QS_NO_FRAME_OPEN);
+    }
+}
+
+/* After any character the full pause: one that opens a frame, one that joins it, one that closes it and opens the next, one past the 135th. */
+static void test_sleep_after_a_character(void) {
+    struct lengths n = right(SHEET);
+    start(SHEET);
+    for (uint32_t i = 0; i < 140; i++) {
+        uint32_t tick = UINT32_MAX - 1000 + 200 * i;
+        uint64_t result = qs_character(lent.image, n.image, tick, 0x41, 0, lent.memory, n.memory, lent.room, n.room);
+        check(QS_REPLY(result) == 0 && QS_SLEEP(result) == 220, "a character: the full pause", i);
+    }
+    open_frame(SHEET, 1000);
+    uint64_t result = qs_character(lent.image, n.image, 1222, 0x41, 0, lent.memory, n.memory, lent.room, n.room);
+    check(QS_REPLY(result) == 5 && QS_SLEEP(result) == 220, "a character that closes a frame: its reply and the full pause", 0);
+    check(qs_power_on(lent.image, n.image) == 0 && QS_SLEEP(whole_poll(SHEET, 1223)) == QS_NO_FRAME_OPEN, "power-on drops the frame", 0);
+}
+
+/* A poll exactly as long after the answer's tick as it says closes the frame, one a tick earlier does not; what the host tells in between changes nothing. */
+static void on_time(struct plate p, uint32_t last, uint32_t looked) {
+    struct lengths n = right(p);
+    open_frame(p, last - 2);
+    uint32_t tick = last + looked, sleep = QS_SLEEP(whole_poll(p, tick));
+    check(sleep == p.pause * p.ticks - looked, "what is left of the pause", looked);
+    check(measured_with(n, tick) == 0 && fault_with(n, 0x1E) == 0, "a position and a fault in between", looked);
+    check(QS_SLEEP(whole_poll(p, tick + sleep / 2)) == sleep - sleep / 2, "a poll in between", looked);
+    check(QS_REPLY(whole_poll(p, tick + sleep - 1)) == 0 && lent.image[QS_IMAGE_OPEN] == 1, "a tick too early", looked);
+    check(QS_REPLY(whole_poll(p, tick + sleep)) == 5 && lent.image[QS_IMAGE_OPEN] == 0, "on time", looked);
+}
+
+static void test_sleep_on_time(void) {
+    for (uint32_t ticks = 1; ticks <= 64; ticks *= 2) {
+        for (uint32_t pause = 22; pause <= 55; pause += 33) {
+            for (uint32_t looked = 0; looked < pause * ticks; looked += 1 + below(2 * ticks))
+                on_time((struct plate){112, 24, 0, ticks, pause}, once_in(2) ? (uint32_t)dice() : UINT32_MAX - below(4000), looked);
+        }
+    }
+}
+
+/* A refused call tells its refusal, and no sleep. */
+static void test_sleep_of_the_refused(void) {
+    struct lengths n = right(SHEET);
+    const struct lengths wrong[] = {{n.image - 1, n.memory, n.room}, {n.image, n.memory + 1, n.room}, {n.image, n.memory, n.room - 1}};
+    for (size_t i = 0; i < COUNT(wrong); i++) {
+        open_frame(SHEET, 1000);
+        remember();
+        uint64_t poll = qs_poll(lent.image, wrong[i].image, 1500, lent.memory, wrong[i].memory, lent.room, wrong[i].room);
+        uint64_t character = qs_character(lent.image, wrong[i].image, 1500, 0, 0, lent.memory, wrong[i].memory, lent.room, wrong[i].room);
+        check(QS_REPLY(poll) == QS_R1 + i && QS_SLEEP(poll) == QS_SLEEP_REFUSED && QS_IS_REFUSED(poll), "a refused poll", i);
+        check(character == poll && as_it_was(), "a refused character", i);
+    }
+}
+
 /* ---- exactly what each call changes in the image -------------------------------------------------------------------------------------------------------- */
 
 static void test_image_changes(void) {
@@ -1521,14 +1606,14 @@ static void long_lengths_of_the_board(void) {
     open_frame(EIGHT, 1000);
     memcpy(wide, lent.image, QS_IMAGE_LENGTH);
     remember();
-    check(qs_character(wide, FAR + n.image, 2000, 0, 0, lent.memory, n.memory, lent.room, n.room) == QS_R1, "a character and a long image", 0);
-    check(qs_poll(wide, FAR + n.image, 2000, lent.memory, n.memory, lent.room, n.room) == QS_R1, "a poll and a long image", 0);
+    check(QS_REPLY(qs_character(wide, FAR + n.image, 2000, 0, 0, lent.memory, n.memory, lent.room, n.room)) == QS_R1, "a character and a long image", 0);
+    check(QS_REPLY(qs_poll(wide, FAR + n.image, 2000, lent.memory, n.memory, lent.room, n.room)) == QS_R1, "a poll and a long image", 0);
     check(qs_measured(wide, FAR + n.image, 2) == QS_R1, "measured and a long image", 0);
     check(qs_fault(wide, FAR + n.image, 2) == QS_R1 && qs_power_on(wide, FAR + n.image) == QS_R1, "fault, power-on and a long image", 0);
     check(memcmp(wide, before.image, QS_IMAGE_LENGTH) == 0, "a long image is as it was", 0);
-    check(qs_character(lent.image, n.image, 2000, 0, 0, wide, FAR + n.memory, lent.room, n.room) == QS_R2, "a character and a long memory", 0);
-    check(qs_poll(lent.image, n.image, 2000, wide, FAR + n.memory, lent.room, n.room) == QS_R2 && as_it_was(), "a poll and a long memory", 0);
-    check(qs_poll(lent.image, n.image, 2000, lent.memory, n.memory, wide, FAR + 3) == 5, "a poll and a long room", 0);
+    check(QS_REPLY(qs_character(lent.image, n.image, 2000, 0, 0, wide, FAR + n.memory, lent.room, n.room)) == QS_R2, "a character and a long memory", 0);
+    check(QS_REPLY(qs_poll(lent.image, n.image, 2000, wide, FAR + n.memory, lent.room, n.room)) == QS_R2 && as_it_was(), "a poll and a long memory", 0);
+    check(QS_REPLY(qs_poll(lent.image, n.image, 2000, lent.memory, n.memory, wide, FAR + 3)) == 5, "a poll and a long room", 0);
     check(memcmp(wide, "\x40\x4E\x08\x00\x06", 5) == 0, "the reply is in it", 0);
 }
 
@@ -1581,6 +1666,9 @@ static void test_other_macros(void) {
     for (uint64_t result = 0; result <= 261; result++)
         check(QS_IS_REFUSED(result) == (result == QS_R1 || result == QS_R2 || result == QS_R3 || result == QS_R4 || result == QS_R5), "a refusal", result);
     check(QS_R1 == 257 && QS_R5 == 261, "the refusals", 0);
+    check(QS_REPLY((uint64_t)3520 << 32 | 134) == 134 && QS_SLEEP((uint64_t)3520 << 32 | 134) == QS_LONGEST_SLEEP, "the two numbers of a character and a poll", 0);
+    check(QS_SLEEP((uint64_t)QS_NO_FRAME_OPEN << 32) == QS_NO_FRAME_OPEN && QS_IS_REFUSED((uint64_t)QS_SLEEP_REFUSED << 32 | QS_R3), "their named ones", 0);
+    check(!QS_IS_REFUSED((uint64_t)QS_NO_FRAME_OPEN << 32 | 134) && QS_SLEEP_REFUSED != QS_NO_FRAME_OPEN && QS_SLEEP_REFUSED > QS_LONGEST_SLEEP, "and no other", 0);
     check(QS_DATA_PLACE((uint64_t)2 << 32 | 131) == 2 && QS_DATA_LENGTH((uint64_t)2 << 32 | 131) == 131, "the two numbers of a data part", 0);
     for (uint64_t total = 1; total <= 112; total++)
         check(QS_MEMORY_LENGTH(total) == 16 * total + total && QS_MEMORY_LENGTH((uint8_t)total) == 17 * total, "the memory's length", total);
@@ -1649,6 +1737,10 @@ int main(void) {
     test_address_at_the_close();
     test_counters();
     test_gaps();
+    test_sleeps();
+    test_sleep_after_a_character();
+    test_sleep_on_time();
+    test_sleep_of_the_refused();
     test_image_changes();
     test_closed_frame_numbers();
     test_states_that_never_arise();

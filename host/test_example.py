@@ -20,6 +20,9 @@ LEFT_OUT = (
     ("the own echo is not handed in", "if (host->sending || ", "if ("),
     ("the tick wraps at 2^32 only", "host->microseconds = widened(host->microseconds, timer);", "host->microseconds = timer;"),
     ("the measured position is given after a restart", "(void)qs_measured(host->image, sizeof host->image, position);", "(void)position;"),
+    ("the host wakes when the pause is over", "host_now(host, timer) - host->called < host->sleep", "true"),
+    ("the host sleeps until then", "host_now(host, timer) - host->called < host->sleep", "false"),
+    ("a character wakes the host", "    if (host->queue.taken != host->queue.written)\n        return false;\n", ""),
     ("damage is told", "(void)qs_fault(host->image, sizeof host->image, INTERNAL_CHECKSUM_ERROR);", ""),
 )
 

@@ -170,8 +170,9 @@ static struct lengths right(const struct board *b) {
 
 static uint64_t make_with(struct board *b, struct call c, struct lengths n) {
     switch (c.kind) {
-    case CHARACTER: return qs_character(b->image, n.image, c.number, c.value, c.parity, b->memory, n.memory, b->room, n.room);
-    case POLL: return qs_poll(b->image, n.image, c.number, b->memory, n.memory, b->room, n.room);
+    case CHARACTER:
+        return reply_of(qs_character(b->image, n.image, c.number, c.value, c.parity, b->memory, n.memory, b->room, n.room), b->image, c.number);
+    case POLL: return reply_of(qs_poll(b->image, n.image, c.number, b->memory, n.memory, b->room, n.room), b->image, c.number);
     case MEASURED: return qs_measured(b->image, n.image, c.number);
     case FAULT: return qs_fault(b->image, n.image, c.value);
     default: return qs_power_on(b->image, n.image);

@@ -28,6 +28,28 @@ static inline int ended(void) {
     return failures == 0 ? 0 : 1;
 }
 
+/* ---- how long the host may sleep ------------------------------------------------------------------------------------------------------------------------ */
+
+static inline uint32_t little_32(const uint8_t *at) {
+    return (uint32_t)at[0] | (uint32_t)at[1] << 8 | (uint32_t)at[2] << 16 | (uint32_t)at[3] << 24;
+}
+
+/* What is left of the open frame's pause at a tick: 02, Req 03, by the image that a call left. */
+static inline uint32_t sleep_by(const uint8_t *image, uint32_t tick) {
+    uint32_t pause = (uint32_t)image[QS_IMAGE_PAUSE] * image[QS_IMAGE_TICKS];
+    uint32_t since = tick - little_32(image + QS_IMAGE_LAST);
+    if (image[QS_IMAGE_OPEN] == 0)
+        return QS_NO_FRAME_OPEN;
+    return since < pause ? pause - since : 0;
+}
+
+/* The reply's length, or the refusal, of a character or a poll at a tick; the sleep beside it is checked. */
+static inline uint64_t reply_of(uint64_t result, const uint8_t *image, uint32_t tick) {
+    uint32_t expected = QS_IS_REFUSED(result) ? QS_SLEEP_REFUSED : sleep_by(image, tick);
+    check(QS_SLEEP(result) == expected && expected != 0, "how long the host may sleep", tick);
+    return QS_REPLY(result);
+}
+
 /* ---- dice: the same numbers in each run (splitmix64) ---------------------------------------------------------------------------------------------------- */
 
 static inline uint64_t dice(void) {

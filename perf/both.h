@@ -57,7 +57,7 @@ static void print_way(FILE *file, const char *row) {
 
 static void print_outcome(const char *board, uint64_t result, const uint8_t *reply) {
     fprintf(stderr, "\n%s returns %" PRIu64 ":", board, result);
-    print_bytes(stderr, reply, QS_IS_REFUSED(result) ? 0 : result);
+    print_bytes(stderr, reply, QS_IS_REFUSED(result) ? 0 : QS_REPLY(result));
 }
 
 static void print_agreement(const char *what, const uint8_t *library, const uint8_t *hand, size_t number) {

@@ -400,8 +400,16 @@ static uint64_t refusal(const uint8_t *image, uint64_t image_length, uint64_t me
     return room_length < QS_REPLY_ROOM ? QS_R3 : 0;
 }
 
-static bool is_over(const uint8_t *image, uint32_t tick) {
-    return tick - load(image + QS_IMAGE_LAST) >= (uint32_t)image[QS_IMAGE_PAUSE] * image[QS_IMAGE_TICKS];
+static uint32_t full_pause(const uint8_t *image) {
+    return (uint32_t)image[QS_IMAGE_PAUSE] * image[QS_IMAGE_TICKS];
+}
+
+static uint32_t since_last(const uint8_t *image, uint32_t tick) {
+    return tick - load(image + QS_IMAGE_LAST);
+}
+
+static uint64_t answer(uint32_t sleep, uint64_t reply) {
+    return (uint64_t)sleep << 32 | reply;
 }
 
 /* ---- the calls ------------------------------------------------------------------------------------------------------------------------------------------ */
@@ -427,11 +435,12 @@ uint64_t hand_character(uint8_t *image, uint64_t image_length, uint32_t tick, ui
                         uint8_t *room, uint64_t room_length) {
     uint64_t refused = refusal(image, image_length, memory_length, room_length);
     if (refused != 0)
-        return refused;
+        return answer(QS_SLEEP_REFUSED, refused);
     uint64_t length = 0;
+    uint32_t pause = full_pause(image);
     if (!image[QS_IMAGE_OPEN]) {
         clear_frame(image);
-    } else if (is_over(image, tick)) {
+    } else if (since_last(image, tick) >= pause) {
         length = closed(image, memory, room);
         clear_frame(image);
     }
@@ -446,18 +455,21 @@ uint64_t hand_character(uint8_t *image, uint64_t image_length, uint32_t tick, ui
     image[QS_IMAGE_SUM] ^= value;
     image[QS_IMAGE_PARITY] |= parity != 0;
     store(image + QS_IMAGE_LAST, tick);
-    return length;
+    return answer(pause, length);
 }
 
 uint64_t hand_poll(uint8_t *image, uint64_t image_length, uint32_t tick, uint8_t *memory, uint64_t memory_length, uint8_t *room, uint64_t room_length) {
     uint64_t refused = refusal(image, image_length, memory_length, room_length);
     if (refused != 0)
-        return refused;
-    if (!image[QS_IMAGE_OPEN] || !is_over(image, tick))
-        return 0;
+        return answer(QS_SLEEP_REFUSED, refused);
+    if (!image[QS_IMAGE_OPEN])
+        return answer(QS_NO_FRAME_OPEN, 0);
+    uint32_t pause = full_pause(image), since = since_last(image, tick);
+    if (since < pause)
+        return answer(pause - since, 0);
     uint64_t length = closed(image, memory, room);
     clear_frame(image);
-    return length;
+    return answer(QS_NO_FRAME_OPEN, length);
 }
 
 uint64_t hand_measured(uint8_t *image, uint64_t image_length, uint32_t position) {

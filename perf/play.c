@@ -44,8 +44,8 @@ static uint64_t start(const uint8_t *body) {
 static uint64_t work(unsigned kind, const uint8_t *body) {
     switch (kind) {
     case 1: return start(body);
-    case 2: return CALL(character)(image, sizeof image, number_at(body), body[4], body[5], memory, memory_length, room, sizeof room);
-    case 3: return CALL(poll)(image, sizeof image, number_at(body), memory, memory_length, room, sizeof room);
+    case 2: return QS_REPLY(CALL(character)(image, sizeof image, number_at(body), body[4], body[5], memory, memory_length, room, sizeof room));
+    case 3: return QS_REPLY(CALL(poll)(image, sizeof image, number_at(body), memory, memory_length, room, sizeof room));
     case 4: return CALL(measured)(image, sizeof image, number_at(body));
     case 5: return CALL(fault)(image, sizeof image, body[0]);
     case 6: return CALL(power_on)(image, sizeof image);

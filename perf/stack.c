@@ -105,7 +105,7 @@ static void good_inputs(void) {
     memcpy(request, image + QS_IMAGE_KEPT, request_length);
     image_length = sizeof image, memory_given = memory_length, room_length = sizeof room;
     tick = closing_tick;
-    reply_length = qs_poll(own_image, image_length, tick, own_memory, memory_given, reply, sizeof reply);
+    reply_length = QS_REPLY(qs_poll(own_image, image_length, tick, own_memory, memory_given, reply, sizeof reply));
 }
 
 /* One way: as it is, then with each thing wrong that is refused, or too early. */
