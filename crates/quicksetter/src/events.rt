@@ -193,9 +193,10 @@ pub extern "C" fn qs_character(
     if room.len() < LONGEST_REPLY {
         return NOT_CALLED + 3;
     }
+    let full = plate.full_pause();
     let sent = polled(image, tick, memory, room);
     image::take_character(tick, value, is_fault(parity), &mut image[CORE..LENGTH]);
-    answer_number(plate.full_pause(), sent)
+    answer_number(full, sent)
 }
 
 #[no_mangle]

@@ -175,9 +175,20 @@ returns-5 c =
     (too-narrow _ _ _ _ (sym (after-is-possible .is-possible .ensures _ (ours-label _ (ours (after-if1)))) ∙ not-false _ (after-if2 .if2 .left)) (sym (after-is-sound .is-sound .ensures) ∙ not-false _ (after-if3 .if3 .left))
     (c .before .if4 .left ∙ after-memory-length .memory-length .ensures) (c .if5 .taken)) some-refusal)
 
+full-pause-requires : tie.Need-full-pause-requires
+full-pause-requires c κs = search needs
+
+-- the full pause of the image's plate
+full : (c : tie.After-full-pause) → c .full-pause .result ≡ fullPause (plateHeld (now (start5 (c .before) .args .image)))
+full c =
+    let after-if5 = c .before in
+    let after-plate-in = after-if5 .before .before .before .before .before .before .before .before .before .before .before in
+    let img = now (start5 after-if5 .args .image) in
+    c .full-pause .ensures (labelIn img) ∙ ap (λ (q : Plate). fullPause (plateOf q (labelIn img))) (after-plate-in .plate-in .ensures)
+
 polled-requires : tie.Need-polled-requires
 polled-requires c κs =
-    let after-if5 = c .before .before .before in
+    let after-if5 = c .before .before .before .before in
     fine (after-if5)
 
 is-fault-requires : tie.Need-is-fault-requires
@@ -192,32 +203,20 @@ part-take-character-start c = search needs
 part-take-character-end : tie.Need-part-take-character-end
 part-take-character-end c =
     let after-polled = c .before .before .before .before .before .before .before in
-    let after-if5 = after-polled .before .before .before .before in
+    let after-if5 = after-polled .before .before .before .before .before in
     omega (arith, as-long _ _ _ (fine (after-if5)) _ (after-polled .polled .ensures))
 
 take-character-requires : tie.Need-take-character-requires
 take-character-requires c κs =
     let after-polled = c .before .before .before .before .before .before .before .before in
-    let after-if5 = after-polled .before .before .before .before in
+    let after-if5 = after-polled .before .before .before .before .before in
     lent-still _ _ _ (fine (after-if5)) _ (after-polled .polled .ensures)
 
-full-pause-requires : tie.Need-full-pause-requires
-full-pause-requires c κs = search needs
-
-abbrev else5 : tie.After-full-pause → tie.Else5
-else5 c =
-    let after-polled = c .before .before .before .before .before .before .before .before .before .before .before .before in
-    after-polled .before .before .before .before
-
--- the full pause of the image's plate
-full : (c : tie.After-full-pause) → c .full-pause .result ≡ fullPause (plateHeld (now (start5 (else5 c) .args .image)))
-full c =
-    let after-plate-in = else5 c .before .before .before .before .before .before .before .before .before .before .before in
-    let img = now (start5 (else5 c) .args .image) in
-    c .full-pause .ensures (labelIn img) ∙ ap (λ (q : Plate). fullPause (plateOf q (labelIn img))) (after-plate-in .plate-in .ensures)
-
 answer-number-requires : tie.Need-answer-number-requires
-answer-number-requires c κs = rw (full c) (low-pause _ (fine (else5 c) .core .plate))
+answer-number-requires c κs =
+    let after-polled = c .before .before .before .before .before .before .before .before .before .before .before in
+    let after-full-pause = after-polled .before .before .before .before in
+    rw (full after-full-pause) (low-pause _ (fine (after-full-pause .before) .core .plate))
 
 same-length-6 : tie.Need-same-length-6
 same-length-6 c = search needs
@@ -230,12 +229,12 @@ same-length-8 c = search needs
 
 returns-6 : tie.Need-returns-6
 returns-6 c =
-    let after-full-pause = c .before in
-    let after-take-character = after-full-pause .before .before .before in
+    let after-take-character = c .before .before .before in
     let after-is-fault = after-take-character .before .before in
     let after-slice-known4 = after-is-fault .before .before .before .before .before in
     let after-polled = after-slice-known4 .before .before in
-    let u = fine (after-polled .before .before .before .before) in
+    let after-full-pause = after-polled .before .before .before .before in
+    let u = fine (after-full-pause .before) in
     let r = character-whole _ _ _ u _ (after-polled .polled .ensures) _ (after-is-fault .is-fault .ensures) (λ i. (after-slice-known4 .slice-known4 .given i) .fits) (after-take-character .take-character .ensures) in
     rw (c .answer-number .ensures, full after-full-pause) (with-sleep _ _ _ _ r (full-sleep _ _ _ u _ _ _))
 
@@ -269,13 +268,13 @@ qs-character-spec =
     add-result-5
     same-length-5
     returns-5
+    full-pause-requires
     polled-requires
     is-fault-requires
     sub-take-character
     part-take-character-start
     part-take-character-end
     take-character-requires
-    full-pause-requires
     answer-number-requires
     same-length-6
     same-length-7
