@@ -145,9 +145,13 @@ impl Board {
                 parity,
             } => (
                 tick,
-                board::character(plate, state, tick, value, parity, memory, room),
+                board::character(plate, state, tick, value, parity, memory, room)
+                    .map(|heard| heard.reply),
             ),
-            Record::Poll { tick } => (tick, board::poll(plate, state, tick, memory, room)),
+            Record::Poll { tick } => (
+                tick,
+                board::poll(plate, state, tick, memory, room).map(|heard| heard.reply),
+            ),
             Record::Measured(position) => (0, board::measured(plate, state, position).map(|()| 0)),
             Record::Fault(code) => (0, board::fault(plate, state, code).map(|()| 0)),
             Record::PowerOn => (0, board::power_on(plate, state).map(|()| 0)),
