@@ -642,6 +642,34 @@ class Session:
             # Only as far as a poll since the last character.
             self.waited -= back
 
+    def pause_polls(self):
+        """When a pause is polled, in ticks after the last character: within it, then past it."""
+        rng, closing = self.rng, self.closing
+        within = [rng.randrange(closing) for _ in range(rng.randrange(4))]
+        # Out of order they step the clock back, but not behind the last character.
+        if self.chance(0.7):
+            within.sort()
+        return within + rng.choice(([closing - 1, closing], [closing], [closing + 1],
+                                    [self.long_gap()], [WRAP - 1], [WRAP - rng.randint(2, 5000)]))
+
+    def polled_request(self, stamp):
+        """A whole request, its last character at the tick `stamp`, and polls until it is closed."""
+        tape, pace = self.tape, 11 * self.ticks
+        command = self.choose_command()
+        data = sealed(bytes((0x40 + self.address, command)) + self.request_data(command))
+        tape.tick = (stamp - pace * len(data)) % WRAP
+        for value in data:
+            tape.character(pace, value)
+        self.settled = self.picture()
+        self.open = True
+        for gap in self.pause_polls():
+            if self.chance(0.1):
+                self.interrupt()
+            tape.poll(stamp + gap - tape.tick)
+        if self.open:
+            self.note_frame(data)
+        self.open = False
+
 
 def choose_plate(rng, small=False):
     total = rng.choice((1, 2, 3, 8, 8, 16)) if small else rng.choice(
@@ -709,6 +737,15 @@ def long_tape(rng):
             session.full_store()
         else:
             session.step_back()
+    return session.tape.bytes()
+
+
+def pause_tape(rng):
+    """Pauses that are polled all through, half of them over the wrap of the tick."""
+    session = Session(rng, choose_plate(rng), MIXED, 0.0, choose_tick(rng))
+    for _ in range(rng.randint(40, 120)):
+        session.polled_request(rng.choice((rng.randrange(WRAP),
+                                           WRAP - rng.randint(1, session.closing))))
     return session.tape.bytes()
 
 
@@ -826,6 +863,8 @@ def make_tape(seed, index):
     if slot == 9:
         # One giant tape in some hundreds.
         return (giant_tape(rng) if turn % 8 == 0 else long_tape(rng)), False
+    if slot == 10:
+        return pause_tape(rng), False
     if slot < 13:
         return long_tape(rng), False
     if slot < 15:

@@ -1,8 +1,8 @@
-//! The answer program: reads a tape record by record, works it on a board, prints the replies.
+//! The answer program: reads a tape record by record, works it on a board, prints what it answers.
 
 use std::io::{self, BufRead, ErrorKind, Write};
 
-use crate::{board, Label, Plate, State, REPLY_ROOM};
+use crate::{board, Heard, Label, Plate, Remaining, State, REPLY_ROOM};
 
 /// No record that fits has more after its length than a character: kind 2, tick 4, value, parity.
 const LONGEST: usize = 8;
@@ -33,8 +33,29 @@ struct Board {
     room: [u8; REPLY_ROOM],
 }
 
-/// Reads the whole tape and prints the answers to it.
+/// What a character or a poll of the tape was answered with.
+struct Answered<'b> {
+    tick: u32,
+    remaining: Remaining,
+    reply: &'b [u8],
+}
+
+/// Prints the line of one answer, if it has one.
+type Print<W> = fn(Answered, &mut W) -> io::Result<()>;
+
+/// Reads the whole tape and prints the replies to it.
 pub fn answer(tape: &mut impl BufRead, out: &mut impl Write) -> io::Result<()> {
+    read_tape(tape, out, print_reply)
+}
+
+/// Reads the whole tape and prints the remaining ticks that each character and each poll was
+/// answered with (02, Req 03), since the replies do not show them (reading 3.9).
+pub fn remaining(tape: &mut impl BufRead, out: &mut impl Write) -> io::Result<()> {
+    read_tape(tape, out, print_remaining)
+}
+
+/// The tape's run, the same whatever is printed of its answers.
+fn read_tape<W: Write>(tape: &mut impl BufRead, out: &mut W, print: Print<W>) -> io::Result<()> {
     out.write_all(b"tick reply\n")?;
     let mut place = 0;
     let mut board: Option<Board> = None;
@@ -50,7 +71,11 @@ pub fn answer(tape: &mut impl BufRead, out: &mut impl Write) -> io::Result<()> {
                 board = Some(Board::fresh(plate));
             }
             (None, _) | (Some(_), Record::Plate(_)) => return writeln!(out, "bad {place}"),
-            (Some(board), event) => board.take(event, out)?,
+            (Some(board), event) => {
+                if let Some(answered) = board.take(event) {
+                    print(answered, out)?;
+                }
+            }
         }
         place += length;
     }
@@ -130,40 +155,46 @@ impl Board {
         }
     }
 
-    /// Works one event and prints its reply, if it has one.
-    fn take(&mut self, event: Record, out: &mut impl Write) -> io::Result<()> {
+    /// Works one event; only "each character's and poll's answer carries" something (reading 3.5).
+    fn take(&mut self, event: Record) -> Option<Answered<'_>> {
         let Board {
             plate,
             state,
             memory,
             room,
         } = self;
-        let (tick, worked) = match event {
+        let worked = match event {
             Record::Character {
                 tick,
                 value,
                 parity,
-            } => (
-                tick,
-                board::character(plate, state, tick, value, parity, memory, room),
-            ),
-            Record::Poll { tick } => (tick, board::poll(plate, state, tick, memory, room)),
-            Record::Measured(position) => (0, board::measured(plate, state, position).map(|()| 0)),
-            Record::Fault(code) => (0, board::fault(plate, state, code).map(|()| 0)),
-            Record::PowerOn => (0, board::power_on(plate, state).map(|()| 0)),
-            Record::Plate(_) => return Ok(()),
+            } => board::character(plate, state, tick, value, parity, memory, room)
+                .map(|heard| Some((tick, heard))),
+            Record::Poll { tick } => {
+                board::poll(plate, state, tick, memory, room).map(|heard| Some((tick, heard)))
+            }
+            Record::Measured(position) => board::measured(plate, state, position).map(|()| None),
+            Record::Fault(code) => board::fault(plate, state, code).map(|()| None),
+            Record::PowerOn => board::power_on(plate, state).map(|()| None),
+            Record::Plate(_) => Ok(None),
         };
-        let length = worked.expect("a good plate, its fresh state and its buffers are not refused");
-        if length > 0 {
-            print_reply(tick, &room[..length], out)?;
-        }
-        Ok(())
+        let (tick, Heard { reply, remaining }) =
+            worked.expect("a good plate, its fresh state and its buffers are not refused")?;
+        Some(Answered {
+            tick,
+            remaining,
+            reply: &room[..reply],
+        })
     }
 }
 
 /// "The event's tick in decimal and the bytes in hex": upper case, single spaces (reading 32).
-fn print_reply(tick: u32, reply: &[u8], out: &mut impl Write) -> io::Result<()> {
+fn print_reply(answered: Answered, out: &mut impl Write) -> io::Result<()> {
     const DIGITS: &[u8; 16] = b"0123456789ABCDEF";
+    let Answered { tick, reply, .. } = answered;
+    if reply.is_empty() {
+        return Ok(());
+    }
     let mut text = [b' '; 3 * REPLY_ROOM];
     for (place, byte) in text.chunks_exact_mut(3).zip(reply) {
         place[1] = DIGITS[usize::from(byte >> 4)];
@@ -172,4 +203,13 @@ fn print_reply(tick: u32, reply: &[u8], out: &mut impl Write) -> io::Result<()> 
     write!(out, "{tick}")?;
     out.write_all(&text[..3 * reply.len()])?;
     out.write_all(b"\n")
+}
+
+/// The event's tick in decimal, then its remaining ticks in decimal, or `none` for no frame open.
+fn print_remaining(answered: Answered, out: &mut impl Write) -> io::Result<()> {
+    let tick = answered.tick;
+    match answered.remaining {
+        Remaining::NoFrameOpen => writeln!(out, "{tick} none"),
+        Remaining::Ticks(ticks) => writeln!(out, "{tick} {ticks}"),
+    }
 }

@@ -2,7 +2,7 @@
 
 use crate::request::Request;
 use crate::work::{work, Answer, ErrorCode};
-use crate::{checksum, Plate, Refusal, State, BROADCAST_BYTE};
+use crate::{checksum, Plate, Refusal, Remaining, State, BROADCAST_BYTE};
 
 /// The least room for a reply: address, command, three numbers, 128 bytes, checksum.
 pub const REPLY_ROOM: usize = 134;
@@ -10,13 +10,24 @@ pub const REPLY_ROOM: usize = 134;
 const ERROR_COMMAND: u8 = 0x50;
 const WARNING_BIT: u8 = 0x80;
 
+/// What a character or a poll is answered with, unless it is refused: a refused call has no
+/// remaining ticks (reading 3.6).
+#[derive(Clone, Copy, Debug, PartialEq, Eq)]
+pub struct Heard {
+    /// The length of the reply at the front of the room, 0 for none.
+    pub reply: usize,
+    /// How long the open frame still waits, "as it stands after the call" (02, Req 03). Never 0
+    /// ticks: once the pause is over a poll closes the frame, and a character opens the next one
+    /// (reading 3.3).
+    pub remaining: Remaining,
+}
+
 /// Whether every plate and state number keeps its limit, else R1.
 pub fn within_limits(plate: &Plate, state: &State) -> bool {
     plate.within_limits() && state.within_limits(plate)
 }
 
-/// A character came, stamped at its end. Answers the length of the reply at the front of the room,
-/// 0 for none. A refusal changes nothing.
+/// A character came, stamped at its end. A refusal changes nothing.
 pub fn character(
     plate: &Plate,
     state: &mut State,
@@ -25,12 +36,12 @@ pub fn character(
     parity: bool,
     memory: &mut [u8],
     room: &mut [u8],
-) -> Result<usize, Refusal> {
+) -> Result<Heard, Refusal> {
     check_buffers(plate, state, memory, room)?;
     // The reply is the old frame's; "such a character then opens the next frame" (reading 8).
-    let length = close_when_due(plate, state, tick, memory, room);
+    let reply = close_when_due(plate, state, tick, memory, room);
     state.take_character(tick, value, parity);
-    Ok(length)
+    Ok(heard(plate, state, tick, reply))
 }
 
 /// The host looks whether a frame has ended. Answers as `character` does; "a poll with no frame
@@ -41,9 +52,10 @@ pub fn poll(
     tick: u32,
     memory: &mut [u8],
     room: &mut [u8],
-) -> Result<usize, Refusal> {
+) -> Result<Heard, Refusal> {
     check_buffers(plate, state, memory, room)?;
-    Ok(close_when_due(plate, state, tick, memory, room))
+    let reply = close_when_due(plate, state, tick, memory, room);
+    Ok(heard(plate, state, tick, reply))
 }
 
 /// The host gives the measured position, any 32-bit number.
@@ -96,12 +108,20 @@ fn close_when_due(
     memory: &mut [u8],
     room: &mut [u8],
 ) -> usize {
-    if !state.frame_ends(plate, tick) {
+    if state.remaining(plate, tick) != Remaining::Ticks(0) {
         return 0;
     }
     let length = judge_frame(plate, state, memory, room);
     state.drop_frame();
     length
+}
+
+/// The answer of a call at `tick`, when all else of it is done.
+fn heard(plate: &Plate, state: &State, tick: u32, reply: usize) -> Heard {
+    Heard {
+        reply,
+        remaining: state.remaining(plate, tick),
+    }
 }
 
 /// "A closed frame is then judged in this order": step 1, and the reply to the other steps.

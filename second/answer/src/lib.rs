@@ -1,7 +1,7 @@
 //! The library: the board (plate, state, memory), the bench, and the reader of tapes behind the answer program.
 //!
 //! Lines in quotation marks are document 01's own words, or those of the paper named beside them;
-//! "reading N" is entry N of the readings, 1.N one of those of document 02's request 01.
+//! "reading N" is entry N of the readings, "reading M.N" one of those of document 02's request M.
 
 #![forbid(unsafe_code)]
 
@@ -17,12 +17,12 @@ mod state;
 mod work;
 
 pub use bench::{data_part, judge, write_request, Verdict, BROADCAST, REQUEST_ROOM};
-pub use board::{character, fault, measured, poll, power_on, within_limits, REPLY_ROOM};
+pub use board::{character, fault, measured, poll, power_on, within_limits, Heard, REPLY_ROOM};
 pub use label::{Label, LABEL_LENGTH};
 pub use plate::Plate;
 pub use refusal::Refusal;
 pub use request::Request;
-pub use state::{State, KEPT_LIMIT, QUEUE_LIMIT};
+pub use state::{Remaining, State, KEPT_LIMIT, QUEUE_LIMIT};
 pub use work::ErrorCode;
 
 /// "The checksum is the XOR of all bytes before it" (01; 000, 2.3.3).

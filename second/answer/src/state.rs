@@ -11,6 +11,15 @@ const ADDRESS_LIMIT: u32 = 31;
 const COUNTER_LIMIT: u32 = 0xFF_FFFF;
 const COUNTER_OVERFLOW: u8 = 0x08;
 
+/// How long an open frame still waits for a character (02, Req 03).
+#[derive(Clone, Copy, Debug, PartialEq, Eq)]
+pub enum Remaining {
+    /// "A named 'no frame open' when there is none."
+    NoFrameOpen,
+    /// "How many ticks remain: 0 when over." A frame is over exactly at 0 (reading 3.1).
+    Ticks(u32),
+}
+
 /// All that a board remembers besides its lent memory.
 ///
 /// Places without meaning follow one rule each: a queue place that falls free becomes 00h, and
@@ -170,9 +179,15 @@ impl State {
         self.offset = wanted.wrapping_sub(self.measured) & plate.position_mask();
     }
 
-    /// Whether the open frame, if any, ends at `tick`; "a gap is taken modulo 2^32".
-    pub fn frame_ends(&self, plate: &Plate, tick: u32) -> bool {
-        self.open && tick.wrapping_sub(self.last_stamp) >= plate.closing_gap()
+    /// How many ticks of its pause the open frame, if any, has left at `tick` (reading 3.1). "A gap
+    /// is taken modulo 2^32", so a clock that was stepped back reads as a pause long over (reading
+    /// 3.2).
+    pub fn remaining(&self, plate: &Plate, tick: u32) -> Remaining {
+        if !self.open {
+            return Remaining::NoFrameOpen;
+        }
+        let gap = tick.wrapping_sub(self.last_stamp);
+        Remaining::Ticks(plate.closing_gap().saturating_sub(gap))
     }
 
     /// Adds a character to the open frame, or opens one with it. Every character stamps (reading 9).

@@ -3,14 +3,18 @@
 #![allow(dead_code)]
 
 use second::{
-    character, fault, measured, poll, power_on, Label, Plate, Refusal, State, REPLY_ROOM,
+    character, fault, measured, poll, power_on, Heard, Label, Plate, Refusal, Remaining, State,
+    REPLY_ROOM,
 };
 
+#[derive(Clone)]
 pub struct Rig {
     pub plate: Plate,
     pub state: State,
     pub memory: Vec<u8>,
     pub tick: u32,
+    /// What the answer of the last character or poll said.
+    pub remaining: Remaining,
 }
 
 /// The sheet's board: address 0, pause 55, 4 ticks a bit, 24 position bits.
@@ -45,6 +49,7 @@ impl Rig {
             state: State::fresh(&plate),
             memory: vec![0; plate.memory_length()],
             tick: 0,
+            remaining: Remaining::NoFrameOpen,
         }
     }
 
@@ -56,7 +61,7 @@ impl Rig {
     pub fn character(&mut self, gap: u32, value: u8, parity: bool) -> Vec<u8> {
         self.tick = self.tick.wrapping_add(gap);
         let mut room = [0xEE; REPLY_ROOM];
-        let length = character(
+        let heard = character(
             &self.plate,
             &mut self.state,
             self.tick,
@@ -66,14 +71,14 @@ impl Rig {
             &mut room,
         )
         .expect("not refused");
-        taken(&room, length)
+        self.taken(&room, heard)
     }
 
     /// A poll `gap` ticks after the last event.
     pub fn poll(&mut self, gap: u32) -> Vec<u8> {
         self.tick = self.tick.wrapping_add(gap);
         let mut room = [0xEE; REPLY_ROOM];
-        let length = poll(
+        let heard = poll(
             &self.plate,
             &mut self.state,
             self.tick,
@@ -81,7 +86,17 @@ impl Rig {
             &mut room,
         )
         .expect("not refused");
-        taken(&room, length)
+        self.taken(&room, heard)
+    }
+
+    /// The reply, and a look that the rest of the room is untouched and that the remaining ticks
+    /// are the state's after the call, never 0 (reading 3.3).
+    fn taken(&mut self, room: &[u8], heard: Heard) -> Vec<u8> {
+        assert!(room[heard.reply..].iter().all(|&byte| byte == 0xEE));
+        self.remaining = heard.remaining;
+        assert_eq!(self.remaining, self.state.remaining(&self.plate, self.tick));
+        assert_ne!(self.remaining, Remaining::Ticks(0));
+        room[..heard.reply].to_vec()
     }
 
     /// The characters of a frame, left open.
@@ -127,10 +142,4 @@ impl Rig {
     pub fn power_on(&mut self) {
         power_on(&self.plate, &mut self.state).expect("not refused");
     }
-}
-
-/// The reply, and a look that the rest of the room is untouched.
-fn taken(room: &[u8], length: usize) -> Vec<u8> {
-    assert!(room[length..].iter().all(|&byte| byte == 0xEE));
-    room[..length].to_vec()
 }
