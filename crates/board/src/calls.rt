@@ -70,7 +70,7 @@ pub fn poll(
     if refused.is_refusal() {
         return stepped(state, frame, refused, Carried::Nothing);
     }
-    let left = frame.remaining(plate, tick);
+    let left = frame.remaining(plate.full_pause(), tick);
     if left.is_over() {
         let closed = close(plate, label, state, frame, kept, memory, room);
         let next = closed.state;

@@ -26,7 +26,7 @@ impl Board {
         ensures { λ r. ⌜ ((kept l : List ℕ) → remainingOf r ≡ remaining (plateOf plate l) (stateOf self kept) tick) ⌝ }
     {
         let frame = self.frame;
-        frame.remaining(plate, tick)
+        frame.remaining(plate.full_pause(), tick)
     }
 
     // A character that closes no frame, taken in.

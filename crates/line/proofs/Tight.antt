@@ -1,5 +1,5 @@
 -- No two differing outcomes satisfy a contract of this crate (01, "How tightly the contracts bind"). Assumes nothing.
-use Prim.Native.Nat.{ℕ, _≤_}
+use Prim.Native.Nat.{ℕ, _*_, _≤_}
 use native.Mathlib.Omega.{arith}
 use mathlib.Core.Path.{_≡_, refl, sym, ap, _∙_}
 use mathlib.Core.Bool.{Bool}
@@ -56,12 +56,18 @@ back-and-there (ticks-left n) = refl
 pub same-remaining : (a b : Remaining) → remainingOf a ≡ remainingOf b → a ≡ b
 same-remaining a b e = sym (there-and-back a) ∙ ap remainingBack e ∙ there-and-back b
 
-pub remaining-tight : (p : Plate) (f : OpenFrame) (t : ℕ) (a b : Remaining) → ((s : meaning.State) (k l : List ℕ) → s .line ≡ lineOf f k → remainingOf a ≡ remaining (plateOf p l) s t)
-    → ((s : meaning.State) (k l : List ℕ) → s .line ≡ lineOf f k → remainingOf b ≡ remaining (plateOf p l) s t) → a ≡ b
-unfolding withLine
-remaining-tight p f t a b h i =
-    let s : meaning.State = withLine (fresh (plateOf p [])) (lineOf f []) in
-    same-remaining a b (h s [] [] refl ∙ sym (i s [] [] refl))
+-- a plate with any pause
+abbrev pausing : ℕ → meaning.Plate
+pausing n = record { total = 0; bits = 0; address = 0; ticks = 1; pause = n; label = [] }
+
+pub remaining-tight : (n : ℕ) (f : OpenFrame) (t : ℕ) (a b : Remaining)
+    → ((p : meaning.Plate) (s : meaning.State) (k : List ℕ) → n ≡ fullPause p → s .line ≡ lineOf f k → remainingOf a ≡ remaining p s t)
+    → ((p : meaning.Plate) (s : meaning.State) (k : List ℕ) → n ≡ fullPause p → s .line ≡ lineOf f k → remainingOf b ≡ remaining p s t) → a ≡ b
+unfolding withLine fullPause
+remaining-tight n f t a b h i =
+    let s : meaning.State = withLine (fresh (pausing n)) (lineOf f []) in
+    let e : n ≡ n * 1 = omega arith in
+    same-remaining a b (h (pausing n) s [] e refl ∙ sym (i (pausing n) s [] e refl))
 
 pub full-pause-tight : (p : Plate) (a b : ℕ) → ((l : List ℕ) → a ≡ fullPause (plateOf p l)) → ((l : List ℕ) → b ≡ fullPause (plateOf p l)) → a ≡ b
 full-pause-tight p a b h i = h [] ∙ sym (i [])

@@ -3,10 +3,9 @@ ghost use mathlib.Core.Path.{_≡_};
 ghost use mathlib.Core.List.{List};
 ghost use Prim.Native.Nat.{ℕ};
 ghost use Rattle.meaning.specs.Bytes.{pick};
-ghost use Rattle.meaning.specs.State.{State, none};
-ghost use Rattle.meaning.specs.Characters.{remaining, ranOut, more};
-ghost use Rattle.line.specs.Line.{plateOf, lineOf, remainingOf, noFrame, Fits, Starts, Extends};
-use crate::plate::Plate;
+ghost use Rattle.meaning.specs.State.{Plate, State, none};
+ghost use Rattle.meaning.specs.Characters.{fullPause, remaining, ranOut, more};
+ghost use Rattle.line.specs.Line.{lineOf, remainingOf, noFrame, Fits, Starts, Extends};
 use crate::stamps::gap;
 use wire::codes::LONGEST_REQUEST;
 
@@ -53,19 +52,19 @@ impl OpenFrame {
         }
     }
 
-    // The one number that character and poll share. Ruling of 01: equality closes, so that it is 0 then.
-    pub fn remaining(self, plate: Plate, tick: u32) -> Remaining
-        ensures { λ r. ⌜ ((s : State) (kept l : List ℕ) → s .line ≡ lineOf self kept → remainingOf r ≡ remaining (plateOf plate l) s tick) ⌝ }
+    // The one number that character and poll share; `pause` is the plate's full pause. Ruling of 01: equality closes, so that it is 0 then.
+    pub fn remaining(self, pause: u64, tick: u32) -> Remaining
+        ensures { λ r. ⌜ ((p : Plate) (s : State) (kept : List ℕ) → pause ≡ fullPause p → s .line ≡ lineOf self kept → remainingOf r ≡ remaining p s tick) ⌝ }
     {
         if !self.begun {
             return Remaining::NoFrameOpen;
         }
-        let pause = plate.full_pause();
         let since = gap(self.last, tick) as u64;
         if pause <= since {
             return Remaining::TicksLeft(0);
         }
-        Remaining::TicksLeft(pause - since)
+        let left = pause - since;
+        Remaining::TicksLeft(left)
     }
 }
 

@@ -9,7 +9,7 @@ use lib.Seq.{take-at}
 use Rattle.meaning.specs.Bytes.{pick, arg}
 use Rattle.meaning.specs.State.{none}
 use Rattle.meaning.specs.Characters as characters
-use Rattle.meaning.specs.Characters.{remaining, over, more}
+use Rattle.meaning.specs.Characters.{fullPause, remaining, over, more}
 use Rattle.meaning.specs.Fields.{memoryLength}
 use Rattle.meaning.specs.Run.{Call, character, poll, lends}
 use Rattle.line.specs.declared.plate.Plate as line
@@ -28,6 +28,11 @@ some-refusal e = omega (arith, e)
 
 pub joined : (img : List ℕ) → img ≡ headIn img ++ coreIn img
 joined img = sym (take-append-drop 47 img)
+
+-- what remains of the frame of the core that was lent
+pub remaining-so : (img : List ℕ) (tick : ℕ) {r : characters.Remaining} → isOurs img ≡ true → r ≡ remaining (plateHeld img) (heldIn (take 165 (drop 47 img))) tick
+    → r ≡ remaining (plateHeld img) (stateHeld img) tick
+remaining-so img tick e r = rw (lent-core img (ours-length img e)) at r
 
 -- of an image with our head, whose plate was read and whose core was lent
 module _ (img m w : List ℕ) (e : isOurs img ≡ true) {p : line.Plate} (q : p ≡ plateOfHead img) where
@@ -51,8 +56,8 @@ module _ (img m w : List ℕ) (e : isOurs img ≡ true) {p : line.Plate} (q : p 
       let k : 0 ≡ refusalIn (plateHeld img) (coreIn img) (length m) (length w) = rw (q, lent-core img all) at r in
       record { ours = e; core = unrefused (plateHeld img) (coreIn img) (length m) (length w) k }
 
-  pub remaining-so : (tick : ℕ) {r : characters.Remaining} → r ≡ remaining (plateOf p (labelIn img)) (heldIn (take 165 (drop 47 img))) tick → r ≡ remaining (plateHeld img) (stateHeld img) tick
-  remaining-so tick r = rw (q, lent-core img all) at r
+  pub pause-so : {n : ℕ} → ((l : List ℕ) → n ≡ fullPause (plateOf p l)) → n ≡ fullPause (plateHeld img)
+  pause-so r = r (labelIn img) ∙ ap (λ (x : line.Plate). fullPause (plateOf x (labelIn img))) q
 
 -- of an image that is not refused
 module _ (img m w : List ℕ) (u : ImageUnrefused img (length m) (length w)) (tick : ℕ) where

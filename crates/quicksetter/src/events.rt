@@ -4,15 +4,16 @@ ghost use mathlib.Core.List.{List};
 ghost use Prim.Native.Nat.{ℕ, _+_, _≤_};
 ghost use lib.ListN.{length};
 ghost use Rattle.meaning.specs.Bytes.{differ};
+ghost use Rattle.meaning.specs.State as meaning;
 ghost use Rattle.meaning.specs.State.{labelLength, lastAddress, apart, none, ownByte};
-ghost use Rattle.meaning.specs.Characters.{remaining};
+ghost use Rattle.meaning.specs.Characters.{fullPause, remaining};
 ghost use Rattle.meaning.specs.Demands.{waits};
 ghost use Rattle.meaning.specs.Run as run;
 ghost use Rattle.line.specs.Line.{plateOf, remainingOf};
 ghost use Rattle.state.specs.Queue.{queueOf};
 ghost use Rattle.state.specs.State.{stateWith};
 ghost use Rattle.image.specs.Image.{keptAt, coreLength, stateIn, heldIn};
-ghost use Rattle.quicksetter.specs.Calls.{CalledWithSleep};
+ghost use Rattle.quicksetter.specs.Calls.{plateHeld, CalledWithSleep};
 ghost use Rattle.quicksetter.specs.Cores.{possible, ImageUnrefused, ImageServable, ImageServed, ImageAnswered, ImageShuts, ImagePolls};
 use crate::given::NO_FRAME_OPEN;
 use crate::given::NOT_CALLED;
@@ -72,13 +73,13 @@ fn waits(core: &[u8]) -> bool
     wire::number_at(core, WAITING) != 0
 }
 
-// How much of the core's open frame remains at that tick.
-fn remaining(core: &[u8], tick: u32, plate: Plate) -> Remaining
+// How much of the pause of the core's open frame remains at that tick.
+fn remaining(core: &[u8], tick: u32, pause: u64) -> Remaining
     requires { ⌜ coreLength ≤ length (now core) ⌝ }
-    ensures { λ r. ⌜ ((l : List ℕ) → remainingOf r ≡ remaining (plateOf plate l) (heldIn (now (core .entry))) tick) ⌝ }
+    ensures { λ r. ⌜ ((p : meaning.Plate) → pause ≡ fullPause p → remainingOf r ≡ remaining p (heldIn (now (core .entry))) tick) ⌝ }
 {
     let frame = image::frame_in(core);
-    frame.remaining(plate, tick)
+    frame.remaining(pause, tick)
 }
 
 // The board's address byte.
@@ -147,12 +148,12 @@ fn shut(image: &mut [u8], memory: &mut [u8], room: &mut [u8]) -> u8
 }
 
 // What a character finds done by its tick, as a poll would do it.
-fn polled(image: &mut [u8], tick: u32, memory: &mut [u8], room: &mut [u8]) -> u8
+fn polled(image: &mut [u8], tick: u32, pause: u64, memory: &mut [u8], room: &mut [u8]) -> u8
     requires { ⌜ ImageUnrefused (now image) (length (now memory)) (length (now room)) ⌝ }
+    requires { ⌜ pause ≡ fullPause (plateHeld (now image)) ⌝ }
     ensures { λ r. ⌜ ImagePolls (now (image .entry)) (now (memory .entry)) (now (room .entry)) tick r (now (image .exit)) (now (memory .exit)) (now (room .exit)) ⌝ }
 {
-    let plate = image::plate_in(image);
-    let left = remaining(&image[CORE..LENGTH], tick, plate);
+    let left = remaining(&image[CORE..LENGTH], tick, pause);
     if left.is_over() {
         return shut(image, memory, room);
     }
@@ -194,7 +195,7 @@ pub extern "C" fn qs_character(
         return NOT_CALLED + 3;
     }
     let full = plate.full_pause();
-    let sent = polled(image, tick, memory, room);
+    let sent = polled(image, tick, full, memory, room);
     image::take_character(tick, value, is_fault(parity), &mut image[CORE..LENGTH]);
     answer_number(full, sent)
 }
@@ -219,7 +220,7 @@ pub extern "C" fn qs_poll(image: &mut [u8], tick: u32, memory: &mut [u8], room: 
     if room.len() < LONGEST_REPLY {
         return NOT_CALLED + 3;
     }
-    let left = remaining(&image[CORE..LENGTH], tick, plate);
+    let left = remaining(&image[CORE..LENGTH], tick, plate.full_pause());
     if left.is_over() {
         return answer_number(NO_FRAME_OPEN, shut(image, memory, room));
     }

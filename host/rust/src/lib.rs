@@ -2,7 +2,7 @@
 
 pub mod dice;
 
-use second::{Label, Plate, Refusal, State, Verdict, LABEL_LENGTH};
+use second::{Heard, Label, Plate, Refusal, Remaining, State, Verdict, LABEL_LENGTH};
 
 /// Length of the image, and the places of its parts (host/quicksetter.h).
 pub const IMAGE_LENGTH: usize = 212;
@@ -118,6 +118,59 @@ fn result_of(number: u64) -> Result<usize, Refusal> {
     }
 }
 
+/// What a call tells: the reply's length, and that of a character and a poll how long the host may sleep.
+#[derive(Clone, Copy, Debug, PartialEq, Eq)]
+pub struct Told {
+    pub reply: usize,
+    pub sleep: Option<Remaining>,
+}
+
+impl Told {
+    /// No reply, of a call that tells no sleep.
+    pub const NOTHING: Told = Told {
+        reply: 0,
+        sleep: None,
+    };
+}
+
+impl From<Heard> for Told {
+    fn from(heard: Heard) -> Told {
+        Told {
+            reply: heard.reply,
+            sleep: Some(heard.remaining),
+        }
+    }
+}
+
+/// QS_NO_FRAME_OPEN, QS_SLEEP_REFUSED and QS_LONGEST_SLEEP of host/quicksetter.h.
+const NO_FRAME_OPEN: u32 = u32::MAX;
+const SLEEP_REFUSED: u32 = u32::MAX - 1;
+const LONGEST_SLEEP: u32 = 55 * 64;
+
+/// The two numbers of a character and a poll; any other number is an error of the library.
+fn told_of(number: u64) -> Result<Told, Refusal> {
+    let sleep = (number >> 32) as u32;
+    let reply = match result_of(number & 0xFFFF_FFFF) {
+        Err(refusal) if sleep == SLEEP_REFUSED => return Err(refusal),
+        Err(refusal) => panic!("{refusal:?} with a sleep of {sleep}"),
+        Ok(reply) => reply,
+    };
+    let remaining = match sleep {
+        NO_FRAME_OPEN => Remaining::NoFrameOpen,
+        1..=LONGEST_SLEEP => Remaining::Ticks(sleep),
+        _ => panic!("{sleep} is no sleep"),
+    };
+    Ok(Told {
+        reply,
+        sleep: Some(remaining),
+    })
+}
+
+/// A call that tells no sleep, and has no reply.
+fn untold(number: u64) -> Result<Told, Refusal> {
+    result_of(number).map(|reply| Told { reply, sleep: None })
+}
+
 /// One call of the board as the host makes it.
 #[derive(Clone, Copy, Debug, PartialEq, Eq)]
 pub enum Call {
@@ -186,24 +239,24 @@ pub fn call(
     image: &mut [u8],
     memory: &mut [u8],
     room: &mut [u8],
-) -> Result<usize, Refusal> {
+) -> Result<Told, Refusal> {
     let (i, il) = (image.as_mut_ptr(), image.len() as u64);
     let (m, ml) = (memory.as_mut_ptr(), memory.len() as u64);
     let (r, rl) = (room.as_mut_ptr(), room.len() as u64);
     // SAFETY: three exclusive slices, each valid for its length, so they neither overlap nor are null.
-    result_of(unsafe {
+    unsafe {
         match call {
             Call::Character {
                 tick,
                 value,
                 parity,
-            } => qs_character(i, il, tick, value, parity, m, ml, r, rl),
-            Call::Poll { tick } => qs_poll(i, il, tick, m, ml, r, rl),
-            Call::Measured(position) => qs_measured(i, il, position),
-            Call::Fault(code) => qs_fault(i, il, code),
-            Call::PowerOn => qs_power_on(i, il),
+            } => told_of(qs_character(i, il, tick, value, parity, m, ml, r, rl)),
+            Call::Poll { tick } => told_of(qs_poll(i, il, tick, m, ml, r, rl)),
+            Call::Measured(position) => untold(qs_measured(i, il, position)),
+            Call::Fault(code) => untold(qs_fault(i, il, code)),
+            Call::PowerOn => untold(qs_power_on(i, il)),
         }
-    })
+    }
 }
 
 /// The same call on the second program.
@@ -213,17 +266,18 @@ pub fn call_second(
     state: &mut State,
     memory: &mut [u8],
     room: &mut [u8],
-) -> Result<usize, Refusal> {
+) -> Result<Told, Refusal> {
+    let nothing = |()| Told::NOTHING;
     match call {
         Call::Character {
             tick,
             value,
             parity,
-        } => second::character(p, state, tick, value, parity != 0, memory, room),
-        Call::Poll { tick } => second::poll(p, state, tick, memory, room),
-        Call::Measured(position) => second::measured(p, state, position).map(|()| 0),
-        Call::Fault(code) => second::fault(p, state, code).map(|()| 0),
-        Call::PowerOn => second::power_on(p, state).map(|()| 0),
+        } => second::character(p, state, tick, value, parity != 0, memory, room).map(Told::from),
+        Call::Poll { tick } => second::poll(p, state, tick, memory, room).map(Told::from),
+        Call::Measured(position) => second::measured(p, state, position).map(nothing),
+        Call::Fault(code) => second::fault(p, state, code).map(nothing),
+        Call::PowerOn => second::power_on(p, state).map(nothing),
     }
 }
 

@@ -4,7 +4,7 @@ mod rig;
 
 use quicksetter_host::dice::Dice;
 use quicksetter_host::{
-    call, call_second, label_of, restart, state_of, Call, ADDRESS, CODES, LASTING, MEASURED, OPEN,
+    call, call_second, label_of, restart, state_of, Call, Told, ADDRESS, CODES, LASTING, MEASURED, OPEN,
 };
 use rig::board::Kind::{AtFormerAddress, AtNewAddress, Moved, MovedByBroadcast, NotMoved};
 use rig::board::{came_up, good_plate, none_refused, Board, Seen};
@@ -150,11 +150,11 @@ fn restart_both(dice: &mut Dice, board: &mut Board) {
     assert_eq!(restarted, Ok(0));
     for made in [Call::PowerOn, Call::Measured(position)] {
         let found = call_second(made, &plate, &mut state, &mut board.memory, &mut board.room);
-        assert_eq!(found, Ok(0));
+        assert_eq!(found, Ok(Told::NOTHING));
     }
     let made = Call::Measured(position);
     let found = call(made, &mut board.image, &mut board.memory, &mut board.room);
-    assert_eq!(found, Ok(0));
+    assert_eq!(found, Ok(Told::NOTHING));
     let (held, rested) = state_of(&board.image).expect("an image");
     assert_eq!((held, rested.meaning()), (plate, state.meaning()));
 }

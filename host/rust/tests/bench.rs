@@ -63,8 +63,8 @@ impl Answerer {
                 .expect("not refused");
         }
         let closing = plate.closing_gap();
-        let length = second::poll(plate, state, closing, memory, &mut room).expect("not refused");
-        room[..length].to_vec()
+        let heard = second::poll(plate, state, closing, memory, &mut room).expect("not refused");
+        room[..heard.reply].to_vec()
     }
 }
 

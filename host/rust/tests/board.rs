@@ -1,4 +1,4 @@
-//! The board's entries beside the second program's, call by call: result, state image, memory and reply room.
+//! The board's entries beside the second program's, call by call: result, how long to sleep, state image, memory and reply room.
 
 mod rig;
 
@@ -8,8 +8,8 @@ use quicksetter_host::{
     LOCKED, OFFSET, PLATE, WAITING,
 };
 use rig::board::Kind::{
-    AtFormerAddress, AtNewAddress, Deleted, Error, Moved, MovedByBroadcast, NotDeleted, NotMoved,
-    Refused, Reply, Silence,
+    AtFormerAddress, AtNewAddress, Deleted, Error, FullPause, LastTick, Moved, MovedByBroadcast,
+    NoFrameOpen, NotDeleted, NotMoved, PartOfPause, Refused, Reply, Silence,
 };
 use rig::board::{
     any_call, bad_plate, came_up, good_plate, none_refused, some_label_bytes, some_length, Board,
@@ -54,6 +54,8 @@ fn traffic() {
     came_up(&seen, 500, &[Deleted, NotDeleted(0x0D)]);
     let others = [NotDeleted(0x0F), NotDeleted(0x10), NotDeleted(0x12)];
     came_up(&seen, 100, &others);
+    let sleeps = [FullPause, PartOfPause, LastTick, NoFrameOpen];
+    came_up(&seen, 1000, &sleeps);
 }
 
 /// Each stored status, deleted by the right one, with each single bit wrong and by 00h: a field behind which another lies, then the last one.

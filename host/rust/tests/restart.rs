@@ -4,7 +4,7 @@ mod rig;
 
 use quicksetter_host::dice::Dice;
 use quicksetter_host::{
-    call, call_second, head_of, label_of, restart, rested, state_of, Call, ADDRESS, IMAGE_LENGTH,
+    call, call_second, head_of, label_of, restart, rested, state_of, Call, Told, ADDRESS, IMAGE_LENGTH,
     LASTING, LASTING_LENGTH, MEASURED, OPEN,
 };
 use rig::board::Kind::{AtFormerAddress, AtNewAddress, Error, Moved, MovedByBroadcast, Reply};
@@ -85,7 +85,7 @@ impl Pair {
         assert_eq!(self.board.room, room, "room after {made:?} on {plate:?}");
         self.compare(&format!("{made:?}"));
         self.board.count(made, &before, found);
-        if found.is_ok_and(|length| length > 0) && may_change(self.board.room[1]) {
+        if found.is_ok_and(|told| told.reply > 0) && may_change(self.board.room[1]) {
             self.write_flash();
         }
     }
@@ -112,7 +112,7 @@ impl Pair {
             &mut self.board.memory,
             &mut self.board.room,
         );
-        assert_eq!(call(made, image, memory, room), Ok(0));
+        assert_eq!(call(made, image, memory, room), Ok(Told::NOTHING));
         self.compare("a restart");
         assert!(self.board.image[OPEN..].iter().all(|&byte| byte == 0));
     }

@@ -4,10 +4,10 @@ use std::collections::BTreeMap;
 
 use quicksetter_host::dice::Dice;
 use quicksetter_host::{
-    call, call_second, fresh, image_after, label_of, state_of, Call, ADDRESS, CODES, COUNTER,
+    call, call_second, fresh, image_after, label_of, state_of, Call, Told, ADDRESS, CODES, COUNTER,
     IMAGE_LENGTH, KEPT, KEPT_NUMBER, OPEN, PLATE_ADDRESS,
 };
-use second::{Label, Plate, Refusal, State, LABEL_LENGTH, REPLY_ROOM};
+use second::{Label, Plate, Refusal, Remaining, State, LABEL_LENGTH, REPLY_ROOM};
 
 use super::{frame, sealed, Known, EVERY_BOARD};
 
@@ -30,6 +30,11 @@ pub enum Kind {
     AtNewAddress,
     /// Such a board answered a broadcast.
     MovedByBroadcast,
+    /// The host was told to sleep the full pause, part of it, one tick, or until the next character.
+    FullPause,
+    PartOfPause,
+    LastTick,
+    NoFrameOpen,
     /// A field was deleted.
     Deleted,
     /// A deletion was answered with this error.
@@ -99,7 +104,7 @@ impl Board {
             None => (Err(Refusal::R1), before.clone()),
             Some((plate, mut state)) => {
                 match call_second(made, &plate, &mut state, &mut memory, &mut room) {
-                    Ok(length) => (Ok(length), image_after(made, &before, &state)),
+                    Ok(told) => (Ok(told), image_after(made, &before, &state)),
                     refused => (refused, before.clone()),
                 }
             }
@@ -110,21 +115,22 @@ impl Board {
         assert_eq!(self.memory, memory, "memory after {made:?} on {plate:?}");
         assert_eq!(self.room, room, "room after {made:?} on {plate:?}");
         self.count(made, &before, found);
-        found
+        found.map(|told| told.reply)
     }
 
     /// Counts what came back of a call on the image as it was before.
-    pub fn count(&mut self, made: Call, before: &[u8], found: Result<usize, Refusal>) {
+    pub fn count(&mut self, made: Call, before: &[u8], found: Result<Told, Refusal>) {
         self.calls += 1;
         let kind = match found {
             Err(refusal) => Kind::Refused(1 + refusal as usize),
-            Ok(0) => Kind::Silence,
-            Ok(length) => match self.room[1] & 0x7F {
-                0x50 if length == 4 => Kind::Error(self.room[2]),
+            Ok(Told { reply: 0, .. }) => Kind::Silence,
+            Ok(Told { reply, .. }) => match self.room[1] & 0x7F {
+                0x50 if reply == 4 => Kind::Error(self.room[2]),
                 command => Kind::Reply(command),
             },
         };
         self.add(kind);
+        self.count_sleep(found);
         let closed = found.is_ok()
             && made != Call::PowerOn
             && before[OPEN] == 1
@@ -133,6 +139,18 @@ impl Board {
         if closed {
             self.count_address(before, kind);
             self.count_deletion(before, kind);
+        }
+    }
+
+    /// How long the host was told to sleep, if it was.
+    fn count_sleep(&mut self, found: Result<Told, Refusal>) {
+        let full = self.closing_gap();
+        match found.ok().and_then(|told| told.sleep) {
+            None => {}
+            Some(Remaining::NoFrameOpen) => self.add(Kind::NoFrameOpen),
+            Some(Remaining::Ticks(1)) => self.add(Kind::LastTick),
+            Some(Remaining::Ticks(ticks)) if ticks == full => self.add(Kind::FullPause),
+            Some(Remaining::Ticks(_)) => self.add(Kind::PartOfPause),
         }
     }
 

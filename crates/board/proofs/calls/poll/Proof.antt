@@ -49,6 +49,9 @@ returns : tie.Need-returns
 returns c =
     let t = c .before .before in refused _ _ _ _ _ _ (c .stepped .ensures) (told (t .before .before .before)) (sym (t .is-refusal .ensures) ∙ c .before .if1 .taken)
 
+full-pause-requires : tie.Need-full-pause-requires
+full-pause-requires c κs = search needs
+
 remaining-requires : tie.Need-remaining-requires
 remaining-requires c κs = search needs
 
@@ -57,7 +60,7 @@ is-over-requires c κs = search needs
 
 close-requires : tie.Need-close-requires
 close-requires c κs =
-    let after-else1 = c .before .before .before .before .before .before in
+    let after-else1 = c .before .before .before .before .before .before .before in
     enough (after-else1)
 
 cast-sent : tie.Need-cast-sent
@@ -84,8 +87,9 @@ returns-2 c =
     let after-2 = after-close .before .before .before .before in
     let after-is-over = after-2 .before in
     let after-remaining = after-is-over .before in
-    let after-else1 = after-remaining .before in
-    let left = after-remaining .remaining .ensures _ _ (now (start (tested after-else1) .args .label)) refl in
+    let after-full-pause = after-remaining .before in
+    let after-else1 = after-full-pause .before in
+    let left = after-remaining .remaining .ensures _ _ _ (after-full-pause .full-pause .ensures (now (start (tested after-else1) .args .label))) refl in
     poll-over _ _ _ _ _ _ (willing (after-else1)) (c .stepped2 .ensures) (c .before .none .ensures) (over-told _ _ _ left ∙ sym (after-is-over .is-over .ensures) ∙ after-2 .if2 .taken) (after-close .close .ensures)
 
 stepped-requires-3 : tie.Need-stepped-requires-3
@@ -95,8 +99,9 @@ returns-3 : tie.Need-returns-3
 returns-3 c =
     let after-is-over = c .before .before in
     let after-remaining = after-is-over .before in
-    let after-else1 = after-remaining .before in
-    let left = after-remaining .remaining .ensures _ _ (now (start (tested after-else1) .args .label)) refl in
+    let after-full-pause = after-remaining .before in
+    let after-else1 = after-full-pause .before in
+    let left = after-remaining .remaining .ensures _ _ _ (after-full-pause .full-pause .ensures (now (start (tested after-else1) .args .label))) refl in
     poll-still _ _ _ _ _ _ (willing (after-else1)) (c .stepped3 .ensures) refl left (over-told _ _ _ left ∙ sym (after-is-over .is-over .ensures) ∙ c .before .if2 .left) (enough (after-else1) .fits .few)
 
 pub poll-spec : {M : Type 1} → statement M
@@ -107,6 +112,7 @@ poll-spec =
     is-refusal-requires
     stepped-requires
     returns
+    full-pause-requires
     remaining-requires
     is-over-requires
     close-requires

@@ -10,15 +10,9 @@ use Rattle.quicksetter.proofs.events.polled.Statement.{statement}
 use Rattle.quicksetter.proofs.events.polled.Tie as tie
 use Rattle.quicksetter.proofs.events.polled.Reads as reads
 use Rattle.quicksetter.proofs.events.polled.Lts as lts
-use Rattle.image.proofs.plate_in.Reads as plate-in-reads
 use Rattle.line.proofs.characters.Remaining.is_over.Reads as is-over-reads
 use Rattle.quicksetter.proofs.events.remaining.Reads as remaining-reads
 use Rattle.quicksetter.proofs.events.shut.Reads as shut-reads
-
-plate-in-requires : tie.Need-plate-in-requires
-plate-in-requires c κs =
-    let start = c .before .before .before .before in
-    omega (arith, ours-length _ (start .pre .ours))
 
 sub-remaining : tie.Need-sub-remaining
 sub-remaining c = search needs
@@ -28,8 +22,8 @@ part-remaining-start c = search needs
 
 part-remaining-end : tie.Need-part-remaining-end
 part-remaining-end c =
-    let start = c .before .before .before .before .before .before in
-    omega (arith, ours-length _ (start .pre .ours))
+    let start = c .before .before .before .before in
+    omega (arith, ours-length _ (start .pre .0 .ours))
 
 remaining-requires : tie.Need-remaining-requires
 remaining-requires c κs = search needs
@@ -55,11 +49,10 @@ returns c =
     let after-if1 = after-shut .before .before .before .before in
     let after-is-over = after-if1 .before in
     let after-remaining = after-is-over .before in
-    let after-plate-in = after-remaining .before .before .before in
-    let start = after-plate-in .before .before .before .before .before in
-    let left = remaining-so _ (now (start .args .memory)) (now (start .args .room)) (start .pre .ours) (after-plate-in .plate-in .ensures) _ (after-remaining .remaining .ensures _) in
+    let start = after-remaining .before .before .before .before .before .before in
+    let left = remaining-so _ _ (start .pre .0 .ours) (after-remaining .remaining .ensures _ (start .pre .1)) in
     let o = over-told _ _ _ left ∙ sym (after-is-over .is-over .ensures) ∙ after-if1 .if1 .taken in
-    polled-over _ (now (start .args .memory)) (now (start .args .room)) (start .pre) _ o (after-shut .shut .ensures)
+    polled-over _ (now (start .args .memory)) (now (start .args .room)) (start .pre .0) _ o (after-shut .shut .ensures)
 
 same-length-4 : tie.Need-same-length-4
 same-length-4 c = search needs
@@ -68,18 +61,16 @@ returns-2 : tie.Need-returns-2
 returns-2 c =
     let after-is-over = c .before in
     let after-remaining = after-is-over .before in
-    let after-plate-in = after-remaining .before .before .before in
-    let after-slice-known = after-plate-in .before .before .before .before in
+    let after-slice-known = after-remaining .before .before .before .before .before in
     let start = after-slice-known .before in
-    let left = remaining-so _ (now (start .args .memory)) (now (start .args .room)) (start .pre .ours) (after-plate-in .plate-in .ensures) _ (after-remaining .remaining .ensures _) in
+    let left = remaining-so _ _ (start .pre .0 .ours) (after-remaining .remaining .ensures _ (start .pre .1)) in
     let o = over-told _ _ _ left ∙ sym (after-is-over .is-over .ensures) ∙ c .if1 .left in
-    polled-early _ (now (start .args .memory)) (now (start .args .room)) (start .pre) _ (λ i. (after-slice-known .slice-known .given i) .fits) o
+    polled-early _ (now (start .args .memory)) (now (start .args .room)) (start .pre .0) _ (λ i. (after-slice-known .slice-known .given i) .fits) o
 
 pub polled-spec : {M : Type 1} → statement M
 polled-spec =
     tie.close
     (tie.spec
-    plate-in-requires
     sub-remaining
     part-remaining-start
     part-remaining-end

@@ -1,19 +1,17 @@
 -- `quicksetter::events::qs_character` meets its contract. Assumes nothing.
-use mathlib.Core.Path.{_≡_, sym, ap, _∙_}
+use mathlib.Core.Path.{_≡_, sym, _∙_}
 use mathlib.Core.Bool.{true}
 use native.Mathlib.Omega.{arith}
 use denote.Ref.{now}
 use lib.ListN.{length}
 use Rattle.meaning.specs.Characters.{fullPause}
-use Rattle.line.specs.declared.plate.Plate.{Plate}
-use Rattle.line.specs.Line.{plateOf}
-use Rattle.image.specs.Image.{isOurs, labelIn}
+use Rattle.image.specs.Image.{isOurs}
 use Rattle.quicksetter.specs.Calls.{plateHeld}
 use Rattle.quicksetter.specs.Cores.{ImageUnrefused}
 use borrow.Author.Tests.{not-true, not-false}
 use Rattle.quicksetter.proofs.Heads.{ours-length, ours-label, not-ours}
 use Rattle.quicksetter.proofs.Refusing.{lends-character, impossible, unsound, other-size, too-narrow, none-applies}
-use Rattle.quicksetter.proofs.Wholes.{some-refusal, refused-whole, workable, as-long, lent-still, character-whole}
+use Rattle.quicksetter.proofs.Wholes.{some-refusal, refused-whole, workable, pause-so, as-long, lent-still, character-whole}
 use Rattle.quicksetter.proofs.Numbers.{with-sleep, refused-with-sleep, low-pause, full-sleep}
 use borrow.Author.Needs.{needs}
 use Rattle.quicksetter.proofs.events.qs_character.Statement.{statement}
@@ -183,13 +181,14 @@ full : (c : tie.After-full-pause) → c .full-pause .result ≡ fullPause (plate
 full c =
     let after-if5 = c .before in
     let after-plate-in = after-if5 .before .before .before .before .before .before .before .before .before .before .before in
-    let img = now (start5 after-if5 .args .image) in
-    c .full-pause .ensures (labelIn img) ∙ ap (λ (q : Plate). fullPause (plateOf q (labelIn img))) (after-plate-in .plate-in .ensures)
+    let after-if1 = after-plate-in .before .before in
+    let start = start5 after-if5 in
+    pause-so _ (now (start .args .memory)) (now (start .args .room)) (ours after-if1) (after-plate-in .plate-in .ensures) (c .full-pause .ensures)
 
 polled-requires : tie.Need-polled-requires
 polled-requires c κs =
-    let after-if5 = c .before .before .before .before in
-    fine (after-if5)
+    let after-full-pause = c .before .before .before in
+    (fine (after-full-pause .before), full after-full-pause)
 
 is-fault-requires : tie.Need-is-fault-requires
 is-fault-requires c κs = search needs

@@ -13,7 +13,7 @@ use Rattle.quicksetter.specs.Cores.{ImageUnrefused}
 use borrow.Author.Tests.{not-true, not-false}
 use Rattle.quicksetter.proofs.Heads.{ours-length, ours-label, not-ours}
 use Rattle.quicksetter.proofs.Refusing.{lends-poll, impossible, unsound, other-size, too-narrow, none-applies}
-use Rattle.quicksetter.proofs.Wholes.{some-refusal, refused-whole, workable, remaining-so, polled-over, polled-early, poll-whole}
+use Rattle.quicksetter.proofs.Wholes.{some-refusal, refused-whole, workable, pause-so, remaining-so, polled-over, polled-early, poll-whole}
 use Rattle.quicksetter.proofs.Numbers.{with-sleep, refused-with-sleep, low-sleep, shut-sleep, left-sleep}
 use borrow.Author.Needs.{needs}
 use Rattle.quicksetter.proofs.events.qs_poll.Statement.{statement}
@@ -22,6 +22,7 @@ use Rattle.quicksetter.proofs.events.qs_poll.Reads as reads
 use Rattle.quicksetter.proofs.events.qs_poll.Lts as lts
 use Rattle.image.proofs.is_ours.Reads as is-ours-reads
 use Rattle.image.proofs.plate_in.Reads as plate-in-reads
+use Rattle.line.proofs.plate.Plate.full_pause.Reads as full-pause-reads
 use Rattle.line.proofs.plate.Plate.memory_length.Reads as memory-length-reads
 use Rattle.line.proofs.characters.Remaining.is_over.Reads as is-over-reads
 use Rattle.quicksetter.proofs.events.remaining.Reads as remaining-reads
@@ -186,26 +187,35 @@ part-remaining-end c =
     let after-if1 = c .before .before .before .before .before .before .before .before .before .before .before .before .before .before in
     omega (arith, ours-length _ (ours (after-if1)))
 
+full-pause-requires : tie.Need-full-pause-requires
+full-pause-requires c κs = search needs
+
 remaining-requires : tie.Need-remaining-requires
 remaining-requires c κs = search needs
 
 -- what remains of the frame that the image holds
-left : (c : tie.After-remaining) → let a = start5 (c .before .before .before) .args in
+abbrev else5 : tie.After-remaining → tie.Else5
+else5 c =
+    let after-full-pause = c .before in
+    after-full-pause .before .before .before
+
+left : (c : tie.After-remaining) → let a = start5 (else5 c) .args in
     remainingOf (c .remaining .result) ≡ remaining (plateHeld (now (a .image))) (stateHeld (now (a .image))) (a .tick)
 left c =
-    let after-if5 = c .before .before .before in
-    let after-plate-in = after-if5 .before .before .before .before .before .before .before .before .before .before .before in
+    let after-full-pause = c .before in
+    let after-plate-in = else5 c .before .before .before .before .before .before .before .before .before .before .before in
     let after-if1 = after-plate-in .before .before in
     let start = start1 after-if1 in
-    remaining-so _ (now (start .args .memory)) (now (start .args .room)) (ours (after-if1)) (after-plate-in .plate-in .ensures) _ (c .remaining .ensures _)
+    let full = pause-so _ (now (start .args .memory)) (now (start .args .room)) (ours after-if1) (after-plate-in .plate-in .ensures) (after-full-pause .full-pause .ensures) in
+    remaining-so _ _ (ours after-if1) (c .remaining .ensures _ full)
 
 is-over-requires : tie.Need-is-over-requires
 is-over-requires c κs = search needs
 
 shut-requires : tie.Need-shut-requires
 shut-requires c κs =
-    let after-if5 = c .before .before .before .before .before .before .before .before in
-    fine (after-if5)
+    let after-remaining = c .before .before .before .before .before in
+    fine (else5 after-remaining)
 
 answer-number-requires : tie.Need-answer-number-requires
 answer-number-requires c κs = search needs
@@ -225,7 +235,7 @@ returns-6 c =
     let after-if6 = after-shut .before .before .before .before in
     let after-is-over = after-if6 .before in
     let after-remaining = after-is-over .before in
-    let u = fine (after-remaining .before .before .before) in
+    let u = fine (else5 after-remaining) in
     let o = over-told _ _ _ (left after-remaining) ∙ sym (after-is-over .is-over .ensures) ∙ after-if6 .if6 .taken in
     rw (c .answer-number .ensures) (with-sleep _ _ _ _ (poll-whole _ _ _ u _ (polled-over _ _ _ u _ o (after-shut .shut .ensures))) (shut-sleep _ _ _ u _ o))
 
@@ -235,7 +245,7 @@ sleep-number-requires c κs = search needs
 answer-number-requires-2 : tie.Need-answer-number-requires-2
 answer-number-requires-2 c κs =
     let after-remaining = c .before .before .before in
-    rw (c .sleep-number .ensures) (low-sleep _ _ _ (fine (after-remaining .before .before .before) .core .plate) (left after-remaining))
+    rw (c .sleep-number .ensures) (low-sleep _ _ _ (fine (else5 after-remaining) .core .plate) (left after-remaining))
 
 same-length-9 : tie.Need-same-length-9
 same-length-9 c = search needs
@@ -246,7 +256,7 @@ returns-7 c =
     let after-if6 = after-sleep-number .before in
     let after-is-over = after-if6 .before in
     let after-remaining = after-is-over .before in
-    let after-if5 = after-remaining .before .before .before in
+    let after-if5 = else5 after-remaining in
     let after-slice-known = after-if5 .before .before .before .before .before .before .before .before .before .before .before .before .before .before .before .before .before .before in
     let u = fine after-if5 in
     let o = over-told _ _ _ (left after-remaining) ∙ sym (after-is-over .is-over .ensures) ∙ after-if6 .if6 .left in
@@ -286,6 +296,7 @@ qs-poll-spec =
     sub-remaining
     part-remaining-start
     part-remaining-end
+    full-pause-requires
     remaining-requires
     is-over-requires
     shut-requires

@@ -15,7 +15,7 @@ remaining-requires : tie.Need-remaining-requires
 remaining-requires c κs = search needs
 
 returns : tie.Need-returns
-returns c = λ l. remaining-in _ _ _ (c .before .frame-in .ensures) (λ s kept e. c .remaining .ensures s kept l e)
+returns c = λ p k. remaining-in p _ _ (c .before .frame-in .ensures) (λ s kept e. c .remaining .ensures p s kept k e)
 
 pub remaining-spec : {M : Type 1} → statement M
 remaining-spec = tie.close (tie.spec frame-in-requires remaining-requires returns)

@@ -17,10 +17,7 @@ left-so p s now b e = rw (b, e)
 
 returns : tie.Need-returns
 unfolding remaining
-returns c = λ s kept l e. rw (ap (λ (x : Line). x .begun) e ∙ not-true _ (c .if1 .taken))
-
-full-pause-requires : tie.Need-full-pause-requires
-full-pause-requires c κs = search needs
+returns c = λ p s kept k e. rw (ap (λ (x : Line). x .begun) e ∙ not-true _ (c .if1 .taken))
 
 gap-requires : tie.Need-gap-requires
 gap-requires c κs = search needs
@@ -31,23 +28,23 @@ cast-since c = search needs
 returns-2 : tie.Need-returns-2
 returns-2 c =
     let after-gap = c .before in
-    let after-pause = after-gap .before in
-    let start = after-pause .before .before .before in
-    λ s kept l e. left-so _ s _ (ap (λ (x : Line). x .begun) e ∙ not-false _ (after-pause .before .if1 .left))
-    (omega (arith, c .if2 .taken, after-pause .full-pause .ensures l, after-gap .gap .ensures, ap (λ (x : Line). gap (x .last) (start .args .tick)) e))
+    let after-if1 = after-gap .before in
+    let start = after-if1 .before .before in
+    λ p s kept k e. left-so p s _ (ap (λ (x : Line). x .begun) e ∙ not-false _ (after-if1 .if1 .left))
+    (omega (arith, c .if2 .taken, k, after-gap .gap .ensures, ap (λ (x : Line). gap (x .last) (start .args .tick)) e))
 
-sub-t8 : tie.Need-sub-t8
-sub-t8 c = search needs
+sub-left : tie.Need-sub-left
+sub-left c = search needs
 
 returns-3 : tie.Need-returns-3
 returns-3 c =
     let after-gap = c .before in
-    let after-pause = after-gap .before in
-    let start = after-pause .before .before .before in
-    λ s kept l e. left-so _ s _ (ap (λ (x : Line). x .begun) e ∙ not-false _ (after-pause .before .if1 .left))
-    (omega (arith, after-pause .full-pause .ensures l, after-gap .gap .ensures, ap (λ (x : Line). gap (x .last) (start .args .tick)) e))
+    let after-if1 = after-gap .before in
+    let start = after-if1 .before .before in
+    λ p s kept k e. left-so p s _ (ap (λ (x : Line). x .begun) e ∙ not-false _ (after-if1 .if1 .left))
+    (omega (arith, k, after-gap .gap .ensures, ap (λ (x : Line). gap (x .last) (start .args .tick)) e))
 
 pub remaining-spec : {M : Type 1} → statement M
 remaining-spec =
     tie.close
-    (tie.spec returns full-pause-requires gap-requires cast-since returns-2 sub-t8 returns-3)
+    (tie.spec returns gap-requires cast-since returns-2 sub-left returns-3)
