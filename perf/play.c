@@ -1,18 +1,10 @@
 /* The answer program over the C entry points, for good tapes: a tape on standard input, its answers on standard output. A bad record ends it with status 1. */
 #include "board.h"
-
-#include <stdio.h>
-#include <stdlib.h>
-
-enum { LARGEST_RECORD = 8 };
+#include "records.h"
 
 static const uint8_t label[QS_LABEL_LENGTH]; /* 00h on a tape: 02, "Req 01" */
 static uint8_t image[QS_IMAGE_LENGTH], memory[QS_MEMORY_LENGTH(112)], room[QS_REPLY_ROOM];
 static uint64_t memory_length;
-
-static uint32_t number_at(const uint8_t *at) {
-    return (uint32_t)at[0] | (uint32_t)at[1] << 8 | (uint32_t)at[2] << 16 | (uint32_t)at[3] << 24;
-}
 
 /* The reply's line: tick in decimal, bytes in hex. */
 static void print_reply(uint32_t tick, uint64_t length) {
@@ -43,54 +35,30 @@ static uint64_t start(const uint8_t *body) {
 /* One record worked on the board: its reply's length, or a refusal. */
 static uint64_t work(unsigned kind, const uint8_t *body) {
     switch (kind) {
-    case 1: return start(body);
-    case 2: return QS_REPLY(CALL(character)(image, sizeof image, number_at(body), body[4], body[5], memory, memory_length, room, sizeof room));
-    case 3: return QS_REPLY(CALL(poll)(image, sizeof image, number_at(body), memory, memory_length, room, sizeof room));
-    case 4: return CALL(measured)(image, sizeof image, number_at(body));
-    case 5: return CALL(fault)(image, sizeof image, body[0]);
-    case 6: return CALL(power_on)(image, sizeof image);
+    case PLATE_RECORD: return start(body);
+    case CHARACTER_RECORD: return QS_REPLY(CALL(character)(image, sizeof image, number_at(body), body[4], body[5], memory, memory_length, room, sizeof room));
+    case POLL_RECORD: return QS_REPLY(CALL(poll)(image, sizeof image, number_at(body), memory, memory_length, room, sizeof room));
+    case MEASURED_RECORD: return CALL(measured)(image, sizeof image, number_at(body));
+    case FAULT_RECORD: return CALL(fault)(image, sizeof image, body[0]);
+    case POWER_ON_RECORD: return CALL(power_on)(image, sizeof image);
     default: return QS_R1;
     }
 }
 
-/* All of standard input; NULL where there is no memory for it. */
-static uint8_t *whole_input(size_t *length) {
-    size_t room_for = 1 << 20;
-    uint8_t *bytes = malloc(room_for);
-    *length = 0;
-    while (bytes != NULL) {
-        size_t more = fread(bytes + *length, 1, room_for - *length, stdin);
-        if (more == 0)
-            return bytes;
-        *length += more;
-        if (*length == room_for) {
-            room_for *= 2;
-            bytes = realloc(bytes, room_for);
-        }
-    }
-    return NULL;
-}
-
 int main(void) {
     static char out[1 << 16];
-    size_t length;
-    const uint8_t *tape = whole_input(&length);
-    if (tape == NULL)
+    struct tape tape = whole_input();
+    if (tape.bytes == NULL)
         return 1;
     setvbuf(stdout, out, _IOFBF, sizeof out);
     fputs("tick reply\n", stdout);
-    for (size_t place = 0; place < length;) {
-        size_t left = length - place;
-        size_t follows = left < 2 ? 0 : tape[place] + 256u * tape[place + 1];
-        if (follows < 2 || follows > LARGEST_RECORD || follows + 2 > left)
-            return 1;
-        const uint8_t *body = tape + place + 4;
-        uint64_t replied = work(tape[place + 2], body);
+    while (has_more(&tape)) {
+        struct record record = next_record(&tape);
+        uint64_t replied = record.body == NULL ? QS_R1 : work(record.kind, record.body);
         if (QS_IS_REFUSED(replied))
             return 1;
         if (replied != 0)
-            print_reply(number_at(body), replied);
-        place += 2 + follows;
+            print_reply(number_at(record.body), replied);
     }
     return 0;
 }

@@ -3,7 +3,8 @@
 
     run.py [--answer PROGRAM] [--library FOLDER]             measures everything and writes docs/PERFORMANCE.md
     run.py [--library FOLDER] --check                        holds the library to what its header says it needs and keeps, its stack to the bound, and the
-                                                             instructions of every kind of call to their limits, and fails where one is over
+                                                             instructions of every kind of call to their limits, and fails where one is over; and the host
+                                                             that sleeps to polls that each close a frame
 
 PROGRAM answers tapes and FOLDER has libquicksetter.a; those not named are built by rt, as target/bin/answer and in target/staticlib.
 Instructions are counted by valgrind's callgrind; without valgrind only times are measured, and that check is left out. What the library is and needs comes
@@ -294,6 +295,34 @@ def library_page(library: str) -> str:
     return page + f"\n{archive.STACK_NOTE}\n\n" + table(["Entry", "Bound", "Measured"], archive.stack_rows(stacks, seen))
 
 
+class Host(NamedTuple):
+    """A host of perf/sleep.c: how often it woke, how many of those times to poll, how many polls closed a frame, and the replies."""
+
+    name: str
+    wake_ups: int
+    polls: int
+    closing: int
+    replies: int
+
+
+SLEEP_NOTE = f"""\
+The polling drive's tape of {LONG_TAPE} events, played by perf/sleep.c on three hosts over libquicksetter.a. Each hands in the tape's characters and positions and gets the same
+replies; a character wakes each of them. They part in when they poll: every 55 ticks, as the tape does; on each bit time; or as long after a character as its answer
+said (02, Req 03). The gate holds the last one to polls that each close a frame."""
+
+
+def sleeping_hosts(library: str) -> List[Host]:
+    program = compiled("sleep", ["sleep.c"], library)
+    with open(written(TAPES[0], LONG_TAPE).path, "rb") as tape:
+        lines = run([*machine.emulator(), program], stdin=tape).stdout.decode().splitlines()
+    return [Host(name, *map(int, numbers)) for name, *numbers in (line.split("\t") for line in lines)]
+
+
+def sleep_page(library: str) -> str:
+    rows = [[host.name, str(host.wake_ups), f"{host.wake_ups / host.replies:.0f}", str(host.polls), str(host.closing)] for host in sleeping_hosts(library)]
+    return f"\n## How often a host wakes\n\n{SLEEP_NOTE}\n\n" + table(["Host", "Wake-ups", "A request", "Polls", "that close"], rows)
+
+
 def tape_page(title: str, note: str, found: Dict[str, Dict[str, float]]) -> str:
     rows = []
     for name, by_program in found.items():
@@ -329,11 +358,11 @@ def measure(programs: Dict[str, str], library: str) -> str:
         times[tape.name] = nanoseconds_an_event(programs, timed)
     if counting:
         print("perf: inside the C entry", flush=True)
-        page += call_page(call_rows(library)) + closing_page(closing_rows(library))
+        page += call_page(call_rows(library)) + closing_page(closing_rows(library)) + sleep_page(library)
         page += tape_page("Instructions a tape event", INSTRUCTION_NOTE, counts)
     else:
         print("perf: valgrind is not there: only times are measured", flush=True)
-        page += NO_VALGRIND
+        page += NO_VALGRIND + sleep_page(library)
     return page + tape_page("Nanoseconds a tape event", TIME_NOTE, times)
 
 
@@ -364,6 +393,17 @@ def check_archive(library: str) -> int:
     deepest = max(int(bound) for _, bound, _ in rows)
     print(f"perf: the library needs {', '.join(found.needed)} and keeps nothing; its {len(rows)} entries lay at most {deepest} bytes on the stack")
     return 0
+
+
+def check_sleep(library: str) -> int:
+    """The host that sleeps by the answer polls only to close a frame, and has every reply."""
+    missing = machine.missing("gcc")
+    if missing:
+        print(f"perf: the host that sleeps was LEFT OUT, since {', '.join(missing)} is not there{machine.PACKAGES}")
+        return 0
+    as_tape, each_bit, asleep = sleeping_hosts(library)
+    print(f"perf: {asleep.replies} requests: {asleep.name} {asleep.wake_ups} wake-ups, {as_tape.name} {as_tape.wake_ups}, {each_bit.name} {each_bit.wake_ups}")
+    return int(not asleep.polls == asleep.closing == asleep.replies)
 
 
 def check_limits(library: str) -> int:
@@ -399,10 +439,9 @@ def renewed(library: str) -> str:
         raise Failure(f"nothing was measured, since {', '.join(missing)} is not there{machine.PACKAGES}")
     with open(PAGE, encoding="utf-8") as file:
         stood = sections_of(file.read())
-    anew = sections_of(library_page(library) + call_page(call_rows(library)) + closing_page(closing_rows(library)))
-    if not set(anew) <= set(stood):
-        raise Failure(f"docs/PERFORMANCE.md has not the parts {', '.join(anew)}")
-    return "".join(anew.get(title, part).rstrip("\n") + "\n\n" for title, part in stood.items()).rstrip("\n") + "\n"
+    anew = sections_of(library_page(library) + call_page(call_rows(library)) + closing_page(closing_rows(library)) + sleep_page(library))
+    parts = {"": stood.pop(""), **anew, **{title: part for title, part in stood.items() if title not in anew}}
+    return "\n\n".join(part.rstrip("\n") for part in parts.values()) + "\n"
 
 
 def write_page(answer: Optional[str], library: str) -> int:
@@ -440,7 +479,7 @@ def main(arguments: List[str]) -> int:
     os.makedirs(WORK, exist_ok=True)
     try:
         library = found_library(library)
-        return check_archive(library) | check_limits(library) if checks else write_page(answer, library)
+        return check_archive(library) | check_sleep(library) | check_limits(library) if checks else write_page(answer, library)
     except Failure as failure:
         sys.stderr.write(f"run.py: {failure}\n")
         return 1

@@ -3,9 +3,10 @@
 
 vectors.py SECOND_PROGRAM [TAPES [EVENTS [SEED]]]
 
-Each generated tape of at most 16 blocks is cut after EVENTS records, answered by the second program, and written as one
-claim about `step`: the lines that the definitions compute are those that the second program printed. The checker computes
-every claim, in a copy of crates/meaning, so nothing of the comparison is left in the project.
+Each generated tape of at most 16 blocks is cut after EVENTS records, answered by the second program, and written as two
+claims: the replies that `step` computes are those that the second program printed, and the ticks that `carried` computes after
+each character and poll are those that it printed with --remaining. The checker computes every claim, in a copy of
+crates/meaning, so nothing of the comparison is left in the project.
 """
 
 import os
@@ -44,6 +45,18 @@ lines p s m (g ∷ gs) =
     let o = step p s m g in
     spoke (tickOf g) (o .reply) (lines p (o .state) (o .memory) gs)
 
+-- the ticks that an answer carries, behind 1; 0 alone where no frame is open
+unfoldable carriedTicks : Carried → List (List ℕ) → List (List ℕ)
+carriedTicks nothing r = r
+carriedTicks (carries no-frame-open) r = (0 ∷ []) ∷ r
+carriedTicks (carries (ticks-left n)) r = (1 ∷ n ∷ []) ∷ r
+
+unfoldable sleeps : Plate → State → List ℕ → List Call → List (List ℕ)
+sleeps p s m [] = []
+sleeps p s m (g ∷ gs) =
+    let o = step p s m g in
+    carriedTicks (carried p (o .state) g) (sleeps p (o .state) (o .memory) gs)
+
 unfoldable alike : List (List ℕ) → List (List ℕ) → Bool
 alike [] [] = true
 alike [] (y ∷ ys) = false
@@ -52,9 +65,13 @@ alike (x ∷ xs) (y ∷ ys) = both (same x y) (alike xs ys)
 
 unfoldable prints : Plate → List Call → List (List ℕ) → Bool
 prints p gs ls = alike (lines p (fresh p) (zeros (memoryLength (p .total))) gs) ls
+
+unfoldable tells : Plate → List Call → List (List ℕ) → Bool
+tells p gs ls = alike (sleeps p (fresh p) (zeros (memoryLength (p .total))) gs) ls
 """
 
-OWN = ["spoke", "lines", "alike", "prints"]
+OWN = ["spoke", "lines", "carriedTicks", "sleeps", "alike", "prints", "tells"]
+CASES = {"Run": ["character", "poll", "measured", "fault", "power-on", "nothing", "carries"], "Characters": ["no-frame-open", "ticks-left"]}
 
 
 def records(tape):
@@ -86,13 +103,19 @@ def as_list(items):
     return " ∷ ".join(list(items) + ["[]"])
 
 
-def answered(second, tape):
-    done = subprocess.run([second], input=tape, stdout=subprocess.PIPE, check=True)
+def answered(second, tape, *mode):
+    done = subprocess.run([second, *mode], input=tape, stdout=subprocess.PIPE, check=True)
     return done.stdout.decode().splitlines()
 
 
+def ticks_of(line):
+    """What an answer carried, as the definitions tell it."""
+    ticks = line.split(" ")[1]
+    return "(%s)" % as_list(["0"] if ticks == "none" else ["1", ticks])
+
+
 def case_of(second, tape, events):
-    """The claim of one tape, with its numbers of events and replies; None where the tape does not serve."""
+    """The claims of one tape, with its numbers of events, replies and answers that carry ticks; None where the tape does not serve."""
     found = list(records(tape))[:events + 1]
     if len(found) < 2 or found[0][0] != PLATE:
         return None
@@ -106,8 +129,9 @@ def case_of(second, tape, events):
         tick, *values = line.split(" ")
         replies.append("(%s)" % as_list([tick] + ["0x" + value for value in values]))
     fields = "total = %d; bits = %d; address = %d; ticks = %d; pause = %d; label = zeros labelLength" % tuple(plate)
-    claim = "T (prints (record { %s }) (%s) (%s))" % (fields, as_list(calls), as_list(replies))
-    return claim, len(calls), len(replies)
+    sleeps = [ticks_of(line) for line in answered(second, tape[:found[-1][2]], "--remaining")[1:]]
+    claims = ["T (%s (record { %s }) (%s) (%s))" % (what, fields, as_list(calls), as_list(lines)) for what, lines in (("prints", replies), ("tells", sleeps))]
+    return claims, len(calls), len(replies), len(sleeps)
 
 
 def names_of(specs):
@@ -119,8 +143,7 @@ def names_of(specs):
         shut = [w[2] for w in words if w[:2] == ["unfoldable", "pub"] and w[2] != "use"]
         types = [w[2] for w in words if w[:2] in (["pub", "record"], ["pub", "data"])]
         opened = [w[2] for w in words if w[:2] == ["abbrev", "pub"]]
-        kinds = ["character", "poll", "measured", "fault", "power-on"] if name == "Run" else []
-        imports.append("use Rattle.meaning.specs.%s.{%s}\n" % (name, ", ".join(shut + opened + types + kinds)))
+        imports.append("use Rattle.meaning.specs.%s.{%s}\n" % (name, ", ".join(shut + opened + types + CASES.get(name, []))))
         unfolding += shut
     return "".join(imports), " ".join(OWN + unfolding)
 
@@ -146,15 +169,15 @@ def main():
         imports, unfolding = names_of(os.path.join(copy, "specs"))
         with open(os.path.join(copy, "proofs", "Vectors.antt"), "w", encoding="utf-8") as file:
             file.write(HEADER + imports + DEFINITIONS)
-            for number, (claim, _, _) in enumerate(cases):
+            for number, claim in enumerate(claim for case in cases for claim in case[0]):
                 file.write("\ncase-%d : %s\nunfolding %s\ncase-%d = tt\n" % (number, claim, unfolding, number))
         with open(os.path.join(copy, "proofs", "Lib.antt"), "a") as file:
             file.write("pub mod Vectors\n")
         checked = subprocess.run(["rt", "check", "meaning"], cwd=work, stdout=subprocess.PIPE, stderr=subprocess.STDOUT)
         if checked.returncode or not cases:
             sys.exit(checked.stdout.decode()[-3000:] + "\nvectors: the definitions differ from the second program")
-        print("vectors: %d tapes, %d events, %d replies: the definitions and the second program agree"
-              % (len(cases), sum(case[1] for case in cases), sum(case[2] for case in cases)))
+        sums = [sum(case[place] for case in cases) for place in (1, 2, 3)]
+        print("vectors: %d tapes, %d events, %d replies, %d answers with their remaining ticks: the definitions and the second program agree" % (len(cases), *sums))
     finally:
         shutil.rmtree(work)
 

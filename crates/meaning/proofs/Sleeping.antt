@@ -83,6 +83,15 @@ none-carried p s (measured n) l = refl
 none-carried p s (fault c) l = refl
 none-carried p s power-on l = refl
 
+-- and what lends carries
+pub carries-then : (p : Plate) (s : State) (g : Call) → lends g ≡ true → carried p s g ≡ nothing → ⊥
+unfolding carried lends
+carries-then p s (character now v bad) l e = false≢true (sym (ap isCarried e))
+carries-then p s (poll now) l e = false≢true (sym (ap isCarried e))
+carries-then p s (measured n) l e = false≢true l
+carries-then p s (fault c) l e = false≢true l
+carries-then p s power-on l e = false≢true l
+
 abbrev isOpen : Remaining → Bool
 isOpen no-frame-open = false
 isOpen (ticks-left n) = true

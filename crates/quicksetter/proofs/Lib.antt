@@ -17,4 +17,5 @@ pub mod Staying
 pub mod Running
 mod Keeping
 pub mod Lasting
+pub mod Sleeping
 pub mod Examples

@@ -2,17 +2,18 @@
 use Prim.Native.Nat.{ℕ, _+_, _-_, _*_, _<_, _≤_}
 use native.Mathlib.Omega.{arith}
 use mathlib.Core.Path.{_≡_, refl, sym, ap, subst, _∙_}
-use mathlib.Core.Bool.{Bool, true, false}
+use mathlib.Core.Bool.{Bool, true, false, not}
 use mathlib.Core.List.{List}
-use lib.Dec.{eqb}
+use lib.Dec.{eqb, ltb}
 use lib.ListN.{length}
-use Rattle.meaning.specs.Bytes.{pick}
+use Rattle.meaning.specs.Bytes.{pick, either}
 use Rattle.meaning.specs.State as meaning
-use Rattle.meaning.specs.State.{plateOk}
+use Rattle.meaning.specs.State.{plateOk, stateOk}
+use Rattle.meaning.specs.Fields.{memoryLength}
 use Rattle.meaning.specs.Characters.{gap, fullPause, no-frame-open, ticks-left, remaining, over}
 use Rattle.meaning.specs.Characters as characters
 use Rattle.meaning.specs.Frames.{still, upTo}
-use Rattle.meaning.specs.Run.{Call, character, poll, step, refusedBy, closes, Carried, nothing, carries, carried, Held, untouched, leftBy, called}
+use Rattle.meaning.specs.Run.{Call, character, poll, step, lends, refusedBy, closes, nothing, carries, carried, Held, untouched, leftBy, called}
 use Rattle.meaning.proofs.Choices.{true-told}
 use Rattle.meaning.proofs.Plates.{longest-pause}
 use Rattle.meaning.proofs.Limits.{replies-fit}
@@ -23,6 +24,22 @@ use Rattle.quicksetter.specs.Cores.{ImageUnrefused}
 use Rattle.quicksetter.proofs.Heads.{same-call}
 use Rattle.quicksetter.proofs.Closing.{served}
 
+-- R1 to R3
+few-refusals : (p : meaning.Plate) (s : meaning.State) (m : List ℕ) (n : ℕ) (g : Call) → refusedBy p s m n g ≤ 3
+unfolding refusedBy
+few-refusals p s m n g = go (either (not (plateOk p)) (not (stateOk p s))) (lends g) (not (eqb (length m) (memoryLength (p .total)))) (ltb n 134)
+  where
+    go : (a b c d : Bool) → pick a 1 (pick b (pick c 2 (pick d 3 0)) 0) ≤ 3
+    go true b c d = omega arith
+    go false false c d = omega arith
+    go false true true d = omega arith
+    go false true false true = omega arith
+    go false true false false = omega arith
+
+small-pick : (b : Bool) {n : ℕ} → n < 0x100000000 → pick b 0 n < 0x100000000
+small-pick true h = omega arith
+small-pick false h = h
+
 module _ (img m w : List ℕ) (g : Call) where
   -- the sleep beside the reply's number
   pub with-sleep : {r s : ℕ} {img′ m′ w′ : List ℕ} → Called img m w g r img′ m′ w′ → s ≡ sleepNumber ((calledBy img m w g) .sleep)
@@ -31,18 +48,31 @@ module _ (img m w : List ℕ) (g : Call) where
   with-sleep {img′ = img′} {m′ = m′} {w′ = w′} c e =
       record { number = rw (e, c .answer); called = subst (λ (n : ℕ). Called img m w g n img′ m′ w′) (c .answer) c }
 
+  -- what a call leaves, by whether there is an image and whether it is worked
+  abbrev held : Bool → Bool → Held
+  held a b =
+      pick a (pick b (leftBy (plateHeld img) g w (step (plateHeld img) (stateHeld img) m g)) (untouched (refusedBy (plateHeld img) (stateHeld img) m (length w) g) (stateHeld img) m w))
+      (untouched 1 (stateHeld img) m w)
+
   -- a number that is no reply's length is a refused call's, which carries nothing
-  carries-none : (n : ℕ) → 256 + n ≡ callNumber (calledBy img m w g) → (calledBy img m w g) .sleep ≡ nothing
+  pub carries-none : (n : ℕ) → 256 + n ≡ callNumber (calledBy img m w g) → (calledBy img m w g) .sleep ≡ nothing
   unfolding calledBy called callNumber
   carries-none n = go (isImage img) (eqb (refusedBy (plateHeld img) (stateHeld img) m (length w) g) 0)
     where
-      held : Bool → Bool → Held
-      held a b = pick a (pick b (leftBy (plateHeld img) g w (step (plateHeld img) (stateHeld img) m g)) (untouched (refusedBy (plateHeld img) (stateHeld img) m (length w) g) (stateHeld img) m w)) (untouched 1 (stateHeld img) m w)
-
       go : (a b : Bool) → 256 + n ≡ callNumber (held a b) → held a b .sleep ≡ nothing
       go true true e = absurd (omega (arith, e, replies-fit (plateHeld img) (stateHeld img) m g))
       go true false e = refl
       go false b e = refl
+
+  -- a reply's length and a refusal are small
+  pub number-low : callNumber (calledBy img m w g) < 0x100000000
+  unfolding calledBy called callNumber
+  number-low = go (isImage img) (eqb (refusedBy (plateHeld img) (stateHeld img) m (length w) g) 0)
+    where
+      go : (a b : Bool) → callNumber (held a b) < 0x100000000
+      go true true = omega (arith, replies-fit (plateHeld img) (stateHeld img) m g)
+      go true false = small-pick (eqb (refusedBy (plateHeld img) (stateHeld img) m (length w) g) 0) (omega (arith, few-refusals (plateHeld img) (stateHeld img) m (length w) g))
+      go false b = omega arith
 
   pub refused-with-sleep : (n : ℕ) {img′ m′ w′ : List ℕ} → Called img m w g (256 + n) img′ m′ w′ → CalledWithSleep img m w g (0xFFFFFFFE00000100 + n) img′ m′ w′
   unfolding sleepNumber

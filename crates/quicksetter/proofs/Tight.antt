@@ -7,7 +7,7 @@ use Rattle.meaning.specs.Run.{Call}
 use Rattle.meaning.specs.Bench as meaning
 use Rattle.bench.specs.Lengths.{expectedLength}
 use Rattle.wire.proofs.Tight.{same-outcome}
-use Rattle.quicksetter.specs.Calls.{Called, Freshens, Restarts}
+use Rattle.quicksetter.specs.Calls.{Called, CalledWithSleep, Freshens, Restarts}
 use Rattle.quicksetter.specs.Verdicts.{Writes, verdictNumber, expectedNumber, pieceNumber}
 
 -- what a call's outcome is made of
@@ -18,7 +18,7 @@ pub record Alike (r t : ℕ) (img′ img″ m′ m″ w′ w″ : List ℕ) : Ty
   pub room : w′ ≡ w″
 
 module _ (img : List ℕ) (g : Call) {r t : ℕ} {img′ img″ : List ℕ} where
-  -- a character, a poll
+  -- the number of a reply, image, memory and room; of a character and a poll with the sleep
   pub called-tight : (m w : List ℕ) {m′ m″ w′ w″ : List ℕ} → Called img m w g r img′ m′ w′ → Called img m w g t img″ m″ w″
       → Alike r t img′ img″ m′ m″ w′ w″
   called-tight m w x y =
@@ -27,6 +27,16 @@ module _ (img : List ℕ) (g : Call) {r t : ℕ} {img′ img″ : List ℕ} wher
         image = x .image ∙ sym (y .image);
         memory = x .memory ∙ sym (y .memory);
         room = x .room ∙ sym (y .room);
+      }
+
+  pub answered-tight : (m w : List ℕ) {m′ m″ w′ w″ : List ℕ} → CalledWithSleep img m w g r img′ m′ w′ → CalledWithSleep img m w g t img″ m″ w″
+      → Alike r t img′ img″ m′ m″ w′ w″
+  answered-tight m w x y =
+      record {
+        number = x .number ∙ sym (y .number);
+        image = x .called .image ∙ sym (y .called .image);
+        memory = x .called .memory ∙ sym (y .called .memory);
+        room = x .called .room ∙ sym (y .called .room);
       }
 
   -- a measured position, a fault code, power-on: neither memory nor room is lent

@@ -4,3 +4,4 @@ pub mod Cores
 pub mod Verdicts
 pub mod Promises
 pub mod Lasting
+pub mod Sleeping
