@@ -6,6 +6,8 @@
     explain.py FILE ANSWERS         ANSWERS is what an answer program printed for FILE
     explain.py --log LOG            tells a log of both directions of a real line
     --library OBJECT in front       takes the judge from there, not from target/libquicksetter.so
+    --sleep in front                tells of each frame how long the board lets its host sleep after the
+                                    last character, and when it was closed; for one board
 
 A file named - is standard input. The time in front of a request is that of its first character,
 in front of a reply that of the character or poll that closed the request, in ticks of 1/38400 s and
@@ -44,7 +46,7 @@ from printed import Reply, holds, read_answers
 from records import Bad, Plate, split
 from texts import Expectation, Session, TextError, read_session
 from traffic import explain_log
-from words import Summary, call_words, entry, error_code, hex_lines, page_of, plate_line, reply_words, request_words
+from words import Summary, call_words, entry, error_code, hex_lines, page_of, plate_line, reply_words, request_words, sleep_words
 from written import WrittenError, complain, is_text, put_out, read_file, text_of_bytes
 
 ANSWER = os.path.join("target", "here", "answer")
@@ -143,8 +145,9 @@ def paired(plate: Plate, frames: List[Frame], replies: List[Reply], judge: Judge
 class Teller:
     """What tells a tape: the address byte in force, the fields as told, which reply answers which frame, what is expected, the judge, and the sums so far."""
 
-    def __init__(self, plate: Plate, replies: Dict[int, Reply], expectations: Dict[int, List[Expectation]], judge: Judge):
+    def __init__(self, plate: Plate, replies: Dict[int, Reply], expectations: Dict[int, List[Expectation]], judge: Judge, tells_sleep: bool):
         self.own = plate.own_byte()
+        self.slept = plate.closing_gap() if tells_sleep else 0
         self.fields = Fields()
         self.replies = replies
         self.expectations = expectations
@@ -180,7 +183,8 @@ class Teller:
     def frame(self, frame: Frame) -> List[str]:
         """A frame, what came to it, and whether that was expected. What a reply tells of address and fields holds for the frames behind it."""
         words = request_words(frame.values, frame.parity, self.own)
-        page = entry(frame.start, "request", hex_lines(frame.values) + [words])
+        slept = [sleep_words(frame, self.slept)] if self.slept else []
+        page = entry(frame.start, "request", hex_lines(frame.values) + [words] + slept)
         reply = self.replies.get(frame.first)
         if reply is None:
             return page + self.silence(frame) + self.expected(frame, None)
@@ -219,7 +223,7 @@ def by_frame(frames: List[Frame], expectations: List[Expectation]) -> Tuple[Dict
     return found, lost
 
 
-def explain_tape(session: Session, answers: str, judge: Judge) -> Tuple[str, Summary]:
+def explain_tape(session: Session, answers: str, judge: Judge, tells_sleep: bool = False) -> Tuple[str, Summary]:
     """The whole session as a page, and what there was."""
     records, bad = split(session.tape)
     replies, told = read_answers(answers)
@@ -230,7 +234,7 @@ def explain_tape(session: Session, answers: str, judge: Judge) -> Tuple[str, Sum
     strays = replies
     if records:
         pairs, strays = paired(records[0], frames, replies, judge)
-        teller = Teller(records[0], pairs, expectations, judge)
+        teller = Teller(records[0], pairs, expectations, judge, tells_sleep)
         parts = [[plate_line(records[0])]] + [teller.happening(happening) for happening in happenings(records)]
         summary = summary.plus(teller.summary)
     parts.append([line for reply in strays for line in entry(reply.tick, "reply", hex_lines(reply.values) + ["to no frame of the tape"])])
@@ -289,16 +293,18 @@ def tell_boards(name: str, text: str, answers: Callable[[bytes], str], judge: Ju
         return tell_bad_lines(name, [error])
 
 
-def tell_session(name: str, answers: Callable[[bytes], str], judge: Judge, printed_before: bool = False) -> int:
+def tell_session(name: str, answers: Callable[[bytes], str], judge: Judge, tells_sleep: bool, printed_before: bool = False) -> int:
     """Tells a session or tape. What was printed before is one board's, so that a session of several boards must be run."""
     data = read_file(name)
     text = text_in(name, data) if is_text(data) else None
     if text is not None and has_boards(text):
+        if tells_sleep:
+            raise WrittenError(f"{name}: a text of several boards; --sleep tells of one board's host")
         if printed_before:
             raise WrittenError(f"{name}: a text of several boards; tell each board's tape with its own answers")
         return tell_boards(name, text, answers, judge)
     session = Session(data, [], [], []) if text is None else read_session(text)
-    return tell_bad_lines(name, session.bad) if session.bad else put_page(*explain_tape(session, answers(session.tape), judge))
+    return tell_bad_lines(name, session.bad) if session.bad else put_page(*explain_tape(session, answers(session.tape), judge, tells_sleep))
 
 
 def tell_log(name: str, judge: Judge) -> int:
@@ -312,18 +318,21 @@ def run(arguments: List[str]) -> int:
     if arguments in (["help"], ["-h"], ["--help"]):
         put_out(__doc__.encode())
         return 0
-    library = ""
-    if arguments[:1] == ["--library"] and len(arguments) > 1:
-        library, arguments = arguments[1], arguments[2:]
+    library, tells_sleep = "", False
+    while arguments[:1] == ["--sleep"] or arguments[:1] == ["--library"] and len(arguments) > 1:
+        if arguments[0] == "--sleep":
+            tells_sleep, arguments = True, arguments[1:]
+        else:
+            library, arguments = arguments[1], arguments[2:]
     option, names = (arguments[0], arguments[1:]) if arguments and arguments[0].startswith("--") else ("", arguments)
-    if option == "--log" and len(names) == 1:
+    if option == "--log" and len(names) == 1 and not tells_sleep:
         return tell_log(names[0], bench.load(library))
     if option == "--run" and len(names) == 2:
-        return tell_session(names[1], lambda tape: answers_of(names[0], tape), bench.load(library))
+        return tell_session(names[1], lambda tape: answers_of(names[0], tape), bench.load(library), tells_sleep)
     if not option and len(names) == 1:
-        return tell_session(names[0], lambda tape: answers_of(built_program(), tape), bench.load(library))
+        return tell_session(names[0], lambda tape: answers_of(built_program(), tape), bench.load(library), tells_sleep)
     if not option and len(names) == 2:
-        return tell_session(names[0], lambda _: read_file(names[1]).decode("ascii", "replace"), bench.load(library), printed_before=True)
+        return tell_session(names[0], lambda _: read_file(names[1]).decode("ascii", "replace"), bench.load(library), tells_sleep, printed_before=True)
     complain(__doc__)
     return 2
 

@@ -11,7 +11,10 @@ KEPT_BYTES = 135
 
 
 class Frame(NamedTuple):
-    """A frame, the tick and the place of the record that closed it (None where none did), and the places of its first and last character."""
+    """A frame, the tick and the place of the record that closed it (None where none did), and the places of its first and last character.
+
+    Its pause counts from `last_tick`; `early_polls` came before it was over, and `by_poll` tells whether a poll closed the frame.
+    """
 
     start: int
     values: bytes
@@ -20,6 +23,9 @@ class Frame(NamedTuple):
     last: int
     closed: Optional[int] = None
     closed_at: Optional[int] = None
+    last_tick: int = 0
+    early_polls: int = 0
+    by_poll: bool = False
 
 
 def is_good(values: bytes, command: int) -> bool:
@@ -71,8 +77,13 @@ class Cutter:
             self.open = Frame(character.tick, b"", False, place, place)
             self.values = bytearray()
         self.values.append(character.value)
-        self.open = self.open._replace(parity=self.open.parity or character.parity, last=place)
+        self.open = self.open._replace(parity=self.open.parity or character.parity, last=place, last_tick=character.tick, early_polls=0)
         self.last = character.tick
+
+    def poll_early(self):
+        """A poll that closed nothing."""
+        if self.open is not None:
+            self.open = self.open._replace(early_polls=self.open.early_polls + 1)
 
 
 def happenings(records: List[Record]) -> Iterator[object]:
@@ -83,9 +94,11 @@ def happenings(records: List[Record]) -> Iterator[object]:
         if isinstance(record, (Character, Poll)):
             frame = cutter.close(record.tick, place)
             if frame:
-                yield frame
+                yield frame._replace(by_poll=isinstance(record, Poll))
             if isinstance(record, Character):
                 cutter.add(record, place)
+            else:
+                cutter.poll_early()
         else:
             yield record
             dropped = cutter.drop() if isinstance(record, PowerOn) else None

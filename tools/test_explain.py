@@ -326,6 +326,47 @@ def test_host_calls():
     assert "oldest waiting code 1Fh speed too high\n" in explained("frame at 0: 40 50 10\npoll\n", "308 40 50 1F 0F\n")
 
 
+# What is told of a host that sleeps, of each frame of tools/sessions/sleep.txt (02, Req 03).
+SLEPT = (
+    "sleep 220 ticks from 1088, to 1308: a poll closed it then",
+    "sleep 220 ticks from 2438, to 2658: a poll closed it then; polls before it closed nothing: 1",
+    "sleep 220 ticks from 3088, to 3308: a poll closed it then; polls before it closed nothing: 2",
+    "sleep 220 ticks from 4294967087, to 11: a poll closed it then; polls before it closed nothing: 1",
+    "sleep 220 ticks from 5088, to 5308: a poll closed it 22 ticks later",
+    "sleep 220 ticks from 6088, to 6308: the next character closed it 92 ticks later",
+    "sleep 220 ticks from 6488, to 6708: a poll closed it then",
+    "sleep 220 ticks from 7088, to 7308: nothing closed it",
+    "sleep 220 ticks from 8088, to 8308: a poll closed it, on a clock that stepped back",
+)
+
+
+def test_sleep():
+    text = session("sleep")
+    given = texts.good_session(text), texts.answers_to_come(text), JUDGE
+    page, summary = explain.explain_tape(*given, tells_sleep=True)
+    told = [line.strip() for line in page.splitlines() if " sleep " in line]
+    assert tuple(told) == SLEPT and summary.status() == 0
+    plain, _ = explain.explain_tape(*given)
+    assert plain.splitlines() == [line for line in page.splitlines() if " sleep " not in line]
+
+
+def test_sleep_on_the_command_line():
+    with tempfile.TemporaryDirectory() as folder:
+        text = put(folder, "sleep.txt", session("sleep").encode())
+        answers = put(folder, "sleep.out", texts.answers_to_come(session("sleep")).encode())
+        status, page, _ = run_tool("explain.py", ["--sleep", text, answers], b"")
+        assert status == 0 and all(line.encode() in page for line in SLEPT)
+        library = os.path.join(ROOT, "target", "libquicksetter.so")
+        assert run_tool("explain.py", ["--library", library, "--sleep", text, answers], b"") == (0, page, b"")
+        assert run_tool("explain.py", ["--sleep", "--library", library, text, answers], b"") == (0, page, b"")
+        boards = put(folder, "boards.txt", session("two-boards").encode())
+        status, page, said = run_tool("explain.py", ["--sleep", boards], b"")
+        assert (status, page) == (1, b"") and b"--sleep tells of one board's host" in said
+        log = put(folder, "log.txt", b"0 > 40 4E 0E\n")
+        for words_given in (["--sleep"], ["--sleep", "--log", log], [text, "--sleep", answers]):
+            assert run_tool("explain.py", words_given, b"")[0] == 2, words_given
+
+
 def test_faulty_frames():
     assert "a character had a parity fault\n" in explained("character at 0: 40 parity\nframe at 44: 4E 0E\npoll\n", "308 40 50 09 19\n")
     assert "checksum wrong: B9 would be right\n" in explained("frame at 0: 40 4D 01 E0 55 69\npoll\n", "440 40 50 0A 1A\n")

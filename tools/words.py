@@ -6,8 +6,8 @@ from bench import NOT_A_REQUEST, REFUSALS, Verdict
 from commands import ADDRESS_BYTES, BROADCAST, COMMANDS, CREATE_FIELD, ERROR, SET_ADDRESS, WARNING, WRONG_ARGUMENT
 from commands import Part, code_words, error_words, fault_words, layout_fits, pieces
 from fields import EXISTS, Fields, deletion_of, differing, is_deletion
-from frames import KEPT_BYTES, SHORTEST
-from records import Fault, Measured, Plate, Record, hex_of, milliseconds, xor_of
+from frames import KEPT_BYTES, SHORTEST, Frame
+from records import Fault, Measured, Plate, Record, gap, hex_of, milliseconds, xor_of
 
 BYTES_A_LINE = 24
 DATA_RATES = dict(enumerate((600, 1200, 2400, 4800, 9600, 19200, 38400)))
@@ -199,6 +199,24 @@ def call_words(call: Record) -> str:
     if isinstance(call, Measured):
         return f"measured position {call.position}"
     return f"notes fault {fault_words(call.code)}" if isinstance(call, Fault) else "power-on"
+
+
+def closing_words(frame: Frame, due: int) -> str:
+    """When a frame was closed, beside the tick at which its pause was over."""
+    if frame.closed is None:
+        return "nothing closed it"
+    by = "a poll" if frame.by_poll else "the next character"
+    if gap(frame.last_tick, frame.closed) >= 1 << 31:
+        return f"{by} closed it, on a clock that stepped back"
+    late = gap(due, frame.closed)
+    return f"{by} closed it " + ("then" if late == 0 else f"{late} ticks later")
+
+
+def sleep_words(frame: Frame, pause: int) -> str:
+    """How long a host may sleep after the frame's last character, and what it did (02, Req 03)."""
+    due = (frame.last_tick + pause) % (1 << 32)
+    early = f"; polls before it closed nothing: {frame.early_polls}" if frame.early_polls else ""
+    return f"sleep {pause} ticks from {frame.last_tick}, to {due}: {closing_words(frame, due)}{early}"
 
 
 # --- the page -------------------------------------------------------------------------------

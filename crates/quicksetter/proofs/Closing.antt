@@ -93,7 +93,7 @@ module _ (p : Plate) (core m w : List ℕ) (u : Unrefused p core (length m) (len
   closed-over tick {c} {f} {m′} {w′} {core′} o e h q =
       let x : Outcome = work p (stateWith (stateIn core) none) m (closed (lineOf (frameIn core) (keptIn core))) in
       let k : coreCalled p core m w (poll tick)
-          ≡ (record { refusal = 0; count = c .sent; sleep = carried p (x .state) (poll tick); state = x .state; memory = m′; room = w′ })
+      ≡ (record { refusal = 0; count = c .sent; sleep = carried p (x .state) (poll tick); state = x .state; memory = m′; room = w′ })
       = served (poll tick) ∙ rw (closed-now tick o, ← h .sent, ← h .memory, ← h .room) in
       record {
         called = board-left p core m w (poll tick) (c .state) f (x .state) all k q (rw e (omega arith)) (no-line (keptIn core) (c .state) (h .state) e);

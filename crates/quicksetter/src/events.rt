@@ -18,7 +18,6 @@ ghost use Rattle.quicksetter.specs.Cores.{possible, ImageUnrefused, Imag
 use crate::given::NO_FRAME_OPEN;
 use crate::given::NOT_CALLED;
 use crate::given::answer_number;
-use crate::given::sleep_number;
 use image::ADDRESS;
 use image::CODES;
 use image::CORE;
@@ -224,5 +223,8 @@ pub extern "C" fn qs_poll(image: &mut [u8], tick: u32, memory: &mut [u8], room: 
     if left.is_over() {
         return answer_number(NO_FRAME_OPEN, shut(image, memory, room));
     }
-    answer_number(sleep_number(left), 0)
+    match left {
+        Remaining::NoFrameOpen => answer_number(NO_FRAME_OPEN, 0),
+        Remaining::TicksLeft(ticks) => answer_number(ticks, 0),
+    }
 }

@@ -1,11 +1,8 @@
 // What goes between C and the board as numbers: a plate, a refusal, a reply's length with how long the host may sleep.
 ghost use mathlib.Core.Path.{_≡_};
 ghost use Prim.Native.Nat.{_+_, _*_, _<_};
-ghost use Rattle.meaning.specs.Run.{carries};
-ghost use Rattle.line.specs.Line.{remainingOf};
-ghost use Rattle.quicksetter.specs.Calls.{plateFrom, sleepNumber};
+ghost use Rattle.quicksetter.specs.Calls.{plateFrom};
 use line::Plate;
-use line::Remaining;
 
 // A refusal's number is counted from here.
 pub const REFUSED: usize = 0x100;
@@ -23,16 +20,6 @@ pub(crate) fn plate_from(total: u32, bits: u32, address: u32, ticks: u32, pause:
         address,
         ticks,
         pause,
-    }
-}
-
-// How long the host may sleep.
-pub(crate) fn sleep_number(left: Remaining) -> u64
-    ensures { λ r. ⌜ r ≡ sleepNumber (carries (remainingOf left)) ⌝ }
-{
-    match left {
-        Remaining::NoFrameOpen => NO_FRAME_OPEN,
-        Remaining::TicksLeft(ticks) => ticks,
     }
 }
 

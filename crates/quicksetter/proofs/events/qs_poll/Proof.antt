@@ -1,14 +1,16 @@
 -- `quicksetter::events::qs_poll` meets its contract. Assumes nothing.
-use mathlib.Core.Path.{_≡_, sym, _∙_}
+use Prim.Native.Nat.{_+_, _*_}
+use mathlib.Core.Path.{_≡_, sym, ap, _∙_}
 use mathlib.Core.Bool.{true}
 use native.Mathlib.Omega.{arith}
 use denote.Ref.{now}
 use lib.ListN.{length}
-use Rattle.meaning.specs.Characters.{remaining}
+use Rattle.meaning.specs.Characters.{Remaining, remaining}
+use Rattle.meaning.specs.Run.{poll, carries}
 use Rattle.meaning.proofs.Gaps.{over-told}
 use Rattle.line.specs.Line.{remainingOf}
 use Rattle.image.specs.Image.{isOurs}
-use Rattle.quicksetter.specs.Calls.{plateHeld, stateHeld}
+use Rattle.quicksetter.specs.Calls.{plateHeld, stateHeld, sleepNumber, CalledWithSleep}
 use Rattle.quicksetter.specs.Cores.{ImageUnrefused}
 use borrow.Author.Tests.{not-true, not-false}
 use Rattle.quicksetter.proofs.Heads.{ours-length, ours-label, not-ours}
@@ -27,7 +29,6 @@ use Rattle.line.proofs.plate.Plate.memory_length.Reads as memory-length-reads
 use Rattle.line.proofs.characters.Remaining.is_over.Reads as is-over-reads
 use Rattle.quicksetter.proofs.events.remaining.Reads as remaining-reads
 use Rattle.quicksetter.proofs.given.answer_number.Reads as answer-number-reads
-use Rattle.quicksetter.proofs.given.sleep_number.Reads as sleep-number-reads
 use Rattle.quicksetter.proofs.events.is_possible.Reads as is-possible-reads
 use Rattle.quicksetter.proofs.events.is_sound.Reads as is-sound-reads
 use Rattle.quicksetter.proofs.events.shut.Reads as shut-reads
@@ -239,29 +240,52 @@ returns-6 c =
     let o = over-told _ _ _ (left after-remaining) ∙ sym (after-is-over .is-over .ensures) ∙ after-if6 .if6 .taken in
     rw (c .answer-number .ensures) (with-sleep _ _ _ _ (poll-whole _ _ _ u _ (polled-over _ _ _ u _ o (after-shut .shut .ensures))) (shut-sleep _ _ _ u _ o))
 
-sleep-number-requires : tie.Need-sleep-number-requires
-sleep-number-requires c κs = search needs
+enum-told : tie.Need-enum-told
+enum-told c = search needs
 
 answer-number-requires-2 : tie.Need-answer-number-requires-2
-answer-number-requires-2 c κs =
-    let after-remaining = c .before .before .before in
-    rw (c .sleep-number .ensures) (low-sleep _ _ _ (fine (else5 after-remaining) .core .plate) (left after-remaining))
+answer-number-requires-2 c κs = search needs
+
+enum-known-left : tie.Need-enum-known-left
+enum-known-left c = search needs
+
+-- a frame that is not over, or none: nothing is done, and x remains
+early : (c : tie.Else6) {x : Remaining} → let a = start5 (else5 (c .before .before)) .args in x ≡ remaining (plateHeld (now (a .image))) (stateHeld (now (a .image))) (a .tick)
+    → CalledWithSleep (now (a .image)) (now (a .memory)) (now (a .room)) (poll (a .tick)) (sleepNumber (carries x) * 0x100000000 + 0) (now (a .image)) (now (a .memory)) (now (a .room))
+early c k =
+    let after-remaining = c .before .before in
+    let after-if5 = else5 after-remaining in
+    let after-slice-known = after-if5 .before .before .before .before .before .before .before .before .before .before .before .before .before .before .before .before .before .before in
+    let u = fine after-if5 in
+    let o = over-told _ _ _ (left after-remaining) ∙ sym (c .before .is-over .ensures) ∙ c .if6 .left in
+    with-sleep _ _ _ _ (poll-whole _ _ _ u _ (polled-early _ _ _ u _ (λ i. (after-slice-known .slice-known .given i) .fits) o)) (left-sleep _ _ _ u _ o k)
+
+answer-number-requires-3 : tie.Need-answer-number-requires-3
+unfolding sleepNumber
+answer-number-requires-3 c κs =
+    let after-left = c .before in
+    let after-remaining = after-left .before .before .before .before in
+    low-sleep _ _ _ (fine (else5 after-remaining) .core .plate) (sym (ap remainingOf (after-left .left .given .1)) ∙ left after-remaining)
 
 same-length-9 : tie.Need-same-length-9
 same-length-9 c = search needs
 
 returns-7 : tie.Need-returns-7
+unfolding sleepNumber
 returns-7 c =
-    let after-sleep-number = c .before in
-    let after-if6 = after-sleep-number .before in
-    let after-is-over = after-if6 .before in
-    let after-remaining = after-is-over .before in
-    let after-if5 = else5 after-remaining in
-    let after-slice-known = after-if5 .before .before .before .before .before .before .before .before .before .before .before .before .before .before .before .before .before .before in
-    let u = fine after-if5 in
-    let o = over-told _ _ _ (left after-remaining) ∙ sym (after-is-over .is-over .ensures) ∙ after-if6 .if6 .left in
-    rw (c .answer-number2 .ensures, after-sleep-number .sleep-number .ensures)
-    (with-sleep _ _ _ _ (poll-whole _ _ _ u _ (polled-early _ _ _ u _ (λ i. (after-slice-known .slice-known .given i) .fits) o)) (left-sleep _ _ _ u _ o (left after-remaining)))
+    let after-enum-told = c .before in
+    let after-if6 = after-enum-told .before .before in
+    rw (c .answer-number2 .ensures) (early after-if6 (sym (ap remainingOf (after-enum-told .enum-told .given .1)) ∙ left (after-if6 .before .before)))
+
+same-length-10 : tie.Need-same-length-10
+same-length-10 c = search needs
+
+returns-8 : tie.Need-returns-8
+unfolding sleepNumber
+returns-8 c =
+    let after-left = c .before .before in
+    let after-if6 = after-left .before .before in
+    rw (c .answer-number3 .ensures) (early after-if6 (sym (ap remainingOf (after-left .left .given .1)) ∙ left (after-if6 .before .before)))
 
 pub qs-poll-spec : {M : Type 1} → statement M
 qs-poll-spec =
@@ -305,7 +329,11 @@ qs-poll-spec =
     same-length-7
     same-length-8
     returns-6
-    sleep-number-requires
+    enum-told
     answer-number-requires-2
+    enum-known-left
+    answer-number-requires-3
     same-length-9
-    returns-7)
+    returns-7
+    same-length-10
+    returns-8)
