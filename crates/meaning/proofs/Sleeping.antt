@@ -39,13 +39,13 @@ open-line : (p : Plate) (s : State) (m : List ℕ) (now : ℕ) → T (not (over 
 unfolding still
 open-line p s m now n = ap (λ (x : Outcome). x .state .line) (waits-on p s m now n)
 
-shut-left : (p : Plate) (s : State) (m : List ℕ) (now : ℕ) → T (over p s now) → remaining p ((upTo p s m now) .state) now ≡ no-frame-open
+shut-left : (p : Plate) (s : State) (m : List ℕ) (now t : ℕ) → T (over p s now) → remaining p ((upTo p s m now) .state) t ≡ no-frame-open
 unfolding remaining none
-shut-left p s m now o = rw (shut-line p s m now o)
+shut-left p s m now t o = rw (shut-line p s m now o)
 
 pub none-after-close : NoneAfterClose
 unfolding carried step closes
-none-after-close p s m now o = ap carries (shut-left p s m now o)
+none-after-close p s m now o = ap carries (shut-left p s m now _ o)
 
 -- ---- a character
 taken-left : (p : Plate) (s : State) (now v : ℕ) (bad : Bool) → remaining p (taken s now v bad) now ≡ ticks-left (fullPause p)
@@ -124,7 +124,7 @@ some-left p s m (poll now) n ok e = go (over p s now) refl
     left = ap carriedIn e
 
     go : (b : Bool) → over p s now ≡ b → 1 ≤ n
-    go true o = absurd (false≢true (ap isOpen (sym (shut-left p s m now (rw o tt)) ∙ left)))
+    go true o = absurd (false≢true (ap isOpen (sym (shut-left p s m now now (rw o tt)) ∙ left)))
     go false o =
         let still-left : remaining p s now ≡ ticks-left n = sym (by-line p ((upTo p s m now) .state) s now (open-line p s m now (rw o tt))) ∙ left in
         let more-than-0 : eqb n 0 ≡ false = sym (over-told p s now (sym still-left)) ∙ o in
