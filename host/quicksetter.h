@@ -26,13 +26,14 @@
  *         if (no character waits && (sleep == QS_NO_FRAME_OPEN || ticks_now() - called < sleep))
  *             sleep until an interrupt, and where sleep != QS_NO_FRAME_OPEN with the alarm at tick called + sleep;
  *         interrupts on;
- *         called = ticks_now();                           before the look at the queue: a character is then never younger than a poll after it
+ *         called = ticks_now();                           before the look at the queue: a character that ends in between is then not older than the poll
  *         if (a character waits)
  *             result = qs_character(.., called = its own tick, ..);
  *         else
  *             result = qs_poll(.., called, ..);
- *         sleep = QS_SLEEP(result);
- *         if (QS_REPLY(result) is a length) keep what must last, send the reply;
+ *         sleep = QS_SLEEP(result);                       of a refused call QS_SLEEP_REFUSED: such a host does not meet it
+ *         if (QS_REPLY(result) != 0)
+ *             keep what must last; send the reply;        host/example.c has all of it
  *     }
  *
  * The look at the queue and the sleep are one step that no interrupt divides. Otherwise a character that ends in between is in the queue of a processor that
@@ -43,7 +44,7 @@
  * Only numbers and pointers to bytes cross. Every length, and every number of bytes that comes back, is a uint64_t, also where size_t has 32 bits.
  *
  * What must last. When the supply goes, two things must still be there afterwards: memory, and the QS_LASTING_LENGTH bytes of the image from
- * QS_IMAGE_LASTING on (codes, counter, address in force, offset). A call that returns 0 or a refusal changes neither. A call that returns a reply changes
+ * QS_IMAGE_LASTING on (codes, counter, address in force, offset). A call that returns no reply, or a refusal, changes neither. One that returns a reply changes
  * them only if QS_MAY_CHANGE(room[1]) holds of the reply's command byte, so an error reply never does. A host that then first writes what changed to its
  * flash and only after that sends the reply loses nothing that it ever acknowledged. After power-on it calls qs_restart with the plate and those bytes, and
  * gives the measured position by qs_measured: memory and state are then what power-on left of them. The plate, its label too, never changes and is not among
