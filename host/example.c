@@ -168,9 +168,9 @@ static void host_received(struct host *host, uint32_t timer, uint8_t value, bool
     queue->written++;
 }
 
-/* Whether the main loop may sleep on: no character waits, and the pause of an open frame is not over. A firmware calls it with interrupts off, and goes to sleep
- * before they are on again, with the timer's alarm set to the tick host->called + host->sleep if a frame is open: a character that ends between the look at
- * the queue and the sleep would else lie in the queue until the alarm, or for ever. */
+/* Whether the main loop may sleep on: no character waits, and the pause of an open frame is not over. A firmware calls it with interrupts off, and goes to
+ * sleep before they are on again, with the timer's alarm set to the tick host->called + host->sleep if a frame is open: a character that ends between the look
+ * at the queue and the sleep would else lie in the queue until the alarm, or for ever. */
 static bool host_may_sleep(struct host *host, uint32_t timer) {
     if (host->queue.taken != host->queue.written)
         return false;

@@ -60,8 +60,8 @@
  *     fed its own reply takes it for a request and answers it, for ever.
  *   - tick is a counter of 1/38400 s that wraps around at exactly 2^32 and never steps back behind a character that was handed in. A 32-bit microsecond
  *     timer that is divided wraps early: count ticks in the timer itself, or keep 64 bits and convert (host/example.c, ticks_of_microseconds).
- *   - qs_poll is called in time: a frame is answered at the first poll after its pause, which QS_SLEEP foretells. The reply is due within the times beside the commands below,
- *     counted from the end of the pause; they hold the flash write too.
+ *   - qs_poll is called in time: a frame is answered at the first poll after its pause, which QS_SLEEP foretells. The reply is due within the times beside the
+ *     commands below, counted from the end of the pause; they hold the flash write too.
  *   - A reply that qs_character returns answers the frame before: the master is sending again already. A host that is about to send lets it go and sends
  *     nothing; what the request changed stays changed, and is written to flash all the same.
  *   - Several boards may share a line, each with an address of its own. A host hands in all that it hears, the other boards' replies too: a frame that

@@ -964,7 +964,7 @@ static void sleeps(struct plate p, uint32_t last, uint32_t later, uint64_t reply
     check(QS_REPLY(result) == reply && QS_SLEEP(result) == sleep, "the reply and the sleep of a poll", later);
 }
 
-/* A frame of a pause of 220 ticks, of the longest one and of the shortest, at ticks round the wrap too; a clock that steps back by a tick, and by half a round. */
+/* Frames of a pause of 220 ticks, of the longest one and of the shortest, at ticks round the wrap too; a clock that steps back by a tick, by half a round. */
 static void test_sleeps(void) {
     static const struct plate LONGEST = {112, 24, 0, 64, 55}, SHORTEST = {112, 24, 0, 1, 22};
     static const uint32_t lasts[] = {1000, 2, 1, 0, UINT32_MAX, UINT32_MAX - 100, UINT32_MAX - 219, UINT32_MAX - 220, UINT32_MAX / 2};
@@ -1666,9 +1666,11 @@ static void test_other_macros(void) {
     for (uint64_t result = 0; result <= 261; result++)
         check(QS_IS_REFUSED(result) == (result == QS_R1 || result == QS_R2 || result == QS_R3 || result == QS_R4 || result == QS_R5), "a refusal", result);
     check(QS_R1 == 257 && QS_R5 == 261, "the refusals", 0);
-    check(QS_REPLY((uint64_t)3520 << 32 | 134) == 134 && QS_SLEEP((uint64_t)3520 << 32 | 134) == QS_LONGEST_SLEEP, "the two numbers of a character and a poll", 0);
-    check(QS_SLEEP((uint64_t)QS_NO_FRAME_OPEN << 32) == QS_NO_FRAME_OPEN && QS_IS_REFUSED((uint64_t)QS_SLEEP_REFUSED << 32 | QS_R3), "their named ones", 0);
-    check(!QS_IS_REFUSED((uint64_t)QS_NO_FRAME_OPEN << 32 | 134) && QS_SLEEP_REFUSED != QS_NO_FRAME_OPEN && QS_SLEEP_REFUSED > QS_LONGEST_SLEEP, "and no other", 0);
+    const uint64_t longest = (uint64_t)3520 << 32 | 134, idle = (uint64_t)QS_NO_FRAME_OPEN << 32 | 134, refused = (uint64_t)QS_SLEEP_REFUSED << 32 | QS_R3;
+    check(QS_REPLY(longest) == 134 && QS_SLEEP(longest) == QS_LONGEST_SLEEP, "the two numbers of a character and a poll", 0);
+    check(QS_SLEEP(idle) == QS_NO_FRAME_OPEN && QS_REPLY(idle) == 134 && !QS_IS_REFUSED(idle), "no frame open", 0);
+    check(QS_SLEEP(refused) == QS_SLEEP_REFUSED && QS_REPLY(refused) == QS_R3 && QS_IS_REFUSED(refused), "a refused call's", 0);
+    check(QS_SLEEP_REFUSED != QS_NO_FRAME_OPEN && QS_SLEEP_REFUSED > QS_LONGEST_SLEEP && QS_NO_FRAME_OPEN > QS_LONGEST_SLEEP, "neither is a count", 0);
     check(QS_DATA_PLACE((uint64_t)2 << 32 | 131) == 2 && QS_DATA_LENGTH((uint64_t)2 << 32 | 131) == 131, "the two numbers of a data part", 0);
     for (uint64_t total = 1; total <= 112; total++)
         check(QS_MEMORY_LENGTH(total) == 16 * total + total && QS_MEMORY_LENGTH((uint8_t)total) == 17 * total, "the memory's length", total);

@@ -15,7 +15,7 @@ use Rattle.meaning.specs.Characters.{gap, fullPause, Remaining, no-frame
 use Rattle.meaning.specs.Frames.{Outcome, still, resting, close, upTo}
 use Rattle.meaning.specs.Run.{Call, character, poll, measured, fault, power-on, step, lends, runFrom, closes, Carried, nothing, carries, carried}
 use Rattle.meaning.specs.Demands.{spoken, calm, unbroken}
-use Rattle.meaning.specs.Sleeping.{later, tickOf, Stamped, Waits, ClosesOnTime, CarriesSome, FullAfterCharacter, NoneAfterClose}
+use Rattle.meaning.specs.Sleeping.{later, tickOf, Stamped, Between, ClosesOnTime, CarriesSome, FullAfterCharacter, NoneAfterClose}
 use Rattle.meaning.proofs.Choices.{pick-true, told-true}
 use Rattle.meaning.proofs.Steps.{both-0, both-1}
 use Rattle.meaning.proofs.Plates.{some-pause, longest-pause}
@@ -138,7 +138,7 @@ carries-some p s m g n ok e =
     let l = left-so p ((step p s m g) .state) (tickOf g) n (at-its-tick p ((step p s m g) .state) g (ticks-left n) e) in
     (some-left p s m g n ok e, omega (arith, l .number))
 
--- ---- while the host waits
+-- ---- in between
 -- a stamp stays a 32-bit number
 stamp-low : (p : Plate) (s : State) (m : List ℕ) (g : Call) → Stamped s g → (step p s m g) .state .line .last < 2 ^ 32
 unfolding step tickOf still none
@@ -155,14 +155,14 @@ stamp-low p s m power-on h = unfold poweredOn withLine none in omega arith
 not-empty : (l : List ℕ) (v : ℕ) → l ++ (v ∷ []) ≡ [] → ⊥
 not-empty l v e = omega (arith, length-append l (v ∷ []), ap length e)
 
-step-waits : (p : Plate) (o : Outcome) (g : Call) (gs : List Call) → spoken (g ∷ gs) ≡ [] → T (calm g) → T (not (closes p (o .state) g))
+step-between : (p : Plate) (o : Outcome) (g : Call) (gs : List Call) → spoken (g ∷ gs) ≡ [] → T (calm g) → T (not (closes p (o .state) g))
     → (step p (o .state) (o .memory) g) .state .line ≡ o .state .line
 unfolding spoken calm closes step still
-step-waits p o (character now v bad) gs e c n = absurd (not-empty (spoken gs) v e)
-step-waits p o (poll now) gs e c n = open-line p (o .state) (o .memory) now n
-step-waits p o (measured k) gs e c n = unfold withMeasured in refl
-step-waits p o (fault x) gs e c n = noted-line (o .state) x
-step-waits p o power-on gs e c n = absurd c
+step-between p o (character now v bad) gs e c n = absurd (not-empty (spoken gs) v e)
+step-between p o (poll now) gs e c n = open-line p (o .state) (o .memory) now n
+step-between p o (measured k) gs e c n = unfold withMeasured in refl
+step-between p o (fault x) gs e c n = noted-line (o .state) x
+step-between p o power-on gs e c n = absurd c
 
 silent-before : (g : Call) (gs : List Call) → spoken (g ∷ gs) ≡ [] → spoken gs ≡ []
 unfolding spoken
@@ -173,14 +173,14 @@ silent-before (fault c) gs e = e
 silent-before power-on gs e = e
 
 -- the frame stays as it was
-line-waits : (p : Plate) (s : State) (m : List ℕ) (gs : List Call) → spoken gs ≡ [] → T (unbroken p s m gs) → (runFrom p s m gs) .state .line ≡ s .line
+line-between : (p : Plate) (s : State) (m : List ℕ) (gs : List Call) → spoken gs ≡ [] → T (unbroken p s m gs) → (runFrom p s m gs) .state .line ≡ s .line
 unfolding unbroken runFrom
-line-waits p s m [] e u = unfold still in refl
-line-waits p s m (g ∷ gs) e u =
+line-between p s m [] e u = unfold still in refl
+line-between p s m (g ∷ gs) e u =
     let x = both (calm g) (not (closes p ((runFrom p s m gs) .state) g)) in
     let y = both-0 x (unbroken p s m gs) u in
-    step-waits p (runFrom p s m gs) g gs e (both-0 (calm g) _ y) (both-1 (calm g) _ y)
-    ∙ line-waits p s m gs (silent-before g gs e) (both-1 x (unbroken p s m gs) u)
+    step-between p (runFrom p s m gs) g gs e (both-0 (calm g) _ y) (both-1 (calm g) _ y)
+    ∙ line-between p s m gs (silent-before g gs e) (both-1 x (unbroken p s m gs) u)
 
 -- ---- on time
 -- of a pause of which n ticks remain, k more are all exactly if k is n
@@ -201,6 +201,6 @@ closes-on-time p s m g n gs k ok stamped e w few =
     let since = gap (s₁ .line .last) (tickOf g) in
     let some : 1 ≤ n = some-left p s m g n ok e in
     let small : since + k < 2 ^ 32 = omega (arith, l .number, longest-pause p (told-true (plateOk p) ok)) in
-    let same : over p s₂ t ≡ over p s₁ t = unfold over in ap ranOut (by-line p s₂ s₁ t (line-waits p s₁ ((step p s m g) .memory) gs (w .silent) (w .unclosed))) in
+    let same : over p s₂ t ≡ over p s₁ t = unfold over in ap ranOut (by-line p s₂ s₁ t (line-between p s₁ ((step p s m g) .memory) gs (w .silent) (w .unclosed))) in
     let then : gap (s₁ .line .last) t ≡ since + k = gap-later (s₁ .line .last) (tickOf g) k (stamp-low p s m g stamped) ∙ mod-eq-of-lt small in
     same ∙ over-is p s₁ t ∙ rw (l .open-frame, then) (full-then (fullPause p) since n k (l .number) some few)

@@ -26,7 +26,7 @@ pub record Stamped (s : State) (g : Call) : Type 0 where
   pub tick : tickOf g < 2 ^ 32
 
 -- 02, Req 03, "with no character, closing poll or power-on between": so measured positions, faults and polls that close nothing
-pub record Waits (p : Plate) (s : State) (m : List ℕ) (gs : List Call) : Type 0 where
+pub record Between (p : Plate) (s : State) (m : List ℕ) (gs : List Call) : Type 0 where
   pub silent : spoken gs ≡ []
   pub unclosed : T (unbroken p s m gs)
 
@@ -35,7 +35,7 @@ pub record Waits (p : Plate) (s : State) (m : List ℕ) (gs : List Call) : Type 
 abbrev pub ClosesOnTime : Type 0
 ClosesOnTime = (p : Plate) (s : State) (m : List ℕ) (g : Call) (n : ℕ) (gs : List Call) (k : ℕ) → T (plateOk p) → Stamped s g
     → carried p ((step p s m g) .state) g ≡ carries (ticks-left n)
-    → Waits p ((step p s m g) .state) ((step p s m g) .memory) gs → k ≤ n
+    → Between p ((step p s m g) .state) ((step p s m g) .memory) gs → k ≤ n
     → closes p ((runFrom p ((step p s m g) .state) ((step p s m g) .memory) gs) .state) (poll (later (tickOf g) k)) ≡ eqb k n
 
 -- 02, Req 03, "0 when over": an answer never carries 0, nor more than the full pause

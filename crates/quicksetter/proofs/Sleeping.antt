@@ -15,7 +15,7 @@ use Rattle.meaning.specs.Characters as characters
 use Rattle.meaning.specs.Frames.{Outcome, still}
 use Rattle.meaning.specs.Run.{Call, character, poll, measured, fault, power-on, step, runFrom, lends, closes, refusedBy, Carried, nothing, carries, carried, Held, untouched, leftBy, called}
 use Rattle.meaning.specs.Demands.{spoken, calm, unbroken}
-use Rattle.meaning.specs.Sleeping.{later, tickOf, Waits}
+use Rattle.meaning.specs.Sleeping.{later, tickOf, Between}
 use Rattle.meaning.proofs.Choices.{true-told, both-intro}
 use Rattle.meaning.proofs.Limits.{replies-fit}
 use Rattle.meaning.proofs.Plates.{longest-pause}
@@ -23,7 +23,7 @@ use Rattle.meaning.proofs.Sleeping.{carries-some, carries-then, closes-on-time}
 use Rattle.image.specs.Image.{coreIn, frameIn}
 use Rattle.image.proofs.Numbers.{there-fits}
 use Rattle.quicksetter.specs.Calls.{isImage, plateHeld, stateHeld, calledBy, callNumber, sleepNumber, answerNumber, Called, CalledWithSleep, replyIn, sleepIn}
-use Rattle.quicksetter.specs.Sleeping.{Halves, QsHalves, QsRefusedSleep, QsSleepWithin, Waited, at-once, and-then, QsClosesOnTime}
+use Rattle.quicksetter.specs.Sleeping.{Halves, QsHalves, QsRefusedSleep, QsSleepWithin, CalledBetween, at-once, and-then, QsClosesOnTime}
 use Rattle.quicksetter.proofs.Heads.{core-small}
 use Rattle.quicksetter.proofs.Numbers.{number-low, carries-none}
 use Rattle.quicksetter.proofs.Staying.{Holds, steps-so, goes-on, reached}
@@ -86,12 +86,12 @@ ticks-then nothing n e h = absurd (omega (arith, e))
 ticks-then (carries no-frame-open) n e h = absurd (omega (arith, e))
 ticks-then (carries (ticks-left j)) n e h = ap (λ (i : ℕ). carries (ticks-left i)) (sym e)
 
--- the calls of a host that waits, as the meaning's
+-- the calls in between, as the meaning's
 record Past (p : Plate) (img m img″ m″ : List ℕ) : Type 0 where
   calls : List Call
   state : stateHeld img″ ≡ (runFrom p (stateHeld img) m calls) .state
   memory : m″ ≡ (runFrom p (stateHeld img) m calls) .memory
-  waits : Waits p (stateHeld img) m calls
+  between : Between p (stateHeld img) m calls
   holds : Holds p img″ m″
 
 silent-more : (g : Call) (gs : List Call) → spoken (g ∷ []) ≡ [] → spoken gs ≡ [] → spoken (g ∷ gs) ≡ []
@@ -102,9 +102,9 @@ silent-more (measured n) gs e h = h
 silent-more (fault c) gs e h = h
 silent-more power-on gs e h = h
 
-past : (p : Plate) (img m img″ m″ : List ℕ) → Holds p img m → Waited p img m img″ m″ → Past p img m img″ m″
+past : (p : Plate) (img m img″ m″ : List ℕ) → Holds p img m → CalledBetween p img m img″ m″ → Past p img m img″ m″
 unfolding runFrom unbroken still
-past p img m _ _ k (at-once _ _) = record { calls = []; state = refl; memory = refl; waits = record { silent = unfold spoken in refl; unclosed = tt }; holds = k }
+past p img m _ _ k (at-once _ _) = record { calls = []; state = refl; memory = refl; between = record { silent = unfold spoken in refl; unclosed = tt }; holds = k }
 past p img m _ _ k (and-then _ _ img₁ m₁ w g r img₂ m₂ w₂ before wide quiet steady unclosed c) =
     let q = past p img m img₁ m₁ k before in
     let s = steps-so p img₁ m₁ w g r img₂ m₂ w₂ (q .holds) wide c in
@@ -116,9 +116,9 @@ past p img m _ _ k (and-then _ _ img₁ m₁ w g r img₂ m₂ w₂ before wide 
       calls = g ∷ q .calls;
       state = s .after ∙ ap (λ (o : Outcome). o .state) same;
       memory = s .kept ∙ ap (λ (o : Outcome). o .memory) same;
-      waits = record {
-        silent = silent-more g (q .calls) quiet (q .waits .silent);
-        unclosed = both-intro (both (calm g) none) (unbroken p (stateHeld img) m (q .calls)) (both-intro (calm g) none steady shut) (q .waits .unclosed);
+      between = record {
+        silent = silent-more g (q .calls) quiet (q .between .silent);
+        unclosed = both-intro (both (calm g) none) (unbroken p (stateHeld img) m (q .calls)) (both-intro (calm g) none steady shut) (q .between .unclosed);
       };
       holds = goes-on p img₁ m₁ w g r img₂ m₂ w₂ (q .holds) wide c;
     }
@@ -129,15 +129,15 @@ unfolding frameIn
 stamp-low img small = there-fits (coreIn img) (core-small img small) 24 4
 
 pub qs-closes-on-time : QsClosesOnTime
-qs-closes-on-time p img m w g r img′ m′ w′ img″ m″ k h small low wide c few waited early =
+qs-closes-on-time p img m w g r img′ m′ w′ img″ m″ k h small low wide c few meanwhile early =
     let held = reached p img m h in
     let parts = qs-halves img m w g r img′ m′ w′ c in
     let s = steps-so p img m w g (replyIn r) img′ m′ w′ held wide (parts .reply) in
     let n = sleepIn r in
     let x = carried p ((step p (stateHeld img) m g) .state) g in
     let e : x ≡ carries (ticks-left n) = ticks-then x n (carried-so p img m w g r img′ m′ w′ held wide c) few in
-    let q = past p img′ m′ img″ m″ (goes-on p img m w g (replyIn r) img′ m′ w′ held wide (parts .reply)) waited in
-    let after : Waits p ((step p (stateHeld img) m g) .state) ((step p (stateHeld img) m g) .memory) (q .calls) = rw (← s .after, ← s .kept) (q .waits) in
+    let q = past p img′ m′ img″ m″ (goes-on p img m w g (replyIn r) img′ m′ w′ held wide (parts .reply)) meanwhile in
+    let after : Between p ((step p (stateHeld img) m g) .state) ((step p (stateHeld img) m g) .memory) (q .calls) = rw (← s .after, ← s .kept) (q .between) in
     let then = closes-on-time p (stateHeld img) m g n (q .calls) k (true-told (plateOk p) (held .plate)) (record { last = stamp-low img small; tick = low }) e after early in
     let same : stateHeld img″ ≡ (runFrom p ((step p (stateHeld img) m g) .state) ((step p (stateHeld img) m g) .memory) (q .calls)) .state
     = q .state ∙ ap₂ (λ (x : meaning.State) (y : List ℕ). (runFrom p x y (q .calls)) .state) (s .after) (s .kept) in

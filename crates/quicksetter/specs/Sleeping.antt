@@ -29,14 +29,14 @@ abbrev pub QsSleepWithin : Type 0
 QsSleepWithin = (p : Plate) (img m w : List ℕ) (g : Call) (r : ℕ) (img′ m′ w′ : List ℕ) → Reached p img m → longestReply ≤ length w → lends g ≡ true
     → CalledWithSleep img m w g r img′ m′ w′ → T (either (eqb (sleepIn r) 0xFFFFFFFF) (between 1 3520 (sleepIn r)))
 
--- what a host calls while it waits: measured positions, faults and polls that close nothing; image and memory before and after
-pub data Waited (p : Plate) : List ℕ → List ℕ → List ℕ → List ℕ → Type 0 where
-  at-once : (img m : List ℕ) → Waited p img m img m
-  and-then : (img m img₁ m₁ w : List ℕ) (g : Call) (r : ℕ) (img₂ m₂ w₂ : List ℕ) → Waited p img m img₁ m₁ → longestReply ≤ length w → spoken (g ∷ []) ≡ [] → T (calm g)
-      → closes p (stateHeld img₁) g ≡ false → Called img₁ m₁ w g r img₂ m₂ w₂ → Waited p img m img₂ m₂
+-- what a host calls in between: measured positions, faults and polls that close nothing; image and memory before and after
+pub data CalledBetween (p : Plate) : List ℕ → List ℕ → List ℕ → List ℕ → Type 0 where
+  at-once : (img m : List ℕ) → CalledBetween p img m img m
+  and-then : (img m img₁ m₁ w : List ℕ) (g : Call) (r : ℕ) (img₂ m₂ w₂ : List ℕ) → CalledBetween p img m img₁ m₁ → longestReply ≤ length w → spoken (g ∷ []) ≡ [] → T (calm g)
+      → closes p (stateHeld img₁) g ≡ false → Called img₁ m₁ w g r img₂ m₂ w₂ → CalledBetween p img m img₂ m₂
 
 -- 02, Req 03, "Polling exactly that many ticks later .. closes the frame; polling earlier does not": of an image of bytes, the ticks being 32-bit numbers
 abbrev pub QsClosesOnTime : Type 0
 QsClosesOnTime = (p : Plate) (img m w : List ℕ) (g : Call) (r : ℕ) (img′ m′ w′ img″ m″ : List ℕ) (k : ℕ) → Reached p img m → ((i : ℕ) → arg img i < 256) → tickOf g < 2 ^ 32
-    → longestReply ≤ length w → CalledWithSleep img m w g r img′ m′ w′ → sleepIn r ≤ 3520 → Waited p img′ m′ img″ m″ → k ≤ sleepIn r
+    → longestReply ≤ length w → CalledWithSleep img m w g r img′ m′ w′ → sleepIn r ≤ 3520 → CalledBetween p img′ m′ img″ m″ → k ≤ sleepIn r
     → closes p (stateHeld img″) (poll (later (tickOf g) k)) ≡ eqb k (sleepIn r)

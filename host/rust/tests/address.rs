@@ -4,7 +4,8 @@ mod rig;
 
 use quicksetter_host::dice::Dice;
 use quicksetter_host::{
-    call, call_second, label_of, restart, state_of, Call, Told, ADDRESS, CODES, LASTING, MEASURED, OPEN,
+    call, call_second, label_of, restart, state_of, Call, Told, ADDRESS, CODES, LASTING, MEASURED,
+    OPEN,
 };
 use rig::board::Kind::{AtFormerAddress, AtNewAddress, Moved, MovedByBroadcast, NotMoved};
 use rig::board::{came_up, good_plate, none_refused, Board, Seen};

@@ -4,8 +4,8 @@ mod rig;
 
 use quicksetter_host::dice::Dice;
 use quicksetter_host::{
-    call, call_second, head_of, label_of, restart, rested, state_of, Call, Told, ADDRESS, IMAGE_LENGTH,
-    LASTING, LASTING_LENGTH, MEASURED, OPEN,
+    call, call_second, head_of, label_of, restart, rested, state_of, Call, Told, ADDRESS,
+    IMAGE_LENGTH, LASTING, LASTING_LENGTH, MEASURED, OPEN,
 };
 use rig::board::Kind::{AtFormerAddress, AtNewAddress, Error, Moved, MovedByBroadcast, Reply};
 use rig::board::{

@@ -258,12 +258,27 @@ impl Board {
         if dice.once_in(4) {
             calls.push(self.interlude(dice));
         }
+        if dice.once_in(3) {
+            calls.extend(self.early_polls(dice));
+        }
         if !dice.once_in(4) {
             let gap = self.outer_gap(dice);
             let tick = self.after(gap);
             calls.push(Call::Poll { tick });
         }
         calls
+    }
+
+    /// Polls within the pause after the last character, up to its last tick.
+    fn early_polls(&self, dice: &mut Dice) -> Vec<Call> {
+        let gap = self.closing_gap();
+        let within = (0..dice.below(3))
+            .map(|_| dice.word() % gap)
+            .chain([gap - 1]);
+        let poll = |since| Call::Poll {
+            tick: self.tick.wrapping_add(since),
+        };
+        within.map(poll).collect()
     }
 
     fn known(&self) -> Known<'_> {
