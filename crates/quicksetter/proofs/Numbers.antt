@@ -93,6 +93,11 @@ low-sleep p s tick ok e = rw e (go (s .line .begun))
     go true = omega (arith, low-pause p ok)
     go false = omega arith
 
+-- with no frame open nothing remains to be told
+pub none-open : (p : meaning.Plate) (s : meaning.State) (tick : ℕ) → s .line .begun ≡ false → no-frame-open ≡ remaining p s tick
+unfolding remaining
+none-open p s tick e = rw e
+
 -- of an image that is not refused
 module _ (img m w : List ℕ) (u : ImageUnrefused img (length m) (length w)) where
   sleep-of : (g : Call) → (calledBy img m w g) .sleep ≡ carried (plateHeld img) ((step (plateHeld img) (stateHeld img) m g) .state) g

@@ -34,6 +34,10 @@ pub remaining-so : (img : List ℕ) (tick : ℕ) {r : characters.Remaining} → 
     → r ≡ remaining (plateHeld img) (stateHeld img) tick
 remaining-so img tick e r = rw (lent-core img (ours-length img e)) at r
 
+-- whether it is open
+pub open-so : (img : List ℕ) {r : Bool} → isOurs img ≡ true → r ≡ heldIn (take 165 (drop 47 img)) .line .begun → r ≡ stateHeld img .line .begun
+open-so img e r = rw (lent-core img (ours-length img e)) at r
+
 -- of an image with our head, whose plate was read and whose core was lent
 module _ (img m w : List ℕ) (e : isOurs img ≡ true) {p : line.Plate} (q : p ≡ plateOfHead img) where
   all : length img ≡ 212

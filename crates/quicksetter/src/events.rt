@@ -72,6 +72,14 @@ fn waits(core: &[u8]) -> bool
     wire::number_at(core, WAITING) != 0
 }
 
+fn is_open(core: &[u8]) -> bool
+    requires { ⌜ coreLength ≤ length (now core) ⌝ }
+    ensures { λ r. ⌜ r ≡ heldIn (now (core .entry)) .line .begun ⌝ }
+{
+    let frame = image::frame_in(core);
+    frame.begun
+}
+
 // How much of the pause of the core's open frame remains at that tick.
 fn remaining(core: &[u8], tick: u32, pause: u64) -> Remaining
     requires { ⌜ coreLength ≤ length (now core) ⌝ }
@@ -199,6 +207,7 @@ pub extern "C" fn qs_character(
     answer_number(full, sent)
 }
 
+// Most polls find no frame open: they are told so before the pause is reckoned.
 #[no_mangle]
 pub extern "C" fn qs_poll(image: &mut [u8], tick: u32, memory: &mut [u8], room: &mut [u8]) -> u64
     ensures { λ r. ⌜ CalledWithSleep (now (image .entry)) (now (memory .entry)) (now (room .entry)) (run.poll tick) r (now (image .exit)) (now (memory .exit)) (now (room .exit)) ⌝ }
@@ -218,6 +227,9 @@ pub extern "C" fn qs_poll(image: &mut [u8], tick: u32, memory: &mut [u8], room: 
     }
     if room.len() < LONGEST_REPLY {
         return NOT_CALLED + 3;
+    }
+    if !is_open(&image[CORE..LENGTH]) {
+        return answer_number(NO_FRAME_OPEN, 0);
     }
     let left = remaining(&image[CORE..LENGTH], tick, plate.full_pause());
     if left.is_over() {

@@ -1,11 +1,11 @@
 -- `quicksetter::events::qs_poll` meets its contract. Assumes nothing.
 use Prim.Native.Nat.{_+_, _*_}
-use mathlib.Core.Path.{_≡_, sym, ap, _∙_}
-use mathlib.Core.Bool.{true}
+use mathlib.Core.Path.{_≡_, refl, sym, ap, _∙_}
+use mathlib.Core.Bool.{true, false}
 use native.Mathlib.Omega.{arith}
 use denote.Ref.{now}
 use lib.ListN.{length}
-use Rattle.meaning.specs.Characters.{Remaining, remaining}
+use Rattle.meaning.specs.Characters.{Remaining, remaining, ranOut}
 use Rattle.meaning.specs.Run.{poll, carries}
 use Rattle.meaning.proofs.Gaps.{over-told}
 use Rattle.line.specs.Line.{remainingOf}
@@ -15,8 +15,8 @@ use Rattle.quicksetter.specs.Cores.{ImageUnrefused}
 use borrow.Author.Tests.{not-true, not-false}
 use Rattle.quicksetter.proofs.Heads.{ours-length, ours-label, not-ours}
 use Rattle.quicksetter.proofs.Refusing.{lends-poll, impossible, unsound, other-size, too-narrow, none-applies}
-use Rattle.quicksetter.proofs.Wholes.{some-refusal, refused-whole, workable, pause-so, remaining-so, polled-over, polled-early, poll-whole}
-use Rattle.quicksetter.proofs.Numbers.{with-sleep, refused-with-sleep, low-sleep, shut-sleep, left-sleep}
+use Rattle.quicksetter.proofs.Wholes.{some-refusal, refused-whole, workable, open-so, pause-so, remaining-so, polled-over, polled-early, poll-whole}
+use Rattle.quicksetter.proofs.Numbers.{with-sleep, refused-with-sleep, low-sleep, none-open, shut-sleep, left-sleep}
 use borrow.Author.Needs.{needs}
 use Rattle.quicksetter.proofs.events.qs_poll.Statement.{statement}
 use Rattle.quicksetter.proofs.events.qs_poll.Tie as tie
@@ -27,6 +27,7 @@ use Rattle.image.proofs.plate_in.Reads as plate-in-reads
 use Rattle.line.proofs.plate.Plate.full_pause.Reads as full-pause-reads
 use Rattle.line.proofs.plate.Plate.memory_length.Reads as memory-length-reads
 use Rattle.line.proofs.characters.Remaining.is_over.Reads as is-over-reads
+use Rattle.quicksetter.proofs.events.is_open.Reads as is-open-reads
 use Rattle.quicksetter.proofs.events.remaining.Reads as remaining-reads
 use Rattle.quicksetter.proofs.given.answer_number.Reads as answer-number-reads
 use Rattle.quicksetter.proofs.events.is_possible.Reads as is-possible-reads
@@ -177,6 +178,45 @@ returns-5 c =
     (too-narrow _ _ _ _ (sym (after-is-possible .is-possible .ensures _ (ours-label _ (ours (after-if1)))) ∙ not-false _ (after-if2 .if2 .left)) (sym (after-is-sound .is-sound .ensures) ∙ not-false _ (after-if3 .if3 .left))
     (c .before .if4 .left ∙ after-memory-length .memory-length .ensures) (c .if5 .taken)) some-refusal)
 
+-- a frame that is not over, or none: nothing is done, and x remains
+early : (c : tie.Else5) {x : Remaining} → let a = start5 c .args in x ≡ remaining (plateHeld (now (a .image))) (stateHeld (now (a .image))) (a .tick) → ranOut x ≡ false
+    → CalledWithSleep (now (a .image)) (now (a .memory)) (now (a .room)) (poll (a .tick)) (sleepNumber (carries x) * 0x100000000 + 0) (now (a .image)) (now (a .memory)) (now (a .room))
+early c k n =
+    let after-slice-known = c .before .before .before .before .before .before .before .before .before .before .before .before .before .before .before .before .before .before in
+    let u = fine c in
+    let o = over-told _ _ _ k ∙ n in
+    with-sleep _ _ _ _ (poll-whole _ _ _ u _ (polled-early _ _ _ u _ (λ i. (after-slice-known .slice-known .given i) .fits) o)) (left-sleep _ _ _ u _ o k)
+
+sub-is-open : tie.Need-sub-is-open
+sub-is-open c = search needs
+
+part-is-open-start : tie.Need-part-is-open-start
+part-is-open-start c = search needs
+
+part-is-open-end : tie.Need-part-is-open-end
+part-is-open-end c =
+    let after-if1 = c .before .before .before .before .before .before .before .before .before .before .before .before .before .before in
+    omega (arith, ours-length _ (ours (after-if1)))
+
+is-open-requires : tie.Need-is-open-requires
+is-open-requires c κs = search needs
+
+answer-number-requires : tie.Need-answer-number-requires
+answer-number-requires c κs = search needs
+
+same-length-6 : tie.Need-same-length-6
+same-length-6 c = search needs
+
+returns-6 : tie.Need-returns-6
+unfolding sleepNumber
+returns-6 c =
+    let after-if6 = c .before in
+    let after-is-open = after-if6 .before in
+    let after-if5 = after-is-open .before .before .before in
+    let ours-still = fine after-if5 .ours in
+    let shut = sym (open-so _ ours-still (after-is-open .is-open .ensures)) ∙ not-true _ (after-if6 .if6 .taken) in
+    rw (c .answer-number .ensures) (early after-if5 (none-open _ _ _ shut) refl)
+
 sub-remaining : tie.Need-sub-remaining
 sub-remaining c = search needs
 
@@ -185,8 +225,8 @@ part-remaining-start c = search needs
 
 part-remaining-end : tie.Need-part-remaining-end
 part-remaining-end c =
-    let after-if1 = c .before .before .before .before .before .before .before .before .before .before .before .before .before .before in
-    omega (arith, ours-length _ (ours (after-if1)))
+    let after-if5 = c .before .before .before .before .before in
+    omega (arith, ours-length _ (fine after-if5 .ours))
 
 full-pause-requires : tie.Need-full-pause-requires
 full-pause-requires c κs = search needs
@@ -194,12 +234,13 @@ full-pause-requires c κs = search needs
 remaining-requires : tie.Need-remaining-requires
 remaining-requires c κs = search needs
 
--- what remains of the frame that the image holds
 abbrev else5 : tie.After-remaining → tie.Else5
 else5 c =
     let after-full-pause = c .before in
-    after-full-pause .before .before .before
+    let after-if6 = after-full-pause .before .before .before in
+    after-if6 .before .before .before .before
 
+-- what remains of the frame that the image holds
 left : (c : tie.After-remaining) → let a = start5 (else5 c) .args in
     remainingOf (c .remaining .result) ≡ remaining (plateHeld (now (a .image))) (stateHeld (now (a .image))) (a .tick)
 left c =
@@ -218,11 +259,8 @@ shut-requires c κs =
     let after-remaining = c .before .before .before .before .before in
     fine (else5 after-remaining)
 
-answer-number-requires : tie.Need-answer-number-requires
-answer-number-requires c κs = search needs
-
-same-length-6 : tie.Need-same-length-6
-same-length-6 c = search needs
+answer-number-requires-2 : tie.Need-answer-number-requires-2
+answer-number-requires-2 c κs = search needs
 
 same-length-7 : tie.Need-same-length-7
 same-length-7 c = search needs
@@ -230,52 +268,34 @@ same-length-7 c = search needs
 same-length-8 : tie.Need-same-length-8
 same-length-8 c = search needs
 
-returns-6 : tie.Need-returns-6
-returns-6 c =
-    let after-shut = c .before .before .before .before .before .before .before in
-    let after-if6 = after-shut .before .before .before .before in
-    let after-is-over = after-if6 .before in
-    let after-remaining = after-is-over .before in
-    let u = fine (else5 after-remaining) in
-    let o = over-told _ _ _ (left after-remaining) ∙ sym (after-is-over .is-over .ensures) ∙ after-if6 .if6 .taken in
-    rw (c .answer-number .ensures) (with-sleep _ _ _ _ (poll-whole _ _ _ u _ (polled-over _ _ _ u _ o (after-shut .shut .ensures))) (shut-sleep _ _ _ u _ o))
-
-enum-told : tie.Need-enum-told
-enum-told c = search needs
-
-answer-number-requires-2 : tie.Need-answer-number-requires-2
-answer-number-requires-2 c κs = search needs
-
-enum-known-left : tie.Need-enum-known-left
-enum-known-left c = search needs
-
--- a frame that is not over, or none: nothing is done, and x remains
-early : (c : tie.Else6) {x : Remaining} → let a = start5 (else5 (c .before .before)) .args in x ≡ remaining (plateHeld (now (a .image))) (stateHeld (now (a .image))) (a .tick)
-    → CalledWithSleep (now (a .image)) (now (a .memory)) (now (a .room)) (poll (a .tick)) (sleepNumber (carries x) * 0x100000000 + 0) (now (a .image)) (now (a .memory)) (now (a .room))
-early c k =
-    let after-remaining = c .before .before in
-    let after-if5 = else5 after-remaining in
-    let after-slice-known = after-if5 .before .before .before .before .before .before .before .before .before .before .before .before .before .before .before .before .before .before in
-    let u = fine after-if5 in
-    let o = over-told _ _ _ (left after-remaining) ∙ sym (c .before .is-over .ensures) ∙ c .if6 .left in
-    with-sleep _ _ _ _ (poll-whole _ _ _ u _ (polled-early _ _ _ u _ (λ i. (after-slice-known .slice-known .given i) .fits) o)) (left-sleep _ _ _ u _ o k)
-
-answer-number-requires-3 : tie.Need-answer-number-requires-3
-unfolding sleepNumber
-answer-number-requires-3 c κs =
-    let after-left = c .before in
-    let after-remaining = after-left .before .before .before .before in
-    low-sleep _ _ _ (fine (else5 after-remaining) .core .plate) (sym (ap remainingOf (after-left .left .given .1)) ∙ left after-remaining)
-
 same-length-9 : tie.Need-same-length-9
 same-length-9 c = search needs
 
 returns-7 : tie.Need-returns-7
-unfolding sleepNumber
 returns-7 c =
-    let after-enum-told = c .before in
-    let after-if6 = after-enum-told .before .before in
-    rw (c .answer-number2 .ensures) (early after-if6 (sym (ap remainingOf (after-enum-told .enum-told .given .1)) ∙ left (after-if6 .before .before)))
+    let after-shut = c .before .before .before .before .before .before .before in
+    let after-if7 = after-shut .before .before .before .before in
+    let after-is-over = after-if7 .before in
+    let after-remaining = after-is-over .before in
+    let u = fine (else5 after-remaining) in
+    let o = over-told _ _ _ (left after-remaining) ∙ sym (after-is-over .is-over .ensures) ∙ after-if7 .if7 .taken in
+    rw (c .answer-number2 .ensures) (with-sleep _ _ _ _ (poll-whole _ _ _ u _ (polled-over _ _ _ u _ o (after-shut .shut .ensures))) (shut-sleep _ _ _ u _ o))
+
+enum-told : tie.Need-enum-told
+enum-told c = search needs
+
+answer-number-requires-3 : tie.Need-answer-number-requires-3
+answer-number-requires-3 c κs = search needs
+
+enum-known-left : tie.Need-enum-known-left
+enum-known-left c = search needs
+
+answer-number-requires-4 : tie.Need-answer-number-requires-4
+unfolding sleepNumber
+answer-number-requires-4 c κs =
+    let after-left = c .before in
+    let after-remaining = after-left .before .before .before .before in
+    low-sleep _ _ _ (fine (else5 after-remaining) .core .plate) (sym (ap remainingOf (after-left .left .given .1)) ∙ left after-remaining)
 
 same-length-10 : tie.Need-same-length-10
 same-length-10 c = search needs
@@ -283,9 +303,22 @@ same-length-10 c = search needs
 returns-8 : tie.Need-returns-8
 unfolding sleepNumber
 returns-8 c =
+    let after-enum-told = c .before in
+    let after-remaining = after-enum-told .before .before .before .before in
+    rw (c .answer-number3 .ensures) (early (else5 after-remaining) (sym (ap remainingOf (after-enum-told .enum-told .given .1)) ∙ left after-remaining) refl)
+
+same-length-11 : tie.Need-same-length-11
+same-length-11 c = search needs
+
+returns-9 : tie.Need-returns-9
+unfolding sleepNumber
+returns-9 c =
     let after-left = c .before .before in
-    let after-if6 = after-left .before .before in
-    rw (c .answer-number3 .ensures) (early after-if6 (sym (ap remainingOf (after-left .left .given .1)) ∙ left (after-if6 .before .before)))
+    let after-if7 = after-left .before .before in
+    let after-is-over = after-if7 .before in
+    let after-remaining = after-is-over .before in
+    let e = sym (ap remainingOf (after-left .left .given .1)) in
+    rw (c .answer-number4 .ensures) (early (else5 after-remaining) (e ∙ left after-remaining) (ap ranOut e ∙ sym (after-is-over .is-over .ensures) ∙ after-if7 .if7 .left))
 
 pub qs-poll-spec : {M : Type 1} → statement M
 qs-poll-spec =
@@ -317,6 +350,13 @@ qs-poll-spec =
     add-result-5
     same-length-5
     returns-5
+    sub-is-open
+    part-is-open-start
+    part-is-open-end
+    is-open-requires
+    answer-number-requires
+    same-length-6
+    returns-6
     sub-remaining
     part-remaining-start
     part-remaining-end
@@ -324,16 +364,16 @@ qs-poll-spec =
     remaining-requires
     is-over-requires
     shut-requires
-    answer-number-requires
-    same-length-6
+    answer-number-requires-2
     same-length-7
     same-length-8
-    returns-6
-    enum-told
-    answer-number-requires-2
-    enum-known-left
-    answer-number-requires-3
     same-length-9
     returns-7
+    enum-told
+    answer-number-requires-3
+    enum-known-left
+    answer-number-requires-4
     same-length-10
-    returns-8)
+    returns-8
+    same-length-11
+    returns-9)
