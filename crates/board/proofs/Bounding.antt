@@ -19,6 +19,7 @@ use Rattle.board.specs.declared.limits.Outcome.{Outcome}
 use Rattle.board.specs.declared.limits.Outcome.the-variants.{R1, R2, R3, Still}
 use Rattle.board.specs.Board.{stateOf, fitsIn, within, refusalOn, refusedAs, refusalNumber, isRefusal}
 use Rattle.meaning.proofs.Choices.{true-told, both-left, both-true, both-false, and-both}
+use Rattle.meaning.proofs.Calls.{few-refusals}
 use Rattle.meaning.proofs.Limits.{Lim, to-lim}
 
 pub lends-poll : (t : ℕ) → lends (poll t) ≡ true
@@ -87,17 +88,12 @@ sized a e h = rw e at h
 
 -- R1 to R3 have no higher number
 pub refusal-few : (p : Plate) (b : Board) (kept m : List ℕ) (r : ℕ) (g : Call) → refusalOn p b kept m r g ≤ 3
-unfolding refusalOn refusedBy
-refusal-few p b kept m r g =
-    go (fitsIn b kept) (either (not (plateOk p)) (not (stateOk p (stateOf b kept)))) (lends g) (not (eqb (length m) (memoryLength (p .total)))) (ltb r 134)
+unfolding refusalOn
+refusal-few p b kept m r g = go (fitsIn b kept)
   where
-    go : (x y z u v : Bool) → pick x (pick y 1 (pick z (pick u 2 (pick v 3 0)) 0)) 1 ≤ 3
-    go false y z u v = omega arith
-    go true true z u v = omega arith
-    go true false false u v = omega arith
-    go true false true true v = omega arith
-    go true false true false true = omega arith
-    go true false true false false = omega arith
+    go : (x : Bool) → pick x (refusedBy p (stateOf b kept) m r g) 1 ≤ 3
+    go true = few-refusals p (stateOf b kept) m r g
+    go false = omega arith
 
 -- ---- refusals by number and by case
 

@@ -1,5 +1,5 @@
 -- What passes between bench and board: refusals, reply and verdict of one request (01, "The bench", "Named refusals"). Assumes nothing.
-use Prim.Native.Nat.{ℕ, _*_}
+use Prim.Native.Nat.{ℕ}
 use mathlib.Core.Path.{_≡_}
 use mathlib.Core.Bool.{Bool, not}
 use mathlib.Core.List.{List, []}

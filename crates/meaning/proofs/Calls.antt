@@ -1,16 +1,31 @@
 -- A refused call touches nothing; any other fills the front of the room and leaves the rest. Assumes nothing.
-use Prim.Native.Nat.{ℕ}
+use Prim.Native.Nat.{ℕ, _≤_}
+use native.Mathlib.Omega.{arith}
 use mathlib.Core.Path.{_≡_, refl}
 use mathlib.Core.Bool.{Bool, true, false, not}
 use mathlib.Core.List.{List}
-use lib.Dec.{T, eqb}
+use lib.Dec.{T, eqb, ltb}
 use lib.ListN.{length, drop}
 use lib.Seq.{drop-append-seam, take-append-seam}
-use Rattle.meaning.specs.Bytes.{pick, put}
+use Rattle.meaning.specs.Bytes.{pick, either, longestReply}
+use Rattle.meaning.specs.State.{Plate, State, plateOk, stateOk}
+use Rattle.meaning.specs.Fields.{memoryLength}
 use Rattle.meaning.specs.Characters.{taken}
-use Rattle.meaning.specs.Run.{step, refusedBy, Held, leftBy, called}
+use Rattle.meaning.specs.Run.{Call, step, lends, refusedBy, Held, leftBy, called}
 use Rattle.meaning.specs.Demands.{RefusedUntouched, Served, ServedOtherwise, OpensEmpty}
 use Rattle.meaning.proofs.Puts.{put-front}
+
+-- R1 to R3 have no higher number
+pub few-refusals : (p : Plate) (s : State) (m : List ℕ) (r : ℕ) (g : Call) → refusedBy p s m r g ≤ 3
+unfolding refusedBy
+few-refusals p s m r g = go (either (not (plateOk p)) (not (stateOk p s))) (lends g) (not (eqb (length m) (memoryLength (p .total)))) (ltb r longestReply)
+  where
+    go : (x y z u : Bool) → pick x 1 (pick y (pick z 2 (pick u 3 0)) 0) ≤ 3
+    go true y z u = omega arith
+    go false false z u = omega arith
+    go false true true u = omega arith
+    go false true false true = omega arith
+    go false true false false = omega arith
 
 pub refused-untouched : RefusedUntouched
 unfolding called

@@ -1,5 +1,5 @@
 -- What a plate within its limits gives its users (01, "Plate"). Assumes nothing.
-use Prim.Native.Nat.{ℕ, _*_, _≤_}
+use Prim.Native.Nat.{ℕ, _≤_}
 use native.Mathlib.Omega.{arith}
 use native.Mathlib.Nat.{mul-le-mul-left, mul-pos}
 use mathlib.Core.Path.{_≡_, refl, subst⁻¹}

@@ -1,6 +1,6 @@
 -- What an answer's remaining ticks promise: a poll then closes the frame, an earlier one does not (02, Req 03). Assumes nothing.
-use Prim.Native.Nat.{ℕ, _+_, _-_, _%_, _^_, _≤_, _<_}
-use mathlib.Core.Path.{_≡_, refl, sym, ap, _∙_, subst⁻¹}
+use Prim.Native.Nat.{ℕ, _+_, _-_, _^_, _≤_, _<_}
+use mathlib.Core.Path.{_≡_, refl, sym, ap, _∙_}
 use mathlib.Core.Bool.{Bool, true, false, not, false≢true}
 use mathlib.Core.List.{List, [], _∷_, _++_}
 use native.Mathlib.Omega.{arith}
@@ -15,7 +15,7 @@ use Rattle.meaning.specs.Characters.{gap, fullPause, Remaining, no-frame
 use Rattle.meaning.specs.Frames.{Outcome, still, resting, close, upTo}
 use Rattle.meaning.specs.Run.{Call, character, poll, measured, fault, power-on, step, lends, runFrom, closes, Carried, nothing, carries, carried}
 use Rattle.meaning.specs.Demands.{spoken, calm, unbroken}
-use Rattle.meaning.specs.Sleeping.{later, tickOf, Stamped, Between, ClosesOnTime, CarriesSome, FullAfterCharacter, NoneAfterClose}
+use Rattle.meaning.specs.Sleeping.{later, tickOf, Stamped, ClosesOnTime, CarriesSome, FullAfterCharacter, NoneAfterClose}
 use Rattle.meaning.proofs.Choices.{pick-true, told-true}
 use Rattle.meaning.proofs.Steps.{both-0, both-1}
 use Rattle.meaning.proofs.Plates.{some-pause, longest-pause}

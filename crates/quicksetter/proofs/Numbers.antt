@@ -1,20 +1,20 @@
 -- A character's and a poll's number: the reply's length or the refusal, and how long the host may sleep (02, Req 03). Assumes nothing.
-use Prim.Native.Nat.{ℕ, _+_, _-_, _*_, _<_, _≤_}
+use Prim.Native.Nat.{ℕ, _+_, _-_, _*_, _<_}
 use native.Mathlib.Omega.{arith}
 use mathlib.Core.Path.{_≡_, refl, sym, ap, subst, _∙_}
-use mathlib.Core.Bool.{Bool, true, false, not}
+use mathlib.Core.Bool.{Bool, true, false}
 use mathlib.Core.List.{List}
-use lib.Dec.{eqb, ltb}
+use lib.Dec.{eqb}
 use lib.ListN.{length}
-use Rattle.meaning.specs.Bytes.{pick, either}
+use Rattle.meaning.specs.Bytes.{pick}
 use Rattle.meaning.specs.State as meaning
-use Rattle.meaning.specs.State.{plateOk, stateOk}
-use Rattle.meaning.specs.Fields.{memoryLength}
+use Rattle.meaning.specs.State.{plateOk}
 use Rattle.meaning.specs.Characters.{gap, fullPause, no-frame-open, ticks-left, remaining, over}
 use Rattle.meaning.specs.Characters as characters
 use Rattle.meaning.specs.Frames.{still, upTo}
-use Rattle.meaning.specs.Run.{Call, character, poll, step, lends, refusedBy, closes, nothing, carries, carried, Held, untouched, leftBy, called}
+use Rattle.meaning.specs.Run.{Call, character, poll, step, refusedBy, closes, nothing, carries, carried, Held, untouched, leftBy, called}
 use Rattle.meaning.proofs.Choices.{true-told}
+use Rattle.meaning.proofs.Calls.{few-refusals}
 use Rattle.meaning.proofs.Plates.{longest-pause}
 use Rattle.meaning.proofs.Limits.{replies-fit}
 use Rattle.meaning.proofs.Sleeping.{none-after-close, full-after-character}
@@ -23,18 +23,6 @@ use Rattle.quicksetter.specs.Calls.{isImage, plateHeld, stateHeld, calle
 use Rattle.quicksetter.specs.Cores.{ImageUnrefused}
 use Rattle.quicksetter.proofs.Heads.{same-call}
 use Rattle.quicksetter.proofs.Closing.{served}
-
--- R1 to R3
-few-refusals : (p : meaning.Plate) (s : meaning.State) (m : List ℕ) (n : ℕ) (g : Call) → refusedBy p s m n g ≤ 3
-unfolding refusedBy
-few-refusals p s m n g = go (either (not (plateOk p)) (not (stateOk p s))) (lends g) (not (eqb (length m) (memoryLength (p .total)))) (ltb n 134)
-  where
-    go : (a b c d : Bool) → pick a 1 (pick b (pick c 2 (pick d 3 0)) 0) ≤ 3
-    go true b c d = omega arith
-    go false false c d = omega arith
-    go false true true d = omega arith
-    go false true false true = omega arith
-    go false true false false = omega arith
 
 small-pick : (b : Bool) {n : ℕ} → n < 0x100000000 → pick b 0 n < 0x100000000
 small-pick true h = omega arith

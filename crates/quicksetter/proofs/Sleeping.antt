@@ -1,29 +1,27 @@
 -- A C host that sleeps as long as the call's number says, and then polls, closes the frame on time (02, Req 03). Assumes nothing.
-use Prim.Native.Nat.{ℕ, _+_, _-_, _*_, _/_, _%_, _^_, _≤_, _<_}
+use Prim.Native.Nat.{ℕ, _+_, _-_, _/_, _%_, _^_, _≤_, _<_}
 use native.Mathlib.Omega.{arith}
 use mathlib.Core.Path.{_≡_, refl, sym, ap, ap₂, subst, _∙_}
 use mathlib.Core.Bool.{Bool, true, false, not}
-use mathlib.Core.List.{List, [], _∷_, _++_}
-use borrow.Author.Tests.{le-leb, eq-eqb}
+use mathlib.Core.List.{List, [], _∷_}
+use borrow.Author.Tests.{le-leb}
 use lib.Dec.{T, eqb}
 use lib.ListN.{length}
-use Rattle.meaning.specs.Bytes.{pick, both, either, part, arg}
+use Rattle.meaning.specs.Bytes.{both, either, arg}
 use Rattle.meaning.specs.State as meaning
 use Rattle.meaning.specs.State.{Plate, plateOk, between}
 use Rattle.meaning.specs.Characters.{no-frame-open, ticks-left}
-use Rattle.meaning.specs.Characters as characters
 use Rattle.meaning.specs.Frames.{Outcome, still}
-use Rattle.meaning.specs.Run.{Call, character, poll, measured, fault, power-on, step, runFrom, lends, closes, refusedBy, Carried, nothing, carries, carried, Held, untouched, leftBy, called}
+use Rattle.meaning.specs.Run.{Call, character, poll, measured, fault, power-on, step, runFrom, lends, closes, Carried, nothing, carries, carried, Held}
 use Rattle.meaning.specs.Demands.{spoken, calm, unbroken}
 use Rattle.meaning.specs.Sleeping.{later, tickOf, Between}
 use Rattle.meaning.proofs.Choices.{true-told, both-intro}
-use Rattle.meaning.proofs.Limits.{replies-fit}
 use Rattle.meaning.proofs.Plates.{longest-pause}
 use Rattle.meaning.proofs.Sleeping.{carries-some, carries-then, closes-on-time}
 use Rattle.image.specs.Image.{coreIn, frameIn}
 use Rattle.image.proofs.Numbers.{there-fits}
-use Rattle.quicksetter.specs.Calls.{isImage, plateHeld, stateHeld, calledBy, callNumber, sleepNumber, answerNumber, Called, CalledWithSleep, replyIn, sleepIn}
-use Rattle.quicksetter.specs.Sleeping.{Halves, QsHalves, QsRefusedSleep, QsSleepWithin, CalledBetween, at-once, and-then, QsClosesOnTime}
+use Rattle.quicksetter.specs.Calls.{stateHeld, calledBy, callNumber, sleepNumber, answerNumber, Called, CalledWithSleep, replyIn, sleepIn}
+use Rattle.quicksetter.specs.Sleeping.{QsHalves, QsRefusedSleep, QsSleepWithin, CalledBetween, at-once, and-then, QsClosesOnTime}
 use Rattle.quicksetter.proofs.Heads.{core-small}
 use Rattle.quicksetter.proofs.Numbers.{number-low, carries-none}
 use Rattle.quicksetter.proofs.Staying.{Holds, steps-so, goes-on, reached}

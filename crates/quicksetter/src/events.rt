@@ -16,7 +16,7 @@ ghost use Rattle.image.specs.Image.{keptAt, coreLength, stateIn, heldIn};
 ghost use Rattle.quicksetter.specs.Calls.{plateHeld, CalledWithSleep};
 ghost use Rattle.quicksetter.specs.Cores.{possible, ImageUnrefused, ImageServable, ImageServed, ImageAnswered, ImageShuts, ImagePolls};
 use crate::given::NO_FRAME_OPEN;
-use crate::given::NOT_CALLED;
+use crate::given::REFUSED_ANSWER;
 use crate::given::answer_number;
 use image::ADDRESS;
 use image::CODES;
@@ -186,20 +186,20 @@ pub extern "C" fn qs_character(
     ensures { λ r. ⌜ CalledWithSleep (now (image .entry)) (now (memory .entry)) (now (room .entry)) (run.character tick value (differ parity 0)) r (now (image .exit)) (now (memory .exit)) (now (room .exit)) ⌝ }
 {
     if !image::is_ours(image) {
-        return NOT_CALLED + 1;
+        return REFUSED_ANSWER + 1;
     }
     let plate = image::plate_in(image);
     if !is_possible(&image[CORE..LENGTH], plate) {
-        return NOT_CALLED + 1;
+        return REFUSED_ANSWER + 1;
     }
     if !is_sound(&image[CORE..LENGTH]) {
-        return NOT_CALLED + 1;
+        return REFUSED_ANSWER + 1;
     }
     if memory.len() as u64 != plate.memory_length() {
-        return NOT_CALLED + 2;
+        return REFUSED_ANSWER + 2;
     }
     if room.len() < LONGEST_REPLY {
-        return NOT_CALLED + 3;
+        return REFUSED_ANSWER + 3;
     }
     let full = plate.full_pause();
     let sent = polled(image, tick, full, memory, room);
@@ -213,20 +213,20 @@ pub extern "C" fn qs_poll(image: &mut [u8], tick: u32, memory: &mut [u8], room: 
     ensures { λ r. ⌜ CalledWithSleep (now (image .entry)) (now (memory .entry)) (now (room .entry)) (run.poll tick) r (now (image .exit)) (now (memory .exit)) (now (room .exit)) ⌝ }
 {
     if !image::is_ours(image) {
-        return NOT_CALLED + 1;
+        return REFUSED_ANSWER + 1;
     }
     let plate = image::plate_in(image);
     if !is_possible(&image[CORE..LENGTH], plate) {
-        return NOT_CALLED + 1;
+        return REFUSED_ANSWER + 1;
     }
     if !is_sound(&image[CORE..LENGTH]) {
-        return NOT_CALLED + 1;
+        return REFUSED_ANSWER + 1;
     }
     if memory.len() as u64 != plate.memory_length() {
-        return NOT_CALLED + 2;
+        return REFUSED_ANSWER + 2;
     }
     if room.len() < LONGEST_REPLY {
-        return NOT_CALLED + 3;
+        return REFUSED_ANSWER + 3;
     }
     if !is_open(&image[CORE..LENGTH]) {
         return answer_number(NO_FRAME_OPEN, 0);

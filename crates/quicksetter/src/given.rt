@@ -7,7 +7,7 @@ use line::Plate;
 // A refusal's number is counted from here.
 pub const REFUSED: usize = 0x100;
 // That of a character and a poll, with the sleep of a refused call in its high 32 bits.
-pub const NOT_CALLED: u64 = 0xFFFFFFFE00000100;
+pub const REFUSED_ANSWER: u64 = 0xFFFFFFFE00000100;
 // 02, Req 03: the sleep while no frame is open.
 pub const NO_FRAME_OPEN: u64 = 0xFFFFFFFF;
 

@@ -1,5 +1,4 @@
 -- `line::characters::Remaining::is_over` meets its contract. Assumes nothing.
-use mathlib.Core.Path.{sym}
 use borrow.Author.Needs.{needs}
 use Rattle.line.proofs.characters.Remaining.is_over.Statement.{statement}
 use Rattle.line.proofs.characters.Remaining.is_over.Tie as tie
