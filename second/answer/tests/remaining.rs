@@ -56,6 +56,12 @@ impl Rig {
         rig
     }
 
+    /// What a poll `gap` ticks after the last event says that answers nothing.
+    fn unanswered(&mut self, gap: u32) -> Remaining {
+        assert_eq!(self.poll(gap), []);
+        self.remaining
+    }
+
     /// What a poll `gap` ticks after the last event says. It answers the request exactly if it
     /// leaves no frame open.
     fn polled(&mut self, gap: u32) -> Remaining {
@@ -182,14 +188,12 @@ fn without_a_frame_there_are_no_ticks() {
     let mut rig = Rig::sheet(112);
     for gap in [0, 1, 219, 220, 221, 1 << 31, BACK] {
         assert_eq!(rig.remaining_after(gap), NoFrameOpen);
-        assert_eq!(rig.poll(gap), []);
-        assert_eq!(rig.remaining, NoFrameOpen);
+        assert_eq!(rig.unanswered(gap), NoFrameOpen);
     }
     // A closed frame leaves its stamp behind, which says nothing.
     rig.send(&REQUEST);
     for gap in [0, 1, BACK] {
-        assert_eq!(rig.poll(gap), []);
-        assert_eq!(rig.remaining, NoFrameOpen);
+        assert_eq!(rig.unanswered(gap), NoFrameOpen);
     }
     rig.state.last_stamp = rig.tick;
     assert_eq!(rig.remaining_after(0), NoFrameOpen);
@@ -200,10 +204,8 @@ fn frames_that_close_in_silence_say_so_too() {
     for silent in ["41 4E 0F", "40 4E", "40", "40 53 13"] {
         let mut rig = Rig::sheet(112);
         rig.characters(&hex(silent));
-        assert_eq!(rig.poll(219), []);
-        assert_eq!(rig.remaining, Ticks(1));
-        assert_eq!(rig.poll(1), []);
-        assert_eq!(rig.remaining, NoFrameOpen, "{silent}");
+        assert_eq!(rig.unanswered(219), Ticks(1));
+        assert_eq!(rig.unanswered(1), NoFrameOpen, "{silent}");
     }
 }
 
@@ -241,10 +243,8 @@ fn a_frame_over_135_bytes_still_counts_from_its_last_character() {
             assert_eq!(rig.character(219, 0x40, false), []);
             assert_eq!(rig.remaining, Ticks(220), "{length}");
         }
-        assert_eq!(rig.poll(100), []);
-        assert_eq!(rig.remaining, Ticks(120));
-        assert_eq!(rig.poll(119), []);
-        assert_eq!(rig.remaining, Ticks(1));
+        assert_eq!(rig.unanswered(100), Ticks(120));
+        assert_eq!(rig.unanswered(119), Ticks(1));
         assert_ne!(rig.poll(1), []);
         assert_eq!(rig.remaining, NoFrameOpen, "{length}");
     }
@@ -276,8 +276,7 @@ fn power_on_drops_the_frame_and_its_ticks() {
         let mut rig = Rig::waiting(sheet_plate(112), 3);
         rig.power_on();
         assert_eq!(rig.remaining_after(gap), NoFrameOpen);
-        assert_eq!(rig.poll(gap), []);
-        assert_eq!(rig.remaining, NoFrameOpen);
+        assert_eq!(rig.unanswered(gap), NoFrameOpen);
         // The next one opens a frame of its own, whatever the gap (reading 11).
         rig.characters(&REQUEST);
         assert_eq!(rig.remaining, Ticks(220));
