@@ -13,7 +13,7 @@ use mir.Facts.{toZ-ofZ}
 use lib.Seq.{take-suc, take-at, getD-drop, length-take-le}
 use Rattle.meaning.specs.Bytes.{part, put}
 use Rattle.meaning.proofs.Puts.{put-after}
-use Rattle.tape.proofs.Bytes.{length-part}
+use Rattle.records.proofs.Bytes.{length-part}
 use Rattle.tape.proofs.Outputs.{put-nil, put-last}
 use Rattle.libc.specs.Io.{Moved}
 use Rattle.io.specs.Counts.{clamped}

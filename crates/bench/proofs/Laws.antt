@@ -1,4 +1,4 @@
--- Laws of the bench's checks: lists compared, what a request may have, an error reply and another. Assumes nothing.
+-- Laws of the bench's checks: what a request may have, an error reply and another. Assumes nothing.
 use mathlib.Core.Path.{_≡_, refl, sym, ap, _∙_}
 use mathlib.Core.Bool.{Bool, true, false}
 use mathlib.Core.List.{List, [], _∷_}
@@ -82,25 +82,6 @@ not-asked c d e = rw e
 pub asked-well : (c : ℕ) (d : List ℕ) (b : Bool) → asked (commandOf c) d ≡ true → inRange (commandOf c) d ≡ b → allowed (commandOf c) d ≡ b
 unfolding allowed
 asked-well c d b e h = rw e h
-
--- lists of different lengths differ
-pub same-long : (a b : List ℕ) → (length a ≡ length b → ⊥) → same a b ≡ false
-unfolding same
-same-long [] [] n = absurd (n refl)
-same-long [] (y ∷ ys) n = refl
-same-long (x ∷ xs) [] n = refl
-same-long (x ∷ xs) (y ∷ ys) n = rw (same-long xs ys (λ e. n (ap suc e))) (both-false (eqb x y))
-
--- one byte more is compared
-pub same-more : (a b : List ℕ) (i : ℕ) → i < length a → i < length b
-    → same (drop i a) (drop i b) ≡ both (eqb (getD a i 0) (getD b i 0)) (same (drop (i + 1) a) (drop (i + 1) b))
-unfolding same
-same-more a b i h k = rw (add-one, drop-cons a i 0 h, drop-cons b i 0 k)
-
--- no byte is left
-pub same-end : (a b : List ℕ) (i : ℕ) → length a ≤ i → length b ≤ i → same (drop i a) (drop i b) ≡ true
-unfolding same
-same-end a b i h k = rw (drop-of-length-le a h, drop-of-length-le b k)
 
 pub data-length : (f : List ℕ) → length (dataOf f) ≡ length f - 3
 unfolding dataOf

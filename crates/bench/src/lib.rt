@@ -1,5 +1,4 @@
 // The bench: it writes requests, tells how long a reply will be, and judges it (01, "The bench").
-mod bytes;
 mod length;
 mod reply;
 mod request;
@@ -12,4 +11,5 @@ pub use reply::Verdict;
 pub use reply::data_of;
 pub use reply::judge;
 pub use request::Written;
+pub use request::address_ok;
 pub use request::write_request;

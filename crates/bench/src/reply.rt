@@ -10,13 +10,13 @@ ghost use Rattle.meaning.specs.Bytes.{both, either, part};
 ghost use Rattle.meaning.specs.State.{boardByte};
 ghost use Rattle.meaning.specs.Bench.{addressByte, written, fromAsked, rightAddress, errorReply, content, handed};
 ghost use Rattle.meaning.specs.Bench as meaning;
-ghost use Rattle.bench.specs.Outcomes.{verdictOf, withoutData, pieceFrom, pieceBy, Ordinary};
-use crate::bytes::same;
+ghost use Rattle.bench.specs.Outcomes.{checkNumber, verdictOf, withoutData, pieceFrom, pieceBy, Ordinary};
 use crate::request::is_allowed;
 use wire::codes::BROADCAST;
 use wire::codes::ERROR_REPLY;
 use wire::data_part;
 use wire::front;
+use wire::same;
 
 // The refusals by their numbers in 01.
 pub enum Refusal {
@@ -27,6 +27,22 @@ pub enum Refusal {
     B4,
     B5,
     B6,
+}
+
+impl Refusal {
+    pub fn number(self) -> u8
+        ensures { λ r. ⌜ (r ≡ checkNumber self) × (r ≤ 6) ⌝ }
+    {
+        match self {
+            Refusal::B0 => 0,
+            Refusal::B1 => 1,
+            Refusal::B2 => 2,
+            Refusal::B3 => 3,
+            Refusal::B4 => 4,
+            Refusal::B5 => 5,
+            Refusal::B6 => 6,
+        }
+    }
 }
 
 // An error has its code.

@@ -17,7 +17,7 @@ pub enum Written {
 }
 
 // 01, "It writes a request for an address 0 to 31 or broadcast": broadcast is the number 255.
-fn address_ok(address: u32) -> bool
+pub fn address_ok(address: u32) -> bool
     ensures { λ r. ⌜ r ≡ addressOk address ⌝ }
 {
     if address <= LAST_ADDRESS as u32 {

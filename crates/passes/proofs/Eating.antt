@@ -16,7 +16,7 @@ use Rattle.line.specs.declared.plate.Plate.{Plate}
 use Rattle.meaning.proofs.Plates.{total-fits}
 use Rattle.board.specs.declared.limits.Board.{Board}
 use Rattle.board.specs.Board.{stateOf}
-use Rattle.tape.specs.Records.{wholeLength}
+use Rattle.records.specs.Records.{wholeLength}
 use Rattle.tape.specs.Kinds.{Said}
 use Rattle.tape.specs.Text.{badLine}
 use Rattle.tape.specs.Answers.{Stage, opening, running, ended, Turn, badRecord, turn}

@@ -8,10 +8,10 @@ use lib.ListN.{length, drop, length-drop}
 use lib.Dec.{ltb}
 use borrow.Author.Tests.{lt-ltb, le-ltb}
 use Rattle.meaning.specs.Bytes.{pick}
-use Rattle.tape.specs.Records.{wholeLength}
+use Rattle.records.specs.Records.{wholeLength}
 use Rattle.tape.specs.Kinds.{Said}
 use Rattle.tape.specs.Answers.{Stage, turn}
-use Rattle.tape.specs.Reader.{readAt}
+use Rattle.records.specs.Reader.{readAt}
 use Rattle.tape.specs.Passes.{NextRecord, incomplete, says, nextRecord, nextRecordBy, longestLine, onNextRecord}
 use Rattle.turns.specs.Turns.{isEnded}
 use Rattle.passes.specs.Holding.{LentState, lentState, lentAfter, lentBy}

@@ -14,7 +14,7 @@ use Rattle.line.specs.declared.plate.Plate.{Plate}
 use Rattle.board.specs.declared.limits.Board.{Board}
 use Rattle.board.specs.Board.{stateOf, fitsIn}
 use Rattle.board.proofs.Quickening.{told-fits}
-use Rattle.tape.specs.Records.{wholeLength}
+use Rattle.records.specs.Records.{wholeLength}
 use Rattle.tape.specs.Kinds.{Said, unfit}
 use Rattle.tape.specs.Answers.{Stage, opening, running, ended, Turn, badRecord, turn}
 use Rattle.tape.specs.Passes as passes

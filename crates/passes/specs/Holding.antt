@@ -4,7 +4,7 @@ use mathlib.Core.List.{List}
 use lib.ListN.{length, drop}
 use lib.Dec.{ltb}
 use Rattle.meaning.specs.Bytes.{pick, put}
-use Rattle.tape.specs.Records.{wholeLength}
+use Rattle.records.specs.Records.{wholeLength}
 use Rattle.tape.specs.Kinds.{Said}
 use Rattle.tape.specs.Answers.{Stage, turn}
 use Rattle.tape.specs.Passes.{nextRecord, onNextRecord, longestLine}

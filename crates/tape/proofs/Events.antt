@@ -12,10 +12,10 @@ use Rattle.meaning.specs.Bytes.{pick, part, arg, little, zeros}
 use Rattle.meaning.specs.State.{Plate, labelLength}
 use Rattle.meaning.specs.Run.{character}
 use Rattle.tape.specs.Kinds.{Said, plate, call, unfit, characterIn, sized, callOf}
-use Rattle.tape.specs.Reader.{readAt}
+use Rattle.records.specs.Reader.{readAt}
 use Rattle.tape.specs.Passes.{NextRecord, incomplete, says, longestRecord, nextRecordBy, nextRecord}
-use Rattle.tape.specs.declared.record.Read.{Read}
-use Rattle.tape.specs.declared.record.Read.the-variants.{Record, More, Bad}
+use Rattle.records.specs.declared.record.Read.{Read}
+use Rattle.records.specs.declared.record.Read.the-variants.{Record, More, Bad}
 
 module _ (b : List ℕ) where
   pub unfitted : (k : ℕ) (x : Said) → (length b ≡ k → ⊥) → unfit ≡ sized k b x

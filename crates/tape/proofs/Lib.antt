@@ -1,5 +1,4 @@
 -- The laws of `tape`, file by file.
-pub mod Bytes
 pub mod Outputs
 pub mod Decimal
 pub mod Events

@@ -8,16 +8,17 @@ use native.Mathlib.Omega.{arith}
 use lib.ListN.{length, take, drop, length-append, length-drop}
 use lib.Seq.{take-append-le, drop-append-le, drop-drop}
 use lib.Dec.{ltb, leb, eqb}
-use borrow.Author.Tests.{ltb-true, ltb-false, leb-true, leb-false, le-leb, ne-eqb}
+use borrow.Author.Tests.{ltb-true, ltb-false, leb-true, leb-false, ne-eqb}
 use Rattle.meaning.specs.Bytes.{pick, both, part, little}
-use Rattle.tape.specs.Records.{lengthAt, wholeLength, whole, cut, recordAt}
+use Rattle.records.specs.Records.{lengthAt, wholeLength, whole, cut, recordAt}
 use Rattle.tape.specs.Kinds.{Said, unfit, sized, callOf, saidBy}
 use Rattle.tape.specs.Text.{firstLine}
 use Rattle.tape.specs.Answers.{Stage, opening, running, ended, badRecord, turn, answersFrom, answersOf}
-use Rattle.tape.specs.Reader.{readAt}
+use Rattle.records.specs.Reader.{readAt}
 use Rattle.tape.specs.Passes.{longestRecord, longestLine, NextRecord, incomplete, says, nextRecordBy, nextRecord, Stop, more, full, Pass, stopped, after, onNextRecord, pass, closing, Feed, fed, tapeOf, Settled, read-all, was-bad, AnyParts}
-use Rattle.tape.specs.declared.record.Read.the-variants.{Record, More, Bad}
-use Rattle.tape.proofs.Bytes.{length-part}
+use Rattle.records.specs.declared.record.Read.the-variants.{Record, More, Bad}
+use Rattle.records.proofs.Bytes.{length-part}
+use Rattle.records.proofs.Windows.{record-cut, record-whole}
 
 -- ---- a record is the same in whatever follows it
 
@@ -29,20 +30,6 @@ module _ (t u : List ℕ) where
   part-stays : (i n : ℕ) → i + n ≤ length t → part (t ++ u) i n ≡ part t i n
   unfolding part
   part-stays i n h = ap (take n) (drop-append-le i t u (omega arith)) ∙ take-append-le n (drop i t) u (simp length-drop (omega arith))
-
-pub record-cut : (t : List ℕ) → (2 ≤ lengthAt t → length t < wholeLength t) → recordAt t ≡ cut
-unfolding recordAt
-record-cut t h = go (leb 2 (lengthAt t)) (leb (wholeLength t) (length t)) refl refl
-  where
-    go : (a b : Bool) → leb 2 (lengthAt t) ≡ a → leb (wholeLength t) (length t) ≡ b
-        → pick (both a b) (whole (little (part t 2 2)) (part t 4 (lengthAt t - 2))) cut ≡ cut
-    go true true e f = absurd (omega (arith, h (leb-true 2 (lengthAt t) e), leb-true (wholeLength t) (length t) f))
-    go true false e f = refl
-    go false b e f = refl
-
-pub record-whole : (t : List ℕ) → 2 ≤ lengthAt t → wholeLength t ≤ length t → recordAt t ≡ whole (little (part t 2 2)) (part t 4 (lengthAt t - 2))
-unfolding recordAt
-record-whole t h l = rw (le-leb 2 (lengthAt t) h, le-leb (wholeLength t) (length t) l)
 
 -- a body longer than every kind's fits nothing
 long-unfit : (k : ℕ) (b : List ℕ) → 6 < length b → callOf k b ≡ unfit

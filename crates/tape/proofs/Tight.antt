@@ -4,8 +4,7 @@ use mathlib.Core.Path.{_≡_, refl, sym, ap, _∙_}
 use mathlib.Core.List.{List}
 use Rattle.meaning.specs.Run.{character, poll, measured, fault, power-on}
 use Rattle.tape.specs.Kinds.{Said, plate, call, unfit, callOf}
-use Rattle.tape.specs.Reader.{readAt, saidOf, Printed}
-use Rattle.tape.specs.declared.record.Read.{Read}
+use Rattle.tape.specs.Reader.{saidOf, Printed}
 use Rattle.tape.specs.declared.kinds.Event.{Event}
 use Rattle.tape.specs.declared.kinds.Event.the-variants as event
 
@@ -30,9 +29,6 @@ event-back event.Unfit = refl
 
 pub event-of-tight : (k : ℕ) (b : List ℕ) (d e : Event) → saidOf d ≡ callOf k b → saidOf e ≡ callOf k b → d ≡ e
 event-of-tight k b d e p q = sym (event-back d) ∙ ap eventBack (p ∙ sym q) ∙ event-back e
-
-pub read-tight : (longest at : ℕ) (t : List ℕ) (a b : Read) → a ≡ readAt longest at t → b ≡ readAt longest at t → a ≡ b
-read-tight longest at t a b p q = p ∙ sym q
 
 -- the three lines: the place past the text, and every byte of the output
 pub printed-tight : {text out out′ out″ : List ℕ} {at r q : ℕ} → Printed text out at r out′ → Printed text out at q out″ → (r ≡ q) × (out′ ≡ out″)

@@ -10,7 +10,7 @@ use Rattle.meaning.specs.Commands.{commandOf, row, lengthFits, asked, error, fr
 use Rattle.meaning.specs.Characters.{gap, over, more, taken, closed, remaining, fullPause}
 use Rattle.meaning.specs.Frames.{resting, close, upTo, commandByte, dataOf, ours, judged, ending, sealed, warned, message, still, outcome, leaves, work}
 use Rattle.meaning.specs.Run.{step}
-use Rattle.tape.specs.Records.{lengthAt, recordAt}
+use Rattle.records.specs.Records.{lengthAt, recordAt}
 use Rattle.tape.specs.Kinds.{sized, characterIn, callOf, saidBy}
 use Rattle.tape.specs.Text.{decimalIn, decimalOf, digitOf, hexOf, replyLine, firstLine, badLine}
 use Rattle.tape.specs.Answers.{printedOf, badRecord, begun, stepped, turn, answersFrom, answersOf}

@@ -6,7 +6,7 @@ use Rattle.meaning.specs.Bytes.{pick, zeros}
 use Rattle.meaning.specs.State.{Plate, State, plateOk, fresh}
 use Rattle.meaning.specs.Fields.{memoryLength}
 use Rattle.meaning.specs.Run.{Call, character, poll, measured, fault, power-on, step}
-use Rattle.tape.specs.Records.{wholeLength, recordAt}
+use Rattle.records.specs.Records.{wholeLength, recordAt}
 use Rattle.tape.specs.Kinds.{Said, plate, call, unfit, saidBy}
 use Rattle.tape.specs.Text.{replyLine, firstLine, badLine}
 

@@ -6,7 +6,7 @@ use lib.Dec.{eqb, leb}
 use Rattle.meaning.specs.Bytes.{pick, arg, little, zeros}
 use Rattle.meaning.specs.State.{Plate, labelLength}
 use Rattle.meaning.specs.Run.{Call, character, poll, measured, fault, power-on}
-use Rattle.tape.specs.Records.{Found, whole, cut}
+use Rattle.records.specs.Records.{Found, whole, cut}
 
 -- 01, "fits none of this": an unknown kind, a body too short or too long, a parity byte over 1
 pub data Said : Type 0 where

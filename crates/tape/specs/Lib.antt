@@ -1,5 +1,4 @@
 -- The definitions of `tape`, file by file.
-pub mod Records
 pub mod Kinds
 pub mod Text
 pub mod Answers

@@ -5,13 +5,13 @@ use mathlib.Core.List.{List, [], _∷_, _++_}
 use lib.ListN.{length, drop}
 use lib.Dec.{ltb}
 use Rattle.meaning.specs.Bytes.{pick, part}
-use Rattle.tape.specs.Records.{wholeLength}
+use Rattle.records.specs.Records.{wholeLength}
 use Rattle.tape.specs.Kinds.{Said, unfit, callOf}
 use Rattle.tape.specs.Text.{firstLine, badLine}
 use Rattle.tape.specs.Answers.{Stage, opening, running, ended, turn, answersOf}
-use Rattle.tape.specs.Reader.{readAt}
-use Rattle.tape.specs.declared.record.Read.{Read}
-use Rattle.tape.specs.declared.record.Read.the-variants.{Record, More, Bad}
+use Rattle.records.specs.Reader.{readAt}
+use Rattle.records.specs.declared.record.Read.{Read}
+use Rattle.records.specs.declared.record.Read.the-variants.{Record, More, Bad}
 
 -- the longest record of the answer program's kinds: kind, tick, value and parity of a character
 abbrev pub longestRecord : ℕ

@@ -1,14 +1,11 @@
-// The answer program's tape: a reader of records, the kinds of its records, and the lines that are printed (01, "The answer program").
+// The answer program's tape: the kinds of its records, and the lines that are printed (01, "The answer program").
 mod kinds;
-mod record;
 mod text;
 
 pub use kinds::Event;
 pub use kinds::LONGEST_RECORD;
 pub use kinds::NO_LABEL;
 pub use kinds::event_of;
-pub use record::Cursor;
-pub use record::Read;
 pub use text::LONGEST_BAD_LINE;
 pub use text::LONGEST_LINE;
 pub use text::bad_line;

@@ -6,13 +6,14 @@ use native.Mathlib.Omega.{arith}
 use lib.ListN.{length, take, drop, length-drop}
 use Rattle.meaning.specs.Bytes.{part}
 use Rattle.tape.specs.Kinds.{Said, callOf}
-use Rattle.tape.specs.Reader.{readAt}
+use Rattle.records.specs.Reader.{readAt}
 use Rattle.tape.specs.Passes.{longestRecord, nextRecordBy, says}
-use Rattle.tape.specs.declared.record.Cursor.{Cursor}
-use Rattle.tape.specs.declared.record.Read.{Read}
-use Rattle.tape.specs.declared.record.Read.the-variants.{Record, More, Bad}
-use Rattle.tape.proofs.Bytes.{part-drop}
-use Rattle.tape.proofs.Windows.{Whole, record-read, next-record-at}
+use Rattle.records.specs.declared.record.Cursor.{Cursor}
+use Rattle.records.specs.declared.record.Read.{Read}
+use Rattle.records.specs.declared.record.Read.the-variants.{Record, More, Bad}
+use Rattle.records.proofs.Bytes.{part-drop}
+use Rattle.records.proofs.Windows.{Whole, record-read}
+use Rattle.tape.proofs.Windows.{next-record-at}
 use Rattle.turns.specs.Hearing.{Readout, tells, readoutOf, readoutBy, readoutAt, heardIn, Past, Onward, Hears}
 use Rattle.turns.specs.declared.reading.Heard.{Heard}
 

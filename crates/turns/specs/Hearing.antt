@@ -4,11 +4,12 @@ use mathlib.Core.Path.{_≡_}
 use mathlib.Core.List.{List}
 use lib.ListN.{length, drop}
 use Rattle.meaning.specs.Bytes.{part}
-use Rattle.tape.specs.declared.record.Read.{Read}
-use Rattle.tape.specs.declared.record.Read.the-variants.{Record, More, Bad}
-use Rattle.tape.specs.Records.{wholeLength}
+use Rattle.records.specs.declared.record.Read.{Read}
+use Rattle.records.specs.declared.record.Read.the-variants.{Record, More, Bad}
+use Rattle.records.specs.Records.{wholeLength}
 use Rattle.tape.specs.Kinds.{Said, unfit, callOf}
-use Rattle.tape.specs.Reader.{readAt, saidOf}
+use Rattle.records.specs.Reader.{readAt}
+use Rattle.tape.specs.Reader.{saidOf}
 use Rattle.tape.specs.Passes as passes
 use Rattle.tape.specs.Passes.{longestRecord}
 use Rattle.turns.specs.declared.reading.Heard.{Heard}

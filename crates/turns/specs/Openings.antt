@@ -10,7 +10,7 @@ use Rattle.meaning.specs.State.{labelLength, plateOk, fresh}
 use Rattle.meaning.specs.Fields.{memoryLength}
 use Rattle.line.specs.declared.plate.Plate.{Plate}
 use Rattle.line.specs.Line.{plateOf}
-use Rattle.tape.specs.Records.{wholeLength}
+use Rattle.records.specs.Records.{wholeLength}
 use Rattle.tape.specs.Kinds.{Said, plate, call, unfit}
 use Rattle.tape.specs.Answers.{opening, running, badRecord, turn}
 use Rattle.tape.specs.Passes as passes

@@ -1,10 +1,10 @@
 // What a record of the tape says.
 ghost use mathlib.Core.Path.{_≡_};
 ghost use Rattle.turns.specs.Hearing.{readoutOf, readoutAt};
-use tape::Cursor;
+use records::Cursor;
+use records::Read;
 use tape::Event;
 use tape::LONGEST_RECORD;
-use tape::Read;
 
 // What stands at a place of the window: not yet a whole record; what it says, and the place past it. Where no record begins it is unfit.
 pub enum Heard {

@@ -1,20 +1,21 @@
--- Laws of the checksum's loop, of bytes put into a buffer, and of a frame that is sealed round its data. Assumes nothing.
-use mathlib.Core.Path.{_≡_, refl, sym, _∙_}
+-- Laws of the checksum's loop, of lists compared, of bytes put into a buffer, and of a frame that is sealed round its data. Assumes nothing.
+use mathlib.Core.Path.{_≡_, refl, sym, ap, _∙_}
 use mathlib.Core.Bool.{Bool, true, false}
 use mathlib.Core.List.{List, [], _∷_, _++_, append-nil}
 use Prim.Native.Nat.{ℕ, suc, _+_, _-_, _<_, _≤_}
 use native.Mathlib.Numerals.{add-one}
 use native.Mathlib.Nat.{zero-add}
 use native.Mathlib.Omega.{arith}
-use lib.ListN.{length, take, drop, getD, set, length-append, length-take, length-drop}
+use lib.ListN.{length, take, drop, getD, set, length-append, length-take, length-drop, drop-of-length-le}
 use lib.Seq.{drop-cons, take-suc, set-at, set-split, append-snoc, length-take-le, take-length, drop-length, drop-drop}
 use lib.Bits.{bitXor, xor-self}
 use lib.Dec.{eqb}
 use borrow.Author.Tests.{le-leb, lt-leb, eq-eqb, ne-eqb, eqb-true, eqb-false}
 use borrow.Rule.Slice.PartMut.{putMid, midOf}
-use Rattle.meaning.specs.Bytes.{arg, xorFrom, xorAll, part, put}
+use Rattle.meaning.specs.Bytes.{both, arg, xorFrom, xorAll, part, put, same}
 use Rattle.meaning.specs.Commands.{counted, lengthFits}
 use Rattle.meaning.specs.Frames.{sealed}
+use Rattle.meaning.proofs.Choices.{both-false}
 use Rattle.meaning.proofs.Puts.{drop-put-low, put-front, part-put}
 use Rattle.meaning.proofs.Wire.{xor-snoc, length-sealed}
 use Rattle.meaning.proofs.Bytewise.{xor-cancel}
@@ -28,6 +29,25 @@ xor-more s i x h = rw (add-one, drop-cons s i 0)
 pub xor-opens : (s : List ℕ) (z : ℕ) → xorAll (s ++ (z ∷ [])) ≡ 0 → z ≡ xorAll s
 unfolding xorAll
 xor-opens s z e = sym (xor-cancel (xorFrom 0 s) z z (sym (xor-snoc 0 s z) ∙ e ∙ sym (xor-self z)))
+
+-- lists of different lengths differ
+pub same-long : (a b : List ℕ) → (length a ≡ length b → ⊥) → same a b ≡ false
+unfolding same
+same-long [] [] n = absurd (n refl)
+same-long [] (y ∷ ys) n = refl
+same-long (x ∷ xs) [] n = refl
+same-long (x ∷ xs) (y ∷ ys) n = rw (same-long xs ys (λ e. n (ap suc e))) (both-false (eqb x y))
+
+-- one byte more is compared
+pub same-more : (a b : List ℕ) (i : ℕ) → i < length a → i < length b
+    → same (drop i a) (drop i b) ≡ both (eqb (getD a i 0) (getD b i 0)) (same (drop (i + 1) a) (drop (i + 1) b))
+unfolding same
+same-more a b i h k = rw (add-one, drop-cons a i 0 h, drop-cons b i 0 k)
+
+-- no byte is left
+pub same-end : (a b : List ℕ) (i : ℕ) → length a ≤ i → length b ≤ i → same (drop i a) (drop i b) ≡ true
+unfolding same
+same-end a b i h k = rw (drop-of-length-le a h, drop-of-length-le b k)
 
 -- one byte more is copied
 pub fill-more : (s d : List ℕ) (i : ℕ) → i < length s → i < length d

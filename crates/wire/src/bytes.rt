@@ -4,6 +4,7 @@ ghost use Prim.Native.Nat.{_+_, _≤_};
 ghost use lib.ListN.{length, take};
 ghost use denote.Ref.{ptr};
 ghost use Rattle.meaning.specs.Bytes.{arg};
+ghost use Rattle.meaning.specs.Bytes as bytes;
 ghost use Rattle.meaning.specs.Frames.{dataOf};
 
 // Byte i, 00h past the end.
@@ -35,4 +36,21 @@ pub fn data_part(frame: &[u8]) -> &[u8]
 {
     let end = frame.len() - 1;
     &frame[2..end]
+}
+
+// B6 and read-back: two lists compared.
+pub fn same(a: &[u8], b: &[u8]) -> bool
+    ensures { λ r. ⌜ r ≡ bytes.same (now (a .entry)) (now (b .entry)) ⌝ }
+{
+    if a.len() != b.len() {
+        return false;
+    }
+    let mut i = 0;
+    while i < a.len() {
+        if a[i] != b[i] {
+            return false;
+        }
+        i += 1;
+    }
+    true
 }

@@ -14,6 +14,7 @@ pub use answer::Answer;
 pub use bytes::byte_at;
 pub use bytes::data_part;
 pub use bytes::front;
+pub use bytes::same;
 pub use framing::fill;
 pub use framing::seal;
 pub use framing::write;

@@ -18,7 +18,7 @@ use Rattle.bench.proofs.reply.done_verdict.Reads as reads
 use Rattle.bench.proofs.reply.done_verdict.Lts as lts
 use Rattle.wire.proofs.data_part.Reads as data-part-reads
 use Rattle.wire.proofs.front.Reads as front-reads
-use Rattle.bench.proofs.bytes.same.Reads as same-reads
+use Rattle.wire.proofs.same.Reads as same-reads
 use Rattle.wire.proofs.length_fits.Reads as length-fits-reads
 use Rattle.wire.proofs.row_of.Reads as row-of-reads
 

@@ -11,7 +11,7 @@ use Rattle.turns.proofs.reading.hear.Tie as tie
 use Rattle.turns.proofs.reading.hear.Reads as reads
 use Rattle.turns.proofs.reading.hear.Lts as lts
 use Rattle.tape.proofs.event_of.Reads as event-of-reads
-use Rattle.tape.proofs.record.Cursor.read.Reads as read-reads
+use Rattle.records.proofs.record.Cursor.read.Reads as read-reads
 
 -- a whole record's body lies within the window
 inside : (c : tie.After-known-told) → c .before .kind .given .0 .1 .0 + c .before .kind .given .0 .1 .1 .0 ≤ length (c .before .before .before .before .before .args .window .now)

@@ -1,0 +1,8 @@
+-- The laws of `programmer`, file by file.
+pub mod Reading
+pub mod Asking
+pub mod Hearing
+pub mod Counting
+pub mod Whole
+pub mod Replies
+pub mod ReadBack

@@ -1,0 +1,96 @@
+-- `programmer::run::Programmer::heard` meets its contract. Assumes nothing.
+use Prim.Native.Nat.{max}
+use mathlib.Core.Path.{_≡_, refl, sym, ap, _∙_}
+use lib.ListN.{take}
+use lib.Seq.{length-take-le}
+use Rattle.meaning.specs.Bench.{judge}
+use Rattle.meaning.proofs.Pieces.{piece-is-data}
+use Rattle.programmer.specs.Wishes.{wishOf}
+use Rattle.programmer.specs.Steps.{bytesDue}
+use Rattle.programmer.specs.declared.step.Standing.the-variants.{At}
+use Rattle.programmer.proofs.Hearing.{hears-over, hears-as, heard-at, Sends, sends}
+use borrow.Author.Needs.{needs}
+use Rattle.programmer.proofs.run.Programmer.heard.Statement.{statement}
+use Rattle.programmer.proofs.run.Programmer.heard.Tie as tie
+use Rattle.programmer.proofs.run.Programmer.heard.Reads as reads
+use Rattle.programmer.proofs.run.Programmer.heard.Lts as lts
+use Rattle.bench.proofs.data_of.Reads as data-of-reads
+use Rattle.bench.proofs.judge.Reads as judge-reads
+use Rattle.programmer.proofs.request.ask.Reads as ask-reads
+use Rattle.programmer.proofs.run.larger.Reads as larger-reads
+use Rattle.programmer.proofs.run.length_written.Reads as length-written-reads
+use Rattle.programmer.proofs.run.still_there.Reads as still-there-reads
+use Rattle.programmer.proofs.turn.on_verdict.Reads as on-verdict-reads
+
+-- the request as it stands in the buffer
+sends-at : (c : tie.After-length-written)
+    → Sends (c .before .before .before .before .before .before .before .before .before .args .self .address) (wishOf (c .before .before .before .before .before .before .before .before .before .args .tape .now)) (c .before .before .before .before .before .standing .given .0 .0) (c .before .before .ask .result) (c .before .before .ask .last .1 .1 .1 .0)
+sends-at c = sends _ _ _ _ _ _ refl (c .before .before .ask .ensures)
+
+enum-known-standing : tie.Need-enum-known-standing
+enum-known-standing c = search needs
+
+returns : tie.Need-returns
+returns c = hears-over _ _ _ (c .match .keys2)
+
+slice-aggregate-ask : tie.Need-slice-aggregate-ask
+slice-aggregate-ask c = search needs
+
+ask-requires : tie.Need-ask-requires
+ask-requires c κs = search needs
+
+length-written-requires : tie.Need-length-written-requires
+length-written-requires c κs = search needs
+
+array-share-prefix-request : tie.Need-array-share-prefix-request
+array-share-prefix-request c = rw (c .length-written .ensures) (sends-at c .within)
+
+slice-aggregate-asked : tie.Need-slice-aggregate-asked
+slice-aggregate-asked c = sym (length-take-le _ _ (array-share-prefix-request (c .before)))
+
+judge-requires : tie.Need-judge-requires
+judge-requires c κs = search needs
+
+data-of-requires : tie.Need-data-of-requires
+data-of-requires c κs = search needs
+
+on-verdict-requires : tie.Need-on-verdict-requires
+on-verdict-requires c κs = search needs
+
+still-there-requires : tie.Need-still-there-requires
+still-there-requires c κs = search needs
+
+larger-requires : tie.Need-larger-requires
+larger-requires c κs = search needs
+
+returns-2 : tie.Need-returns-2
+returns-2 c =
+    let after-judge = c .before .before .before in
+    let written = after-judge .before .before .before in
+    let a = c .before .before .before .before .before .before .before .before .before .before .before .before .before .before .before .args in
+    let l = wishOf (a .tape .now) in
+    let st = written .before .before .before .before .before .standing .given .0 .0 in
+    let q = take (written .length-written .result) (written .before .before .ask .last .1 .1 .1 .0) in
+    let e : q ≡ bytesDue (a .self .address) l (At st) = rw (written .length-written .ensures) (sends-at written .bytes) in
+    hears-as l (a .self) (a .reply .now) _ _
+    (heard-at (a .self .address) l (a .self .standing) st (written .before .before .before .before .before .standing .given .1) q (a .reply .now) (c .before .before .on-verdict .result) e
+    (c .before .before .on-verdict .ensures (judge q (a .reply .now)) (after-judge .before .judge .ensures) (after-judge .data-of .ensures .0 ∙ piece-is-data q (a .reply .now))))
+    (c .larger .ensures ∙ ap (max (a .self .present)) (c .before .still-there .ensures))
+
+pub heard-spec : {M : Type 1} → statement M
+heard-spec =
+    tie.close
+    (tie.spec
+    enum-known-standing
+    returns
+    slice-aggregate-ask
+    ask-requires
+    length-written-requires
+    array-share-prefix-request
+    slice-aggregate-asked
+    judge-requires
+    data-of-requires
+    on-verdict-requires
+    still-there-requires
+    larger-requires
+    returns-2)

@@ -1,0 +1,3 @@
+-- The definitions of `records`, file by file.
+pub mod Records
+pub mod Reader
