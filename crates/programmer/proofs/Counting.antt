@@ -17,8 +17,8 @@ use Rattle.meaning.specs.Fields.{writable}
 use Rattle.meaning.specs.Bench.{addressOk}
 use Rattle.programmer.specs.Wishes.{Field, Wish, noField, wanted, wishOf}
 use Rattle.programmer.specs.Steps.{stillThere, requestsFor, inAll, answered, answeredAt}
-use Rattle.programmer.specs.Reading.{FoundField, Counted}
-use Rattle.programmer.specs.Running.{progressOf, canStand, possible}
+use Rattle.programmer.specs.Reading.{FoundField, RequestsCounted}
+use Rattle.programmer.specs.Running.{progressOf, canStand, isPossible}
 use Rattle.programmer.specs.declared.count.Progress.{Progress}
 use Rattle.programmer.specs.declared.run.Programmer.{Programmer}
 use Rattle.programmer.specs.declared.step.Step.{Step}
@@ -72,7 +72,7 @@ counting-none l i = record { sum = refl; few = omega arith; still = λ h. refl; 
     go (suc i) h = absurd (omega arith)
 
 -- all are counted
-pub counting-done : (l : Wish) (i k before all : ℕ) → Counting l i k before all → length (l .fields) ≤ k → k ≤ 256 → Counted l i (record { before = before; all = all })
+pub counting-done : (l : Wish) (i k before all : ℕ) → Counting l i k before all → length (l .fields) ≤ k → k ≤ 256 → RequestsCounted l i (record { before = before; all = all })
 counting-done l i k before all C end few = record {
   before = go (decLt k i);
   all = whole;
@@ -133,17 +133,17 @@ module _ (l : Wish) (s : List ℕ) (i : ℕ) where
 -- ---- what a run can have left
 
 module _ (l : Wish) (x : Programmer) where
-  pub bad-address : addressOk (x .address) ≡ false → false ≡ possible l x
-  unfolding possible
+  pub bad-address : addressOk (x .address) ≡ false → false ≡ isPossible l x
+  unfolding isPossible
   bad-address e = rw e
 
   module _ (good : addressOk (x .address) ≡ true) where
-    pub too-many : 255 < x .present → false ≡ possible l x
-    unfolding possible
+    pub too-many : 255 < x .present → false ≡ isPossible l x
+    unfolding isPossible
     too-many h = rw (good, lt-leb (x .present) 255 h)
 
-    pub stands-as : x .present ≤ 255 → (r : Bool) → r ≡ canStand l (x .present) (x .standing) → r ≡ possible l x
-    unfolding possible
+    pub stands-as : x .present ≤ 255 → (r : Bool) → r ≡ canStand l (x .present) (x .standing) → r ≡ isPossible l x
+    unfolding isPossible
     stands-as h r e = rw (good, le-leb (x .present) 255 h, e)
 
 pub none-there : (x : Standing) → OneOf (1 ∷ 2 ∷ []) (tagOf the-type x) → 0 ≡ stillThere x

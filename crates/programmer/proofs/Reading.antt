@@ -20,7 +20,7 @@ use Rattle.records.specs.declared.record.Read.the-variants as read
 use Rattle.records.proofs.Bytes.{length-part, part-byte, part-drop}
 use Rattle.records.proofs.Windows.{record-read}
 use Rattle.records.proofs.Windows.{record-cut, record-whole}
-use Rattle.programmer.specs.Wishes.{Field, Wish, noField, wanted, fieldIn, bodyOf, isCodes, isField, ofItsSize, firstWrong, checkFrom, fieldsFrom, wishOf}
+use Rattle.programmer.specs.Wishes.{Field, Wish, noField, wanted, fieldIn, bodyOf, isCodes, isField, ofItsSize, firstWrong, checkedFrom, fieldsFrom, wishOf}
 use Rattle.programmer.specs.Reading.{RecordLies, FieldLies, FoundField}
 use Rattle.programmer.specs.declared.wish.Checked.{Checked}
 use Rattle.programmer.specs.declared.wish.Checked.the-variants.{BadRecord}
@@ -134,17 +134,17 @@ head-else s kind start n next h e = rw (head-of s kind start n next h, ne-eqb ki
 
 -- the walk over the fields that looks for a fault
 module _ (s : List ℕ) (at left : ℕ) (w : Checked) where
-  pub fault-end : length s ≤ at → w ≡ checkFrom left w at (drop at s)
-  unfolding checkFrom
+  pub fault-end : length s ≤ at → w ≡ checkedFrom left w at (drop at s)
+  unfolding checkedFrom
   fault-end h = rw (drop-of-length-le s {i = at} h) (go left)
     where
-      go : (k : ℕ) → w ≡ checkFrom k w at []
+      go : (k : ℕ) → w ≡ checkedFrom k w at []
       go zero = refl
       go (suc k) = refl
 
   module _ (more : at < length s) where
-    pub none-left : left ≡ 0 → BadRecord at ≡ checkFrom left w at (drop at s)
-    unfolding checkFrom
+    pub none-left : left ≡ 0 → BadRecord at ≡ checkedFrom left w at (drop at s)
+    unfolding checkedFrom
     none-left e = rw (drop-cons s at 0 more, e)
 
     one-more : (left ≡ 0 → ⊥) → left ≡ suc (left - 1)
@@ -155,22 +155,22 @@ module _ (s : List ℕ) (at left : ℕ) (w : Checked) where
         go (suc k) z = omega arith
 
     opens : (k : ℕ) (l : List ℕ) → drop at s ≡ l → 0 < length l
-        → checkFrom (suc k) w at l ≡ pick (isField (recordAt l)) (checkFrom k (firstWrong w (ofItsSize (bodyOf (recordAt l))) at) (at + wholeLength l) (drop (wholeLength l) l)) (BadRecord at)
-    unfolding checkFrom
+        → checkedFrom (suc k) w at l ≡ pick (isField (recordAt l)) (checkedFrom k (firstWrong w (ofItsSize (bodyOf (recordAt l))) at) (at + wholeLength l) (drop (wholeLength l) l)) (BadRecord at)
+    unfolding checkedFrom
     opens k [] e h = absurd (omega arith)
     opens k (x ∷ l) e h = refl
 
-    enabled : (left ≡ 0 → ⊥) → checkFrom left w at (drop at s)
-        ≡ pick (isField (recordAt (drop at s))) (checkFrom (left - 1) (firstWrong w (ofItsSize (bodyOf (recordAt (drop at s)))) at) (at + wholeLength (drop at s)) (drop (wholeLength (drop at s)) (drop at s))) (BadRecord at)
+    enabled : (left ≡ 0 → ⊥) → checkedFrom left w at (drop at s)
+        ≡ pick (isField (recordAt (drop at s))) (checkedFrom (left - 1) (firstWrong w (ofItsSize (bodyOf (recordAt (drop at s)))) at) (at + wholeLength (drop at s)) (drop (wholeLength (drop at s)) (drop at s))) (BadRecord at)
     enabled z =
-        ap (λ (k : ℕ). checkFrom k w at (drop at s)) (one-more z)
+        ap (λ (k : ℕ). checkedFrom k w at (drop at s)) (one-more z)
         ∙ opens (left - 1) (drop at s) refl (rw (length-drop at s) (omega arith))
 
-    pub bad-here : (left ≡ 0 → ⊥) → isField (recordAt (drop at s)) ≡ false → BadRecord at ≡ checkFrom left w at (drop at s)
+    pub bad-here : (left ≡ 0 → ⊥) → isField (recordAt (drop at s)) ≡ false → BadRecord at ≡ checkedFrom left w at (drop at s)
     bad-here z e = sym (enabled z ∙ rw e)
 
     pub fault-more : (left ≡ 0 → ⊥) → (start n next : ℕ) → FieldLies s at start n next
-        → checkFrom (left - 1) (firstWrong w (ofItsSize (part s start n)) at) next (drop next s) ≡ checkFrom left w at (drop at s)
+        → checkedFrom (left - 1) (firstWrong w (ofItsSize (part s start n)) at) next (drop next s) ≡ checkedFrom left w at (drop at s)
     fault-more z start n next h =
         sym (enabled z ∙ rw (h .is, h .body, drop-drop (wholeLength (drop at s)) at s, ← h .past))
 

@@ -18,8 +18,8 @@ use Rattle.meaning.proofs.Steps.{both-0, both-1}
 use Rattle.meaning.proofs.Choices.{both-intro}
 use Rattle.programmer.specs.Wishes.{Field, Wish, noField, wanted}
 use Rattle.programmer.specs.Steps.{making, clearing, locking, onto, onVerdict, bytesDue, afterReply, stillThere, requestsFor, inAll, answered}
-use Rattle.programmer.specs.Running.{atFirst, hears, reachable, isRead, failsBy, canStand, possible}
-use Rattle.programmer.specs.Promises.{afterReplies, isOver, AllBytes, StaysPossible, OnTheWay, CountsReplies, EndsAlways, StaysOver}
+use Rattle.programmer.specs.Running.{atFirst, hears, reachable, isRead, failsBy, canStand, isPossible}
+use Rattle.programmer.specs.Promises.{afterReplies, hasEnded, AllBytes, StaysPossible, OnTheWay, CountsReplies, EndsAlways, StaysOver}
 use Rattle.programmer.specs.declared.run.Programmer.{Programmer}
 use Rattle.programmer.specs.declared.step.Step.{Step}
 use Rattle.programmer.specs.declared.step.Step.the-variants.{Count, Look, Remove, Create, Store, Read, Lock}
@@ -32,10 +32,10 @@ max-zero : (n : ℕ) → max n 0 ≡ n
 max-zero n = omega arith
 
 pub stays-over : StaysOver
-unfolding isOver bytesDue hears afterReply
+unfolding hasEnded bytesDue hears afterReply
 stays-over l x r e = go (x .standing) refl e
   where
-    go : (y : Standing) → x .standing ≡ y → isOver y ≡ true → (bytesDue (x .address) l (x .standing) ≡ []) × (hears l x r ≡ x)
+    go : (y : Standing) → x .standing ≡ y → hasEnded y ≡ true → (bytesDue (x .address) l (x .standing) ≡ []) × (hears l x r ≡ x)
     go (At st) q e = absurd (false≢true e)
     go Done q e = (rw q, rw (q, max-zero (x .present)))
     go (Failed st w) q e = (rw q, rw (q, max-zero (x .present)))
@@ -190,7 +190,7 @@ module _ (n : ℕ) (l : Wish) where
   runs (r ∷ rs) B = reply-kept (afterReplies n l rs) (length rs) r (B .0) (runs rs (B .1))
 
 pub stays-possible : StaysPossible
-unfolding possible
+unfolding isPossible
 stays-possible n l rs good B =
     let R = runs n l rs B in
     let x = afterReplies n l rs in
@@ -227,10 +227,10 @@ counts-replies n l rs st B e =
     record { counts = h .1; short = short-of l ((afterReplies n l rs) .present) st (h .0); few = R .few }
 
 pub ends-always : EndsAlways
-unfolding isOver inAll
+unfolding hasEnded inAll
 ends-always n l rs B h = go ((afterReplies n l rs) .standing) refl
   where
-    go : (y : Standing) → (afterReplies n l rs) .standing ≡ y → isOver y ≡ true
+    go : (y : Standing) → (afterReplies n l rs) .standing ≡ y → hasEnded y ≡ true
     go (At st) e =
         let w = counts-replies n l rs st B e in
         absurd (omega (arith, w .counts, w .short, w .few))

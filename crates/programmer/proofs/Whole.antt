@@ -12,7 +12,7 @@ use Rattle.meaning.specs.Fields.{bytesOf, blocks, exists}
 use Rattle.meaning.proofs.Choices.{both-right, true-told}
 use Rattle.records.specs.Records.{Found, whole, cut, lengthAt, wholeLength, recordAt}
 use Rattle.records.proofs.Bytes.{length-part}
-use Rattle.programmer.specs.Wishes.{Field, Wish, fieldIn, bodyOf, isCodes, isField, ofItsSize, firstWrong, checkFrom, checkOf, fieldsFrom, wishOf}
+use Rattle.programmer.specs.Wishes.{Field, Wish, fieldIn, bodyOf, isCodes, isField, ofItsSize, firstWrong, checkedFrom, checkedTape, fieldsFrom, wishOf}
 use Rattle.programmer.specs.Promises.{FieldsFit, spanOf, WholeTape, GoodIsWhole}
 use Rattle.programmer.specs.declared.wish.Checked.{Checked}
 use Rattle.programmer.specs.declared.wish.Checked.the-variants.{Good, BadRecord, WrongSize}
@@ -91,8 +91,8 @@ none-more : (n : ℕ) → fieldsFrom (suc n) [] ≡ []
 unfolding fieldsFrom isField recordAt lengthAt little
 none-more n = refl
 
-all-read : (n : ℕ) (w : Checked) (at : ℕ) (t : List ℕ) → checkFrom n w at t ≡ Good → (w ≡ Good) × (spanOf (fieldsFrom n t) ≡ length t)
-unfolding checkFrom fieldsFrom spanOf
+all-read : (n : ℕ) (w : Checked) (at : ℕ) (t : List ℕ) → checkedFrom n w at t ≡ Good → (w ≡ Good) × (spanOf (fieldsFrom n t) ≡ length t)
+unfolding checkedFrom fieldsFrom spanOf
 all-read zero w at [] e = (e, refl)
 all-read zero w at (x ∷ t) e = never-bad at e
 all-read (suc n) w at [] e = (e, ap spanOf (none-more n))
@@ -101,9 +101,9 @@ all-read (suc n) w at (x ∷ t) e =
     go (isField (recordAt s)) refl (λ v h. all-read n v (at + wholeLength s) (drop (wholeLength s) s) h) e
   where
     go : (p : Bool) → isField (recordAt (x ∷ t)) ≡ p
-        → ((v : Checked) → checkFrom n v (at + wholeLength (x ∷ t)) (drop (wholeLength (x ∷ t)) (x ∷ t)) ≡ Good
+        → ((v : Checked) → checkedFrom n v (at + wholeLength (x ∷ t)) (drop (wholeLength (x ∷ t)) (x ∷ t)) ≡ Good
         → (v ≡ Good) × (spanOf (fieldsFrom n (drop (wholeLength (x ∷ t)) (x ∷ t))) ≡ length (drop (wholeLength (x ∷ t)) (x ∷ t))))
-        → pick p (checkFrom n (firstWrong w (ofItsSize (bodyOf (recordAt (x ∷ t)))) at) (at + wholeLength (x ∷ t)) (drop (wholeLength (x ∷ t)) (x ∷ t))) (BadRecord at) ≡ Good
+        → pick p (checkedFrom n (firstWrong w (ofItsSize (bodyOf (recordAt (x ∷ t)))) at) (at + wholeLength (x ∷ t)) (drop (wholeLength (x ∷ t)) (x ∷ t))) (BadRecord at) ≡ Good
         → (w ≡ Good) × (spanOf (pick (both p (ofItsSize (bodyOf (recordAt (x ∷ t))))) (fieldIn (bodyOf (recordAt (x ∷ t))) ∷ fieldsFrom n (drop (wholeLength (x ∷ t)) (x ∷ t))) []) ≡ suc (length t))
     go true f ih e =
         let s : List ℕ = x ∷ t in
@@ -130,10 +130,10 @@ head-spans t x e f = go (leb 2 (lengthAt t)) (leb (wholeLength t) (length t)) re
     go false q a b x e f = absurd (false≢true (rw (← e) at f))
 
 pub good-is-whole : GoodIsWhole
-unfolding checkOf wishOf
+unfolding checkedTape wishOf
 good-is-whole t e = go (isCodes (recordAt t)) refl e
   where
-    go : (p : Bool) → isCodes (recordAt t) ≡ p → pick p (checkFrom 256 Good 8 (drop 8 t)) (BadRecord 0) ≡ Good → WholeTape t (wishOf t)
+    go : (p : Bool) → isCodes (recordAt t) ≡ p → pick p (checkedFrom 256 Good 8 (drop 8 t)) (BadRecord 0) ≡ Good → WholeTape t (wishOf t)
     go true f e =
         let h = head-spans t (recordAt t) refl f in
         record {

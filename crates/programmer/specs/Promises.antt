@@ -9,9 +9,9 @@ use lib.Dec.{T}
 use Rattle.meaning.specs.Bytes.{arg}
 use Rattle.meaning.specs.Fields.{bytesOf, blocks, exists}
 use Rattle.meaning.specs.Bench.{addressOk, done, judge}
-use Rattle.programmer.specs.Wishes.{Field, Wish, wanted, checkOf, wishOf}
+use Rattle.programmer.specs.Wishes.{Field, Wish, wanted, checkedTape, wishOf}
 use Rattle.programmer.specs.Steps.{bytesDue, inAll, answered}
-use Rattle.programmer.specs.Running.{atFirst, hears, possible}
+use Rattle.programmer.specs.Running.{atFirst, hears, isPossible}
 use Rattle.programmer.specs.declared.wish.Checked.the-variants.{Good}
 use Rattle.programmer.specs.declared.run.Programmer.{Programmer}
 use Rattle.programmer.specs.declared.step.Step.{Step}
@@ -37,17 +37,17 @@ pub record WholeTape (t : List ℕ) (l : Wish) : Type 0 where
   pub all : 8 + spanOf (l .fields) ≡ length t
 
 abbrev pub GoodIsWhole : Type 0  -- "The whole tape is checked"
-GoodIsWhole = (t : List ℕ) → checkOf t ≡ Good → WholeTape t (wishOf t)
+GoodIsWhole = (t : List ℕ) → checkedTape t ≡ Good → WholeTape t (wishOf t)
 
 -- any replies whatever, newest first: where the run stands
 unfoldable pub afterReplies : ℕ → Wish → List (List ℕ) → Programmer
 afterReplies n l [] = atFirst n
 afterReplies n l (r ∷ rs) = hears l (afterReplies n l rs) r
 
-unfoldable pub isOver : Standing → Bool  -- "It ends in done, or in the first failed request and why"
-isOver (At st) = false
-isOver Done = true
-isOver (Failed st w) = true
+unfoldable pub hasEnded : Standing → Bool  -- "It ends in done, or in the first failed request and why"
+hasEnded (At st) = false
+hasEnded Done = true
+hasEnded (Failed st w) = true
 
 abbrev pub AllBytes : List (List ℕ) → Type 0  -- each reply is of bytes
 AllBytes [] = Unit
@@ -55,7 +55,7 @@ AllBytes (r ∷ rs) = ((i : ℕ) → getD r i 0 < 256) × AllBytes rs
 
 -- what a run leaves is never refused (R1)
 abbrev pub StaysPossible : Type 0
-StaysPossible = (n : ℕ) (l : Wish) (rs : List (List ℕ)) → T (addressOk n) → AllBytes rs → T (possible l (afterReplies n l rs))
+StaysPossible = (n : ℕ) (l : Wish) (rs : List (List ℕ)) → T (addressOk n) → AllBytes rs → T (isPossible l (afterReplies n l rs))
 
 -- "so many of so many": while a request is due, as many are answered as replies came, and fewer than all
 pub record OnTheWay (l : Wish) (n replies : ℕ) (st : Step) : Type 0 where
@@ -69,11 +69,11 @@ CountsReplies = (n : ℕ) (l : Wish) (rs : List (List ℕ)) (st : Step) → AllB
 
 -- the run ends, whatever is answered: what is not yet answered falls with each reply, and at most 255 fields are told
 abbrev pub EndsAlways : Type 0
-EndsAlways = (n : ℕ) (l : Wish) (rs : List (List ℕ)) → AllBytes rs → inAll l 255 ≤ length rs → isOver ((afterReplies n l rs) .standing) ≡ true
+EndsAlways = (n : ℕ) (l : Wish) (rs : List (List ℕ)) → AllBytes rs → inAll l 255 ≤ length rs → hasEnded ((afterReplies n l rs) .standing) ≡ true
 
 -- "the first failed request": nothing is sent once it is over, and nothing leads on
 abbrev pub StaysOver : Type 0
-StaysOver = (l : Wish) (x : Programmer) (r : List ℕ) → isOver (x .standing) ≡ true → (bytesDue (x .address) l (x .standing) ≡ []) × (hears l x r ≡ x)
+StaysOver = (l : Wish) (x : Programmer) (r : List ℕ) → hasEnded (x .standing) ≡ true → (bytesDue (x .address) l (x .standing) ≡ []) × (hears l x r ≡ x)
 
 -- the reply r, after the replies rs, brought the bytes of wanted field i
 pub record Brings (n : ℕ) (l : Wish) (rs : List (List ℕ)) (r : List ℕ) (i : ℕ) : Type 0 where

@@ -73,7 +73,7 @@ fieldOf (Read i) = i
 fieldOf (Lock i) = i
 
 -- the requests for the first i wanted fields, and for all: at most four for each of 256
-pub record Counted (l : Wish) (i : ℕ) (r : Counts) : Type 0 where
+pub record RequestsCounted (l : Wish) (i : ℕ) (r : Counts) : Type 0 where
   pub before : r .before ≡ requestsFor (take i (l .fields))
   pub all : r .all ≡ requestsFor (l .fields)
   pub few-before : r .before ≤ 1024

@@ -100,5 +100,5 @@ canStand l n Done = true
 canStand l n (Failed st w) = both (failsBy st w) (reachable l n st)
 
 -- R1: a programmer that some run of this wish could have left
-unfoldable pub possible : Wish → Programmer → Bool
-possible l x = both (addressOk (x .address)) (both (leb (x .present) 255) (canStand l (x .present) (x .standing)))
+unfoldable pub isPossible : Wish → Programmer → Bool
+isPossible l x = both (addressOk (x .address)) (both (leb (x .present) 255) (canStand l (x .present) (x .standing)))

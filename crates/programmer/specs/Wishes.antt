@@ -59,17 +59,17 @@ firstWrong (WrongSize n) fits at = WrongSize n
 
 -- "Refusals, in order: bad tape record; body not the field's size", each at the place of its record's first byte. A bad record ends it, wherever it
 -- stands; c is the first wrong size so far, n how many fields may still come (a field's number is one byte, so 256 in all)
-unfoldable pub checkFrom : ℕ → Checked → ℕ → List ℕ → Checked
-checkFrom zero c at [] = c
-checkFrom zero c at (x ∷ t) = BadRecord at
-checkFrom (suc n) c at [] = c
-checkFrom (suc n) c at (x ∷ t) =
+unfoldable pub checkedFrom : ℕ → Checked → ℕ → List ℕ → Checked
+checkedFrom zero c at [] = c
+checkedFrom zero c at (x ∷ t) = BadRecord at
+checkedFrom (suc n) c at [] = c
+checkedFrom (suc n) c at (x ∷ t) =
     let r = recordAt (x ∷ t) in
     let k = wholeLength (x ∷ t) in
-    pick (isField r) (checkFrom n (firstWrong c (ofItsSize (bodyOf r)) at) (at + k) (drop k (x ∷ t))) (BadRecord at)
+    pick (isField r) (checkedFrom n (firstWrong c (ofItsSize (bodyOf r)) at) (at + k) (drop k (x ∷ t))) (BadRecord at)
 
-unfoldable pub checkOf : List ℕ → Checked  -- "The whole tape is checked before the first request"
-checkOf t = pick (isCodes (recordAt t)) (checkFrom 256 Good 8 (drop 8 t)) (BadRecord 0)
+unfoldable pub checkedTape : List ℕ → Checked  -- "The whole tape is checked before the first request"
+checkedTape t = pick (isCodes (recordAt t)) (checkedFrom 256 Good 8 (drop 8 t)) (BadRecord 0)
 
 -- "in number order": the fields at the front of what is left of a tape, up to the first record that is none or not of its size
 unfoldable pub fieldsFrom : ℕ → List ℕ → List Field

@@ -8,7 +8,7 @@ ghost use Rattle.meaning.specs.Fields.{writable};
 ghost use Rattle.programmer.specs.Wishes.{Wish, wishOf};
 ghost use Rattle.programmer.specs.Steps.{requestsFor, inAll};
 ghost use Rattle.programmer.specs.Steps as steps;
-ghost use Rattle.programmer.specs.Reading.{fieldOf, Counted};
+ghost use Rattle.programmer.specs.Reading.{fieldOf, RequestsCounted};
 ghost use Rattle.programmer.specs.Running.{progressOf};
 use crate::run::Programmer;
 use crate::step::Standing;
@@ -50,7 +50,7 @@ fn before_field(k: usize, i: usize, before: usize, all: usize) -> usize
 }
 
 fn count(tape: &[u8], i: usize) -> Counts
-    ensures { λ r. ⌜ Counted (wishOf (now (tape .entry))) i r ⌝ }
+    ensures { λ r. ⌜ RequestsCounted (wishOf (now (tape .entry))) i r ⌝ }
 {
     let mut at = 8;
     let mut k = 0;

@@ -7,7 +7,7 @@ ghost use Rattle.meaning.specs.Bytes.{both};
 ghost use Rattle.meaning.specs.Fields.{writable};
 ghost use Rattle.programmer.specs.Wishes.{wishOf};
 ghost use Rattle.programmer.specs.Wishes as wishes;
-ghost use Rattle.programmer.specs.Running.{reachable, isRead, failsBy, canStand, possible};
+ghost use Rattle.programmer.specs.Running.{reachable, isRead, failsBy, canStand, isPossible};
 use crate::run::Programmer;
 use crate::step::Standing;
 use crate::step::Step;
@@ -99,7 +99,7 @@ fn can_stand(tape: &[u8], present: u32, standing: Standing) -> bool
 
 impl Programmer {
     pub fn is_possible(self, tape: &[u8]) -> bool
-        ensures { λ r. ⌜ r ≡ possible (wishOf (now (tape .entry))) self ⌝ }
+        ensures { λ r. ⌜ r ≡ isPossible (wishOf (now (tape .entry))) self ⌝ }
     {
         if !bench::address_ok(self.address) {
             return false;

@@ -1,7 +1,7 @@
 // The programmer, held by value (02, Req 04). The host sends and receives between `next` and `heard`.
 ghost use mathlib.Core.Path.{_≡_};
 ghost use Prim.Native.Nat.{max};
-ghost use Rattle.programmer.specs.Wishes.{checkOf, wishOf};
+ghost use Rattle.programmer.specs.Wishes.{checkedTape, wishOf};
 ghost use Rattle.programmer.specs.Steps.{stillThere};
 ghost use Rattle.programmer.specs.Running.{startedBy, toldBy, lengthWritten, askedOf, asks, hears};
 use crate::request::ask;
@@ -85,7 +85,7 @@ fn larger(a: u32, b: u32) -> u32
 
 impl Programmer {
     pub fn start(address: u32, tape: &[u8]) -> Started
-        ensures { λ r. ⌜ r ≡ startedBy address (checkOf (now (tape .entry))) ⌝ }
+        ensures { λ r. ⌜ r ≡ startedBy address (checkedTape (now (tape .entry))) ⌝ }
     {
         match check(tape) {
             Checked::BadRecord { at } => Started::BadRecord { at },

@@ -6,7 +6,7 @@ ghost use lib.ListN.{length, drop};
 ghost use Rattle.meaning.specs.Bytes.{part, arg};
 ghost use Rattle.meaning.specs.Fields.{bytesOf, blocks};
 ghost use Rattle.records.specs.Records.{recordAt};
-ghost use Rattle.programmer.specs.Wishes.{isCodes, ofItsSize, checkFrom, checkOf, wishOf};
+ghost use Rattle.programmer.specs.Wishes.{isCodes, ofItsSize, checkedFrom, checkedTape, wishOf};
 ghost use Rattle.programmer.specs.Wishes as specs;
 ghost use Rattle.programmer.specs.Reading.{RecordStands, FieldAt, Finds};
 use records::Cursor;
@@ -148,7 +148,7 @@ fn first_wrong(wrong: Checked, fits: bool, at: usize) -> Checked
 
 // The records behind the codes.
 fn check_fields(tape: &[u8]) -> Checked
-    ensures { λ r. ⌜ r ≡ checkFrom 256 Checked.Good 8 (drop 8 (now (tape .entry))) ⌝ }
+    ensures { λ r. ⌜ r ≡ checkedFrom 256 Checked.Good 8 (drop 8 (now (tape .entry))) ⌝ }
 {
     let mut wrong = Checked::Good;
     let mut at = 8;
@@ -174,7 +174,7 @@ fn check_fields(tape: &[u8]) -> Checked
 
 // "The whole tape is checked before the first request".
 pub fn check(tape: &[u8]) -> Checked
-    ensures { λ r. ⌜ r ≡ checkOf (now (tape .entry)) ⌝ }
+    ensures { λ r. ⌜ r ≡ checkedTape (now (tape .entry)) ⌝ }
 {
     if !has_codes(tape) {
         return Checked::BadRecord { at: 0 };

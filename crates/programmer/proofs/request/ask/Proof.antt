@@ -99,14 +99,19 @@ same-length-3 c = search needs
 
 returns-3 : tie.Need-returns-3
 unfolding due
-returns-3 c = writes-due _ _ _ _ _ _ _ _ (c .before .before .before .before .before .before .step2 .given .1) (c .before .before .shape .ensures) refl (remove-body (wishOf (c .before .before .before .before .before .before .before .before .before .before .args .tape .now)) _ _ _ (c .before .before .before .before .code-for .ensures))
+returns-3 c =
+    let a = c .before .before .before .before .before .before .before .before .before .before .args in
+    writes-due _ _ _ _ _ _ _ _ (c .before .before .before .before .before .before .step2 .given .1) (c .before .before .shape .ensures) refl (remove-body (wishOf (a .tape .now)) _ _ _ (c .before .before .before .before .code-for .ensures))
 
 same-length-4 : tie.Need-same-length-4
 same-length-4 c = search needs
 
 returns-4 : tie.Need-returns-4
 unfolding due
-returns-4 c = writes-due _ _ _ _ _ _ _ _ (c .before .before .before .before .before .before .before .before .step3 .given .1) (c .before .before .shape2 .ensures) refl (create-body _ _ _ _ _ _ (c .before .before .before .before .before .before .wanted .ensures) (c .before .before .before .before .before .enabled .ensures) (c .before .before .before .before .code-for2 .ensures))
+returns-4 c =
+    let coded = c .before .before .before .before in
+    writes-due _ _ _ _ _ _ _ _ (coded .before .before .before .before .step3 .given .1) (c .before .before .shape2 .ensures) refl
+    (create-body _ _ _ _ _ _ (coded .before .before .wanted .ensures) (coded .before .enabled .ensures) (coded .code-for2 .ensures))
 
 same-length-5 : tie.Need-same-length-5
 same-length-5 c = search needs
@@ -127,7 +132,8 @@ same-length-7 c = search needs
 
 returns-7 : tie.Need-returns-7
 unfolding due
-returns-7 c = writes-due _ _ _ _ _ _ _ _ (c .before .before .before .before .before .before .before .step6 .given .1) (c .before .before .shape3 .ensures) refl (lock-body _ _ _ _ _ (c .before .before .before .before .before .wanted2 .ensures) (c .before .before .before .before .code-for3 .ensures))
+returns-7 c =
+    writes-due _ _ _ _ _ _ _ _ (c .before .before .before .before .before .before .before .step6 .given .1) (c .before .before .shape3 .ensures) refl (lock-body _ _ _ _ _ (c .before .before .before .before .before .wanted2 .ensures) (c .before .before .before .before .code-for3 .ensures))
 
 pub ask-spec : {M : Type 1} → statement M
 ask-spec =

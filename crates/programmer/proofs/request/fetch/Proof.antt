@@ -32,7 +32,9 @@ same-length : tie.Need-same-length
 same-length c = search needs
 
 returns : tie.Need-returns
-returns c = c .before .before .write-request .ensures ∙ ap (λ (d : List ℕ). writes (c .before .before .before .before .before .before .before .before .before .args .address) 0x4A d (c .before .before .before .before .before .before .before .before .before .args .buffer .now)) (fetch-body _ _ _ _ (c .before .before .before .before .before .before .wanted .ensures) _ (c .before .before .before .before .before .code-for .ensures))
+returns c =
+    let a = c .before .before .before .before .before .before .before .before .before .args in
+    c .before .before .write-request .ensures ∙ ap (λ (d : List ℕ). writes (a .address) 0x4A d (a .buffer .now)) (fetch-body _ _ _ _ (c .before .before .before .before .before .before .wanted .ensures) _ (c .before .before .before .before .before .code-for .ensures))
 
 pub fetch-spec : {M : Type 1} → statement M
 fetch-spec =

@@ -75,7 +75,13 @@ same-length : tie.Need-same-length
 same-length c = search needs
 
 returns : tie.Need-returns
-returns c = c .before .before .write-request .ensures ∙ ap (λ (d : List ℕ). writes (c .before .before .before .before .before .before .before .before .before .before .before .before .before .args .address) 0x4B d (c .before .before .before .before .before .before .before .before .before .before .before .before .before .args .buffer .now)) (store-body _ _ _ _ (c .before .before .before .before .before .before .before .before .before .before .wanted .ensures) _ (c .before .before .before .before .before .before .before .before .before .code-for .ensures) _ _ (c .before .before .before .before .before .before .fill .ensures))
+returns c =
+    let filled = c .before .before .before .before .before .before in
+    let coded = filled .before .before .before in
+    let a = coded .before .before .before .before .args in
+    c .before .before .write-request .ensures
+    ∙ ap (λ (d : List ℕ). writes (a .address) 0x4B d (a .buffer .now))
+    (store-body _ _ _ _ (coded .before .wanted .ensures) _ (coded .code-for .ensures) _ _ (filled .fill .ensures))
 
 pub store-spec : {M : Type 1} → statement M
 store-spec =

@@ -1,7 +1,7 @@
 -- `programmer::wish::check` meets its contract. Assumes nothing.
 use mathlib.Core.Path.{sym, _∙_}
 use borrow.Author.Tests.{not-true, not-false}
-use Rattle.programmer.specs.Wishes.{checkOf}
+use Rattle.programmer.specs.Wishes.{checkedTape}
 use borrow.Author.Needs.{needs}
 use Rattle.programmer.proofs.wish.check.Statement.{statement}
 use Rattle.programmer.proofs.wish.check.Tie as tie
@@ -14,14 +14,14 @@ has-codes-requires : tie.Need-has-codes-requires
 has-codes-requires c κs = search needs
 
 returns : tie.Need-returns
-unfolding checkOf
+unfolding checkedTape
 returns c = rw (sym (c .before .has-codes .ensures) ∙ not-true _ (c .if1 .taken))
 
 check-fields-requires : tie.Need-check-fields-requires
 check-fields-requires c κs = search needs
 
 returns-2 : tie.Need-returns-2
-unfolding checkOf
+unfolding checkedTape
 returns-2 c = rw (sym (c .before .before .has-codes .ensures) ∙ not-false _ (c .before .if1 .left)) (c .check-fields .ensures)
 
 pub check-spec : {M : Type 1} → statement M

@@ -3,7 +3,7 @@ use native.Mathlib.Omega.{arith}
 use Prim.Native.Nat.{_≤_}
 use mathlib.Core.Path.{_≡_, refl, _∙_}
 use lib.ListN.{drop}
-use Rattle.programmer.specs.Wishes.{checkFrom}
+use Rattle.programmer.specs.Wishes.{checkedFrom}
 use Rattle.programmer.specs.declared.wish.Checked.the-variants.{Good}
 use Rattle.programmer.proofs.Reading.{fault-end, none-left, bad-here, fault-more}
 use borrow.Author.Needs.{needs}
@@ -16,7 +16,7 @@ use Rattle.programmer.proofs.wish.first_wrong.Reads as first-wrong-read
 use Rattle.programmer.proofs.wish.is_sized.Reads as is-sized-reads
 
 abbrev Inv-loop : tie.InvT-loop
-Inv-loop tape wrong₀ at₀ left₀ wrong at left = (left ≤ 256) × (checkFrom left wrong at (drop at tape) ≡ checkFrom 256 Good 8 (drop 8 tape))
+Inv-loop tape wrong₀ at₀ left₀ wrong at left = (left ≤ 256) × (checkedFrom left wrong at (drop at tape) ≡ checkedFrom 256 Good 8 (drop 8 tape))
 
 abbrev μ-loop : tie.MeasureT-loop
 μ-loop tape wrong₀ at₀ left₀ wrong at left = left
@@ -37,7 +37,10 @@ enum-told : tie.Need-enum-told Inv-loop μ-loop
 enum-told c = search needs
 
 returns-2 : tie.Need-returns-2 Inv-loop μ-loop
-returns-2 c = bad-here (c .before .before .before .before .before .before .before .args .tape .now) (c .before .before .before .before .before .loop .at) (c .before .before .before .before .before .loop .left) (c .before .before .before .before .before .loop .wrong) (omega arith) (c .before .before .before .if1 .left) (rw (c .enum-told .given .1) at (c .before .before .field-here .ensures)) ∙ c .before .before .before .before .before .loop .inv .1
+returns-2 c =
+    let a = c .before .before .before .before .before .before .before .args in
+    let u = c .before .before .before .before .before .loop in
+    bad-here (a .tape .now) (u .at) (u .left) (u .wrong) (omega arith) (c .before .before .before .if1 .left) (rw (c .enum-told .given .1) at (c .before .before .field-here .ensures)) ∙ u .inv .1
 
 is-sized-requires : tie.Need-is-sized-requires Inv-loop μ-loop
 is-sized-requires c κs = ((rw (c .before .start .given .1) at (c .before .before .before .field-here .ensures)) .some, (rw (c .before .start .given .1) at (c .before .before .before .field-here .ensures)) .inside)
@@ -52,7 +55,11 @@ loop-less : tie.Need-loop-less Inv-loop μ-loop
 loop-less c = omega arith
 
 loop-again : tie.Need-loop-again Inv-loop μ-loop
-loop-again c = (omega arith, rw (c .first-wrong .ensures, c .before .is-sized .ensures) (fault-more (c .before .before .before .before .before .before .before .before .before .before .args .tape .now) (c .before .before .before .before .before .before .before .before .loop .at) (c .before .before .before .before .before .before .before .before .loop .left) (c .before .before .before .before .before .before .before .before .loop .wrong) (omega arith) (c .before .before .before .before .before .before .if1 .left) _ _ _ (rw (c .before .before .before .start .given .1) at (c .before .before .before .before .before .field-here .ensures))) ∙ c .before .before .before .before .before .before .before .before .loop .inv .1)
+loop-again c =
+    let a = c .before .before .before .before .before .before .before .before .before .before .args in
+    let u = c .before .before .before .before .before .before .before .before .loop in
+    let lies = rw (c .before .before .before .start .given .1) at (c .before .before .before .before .before .field-here .ensures) in
+    (omega arith, rw (c .first-wrong .ensures, c .before .is-sized .ensures) (fault-more (a .tape .now) (u .at) (u .left) (u .wrong) (omega arith) (c .before .before .before .before .before .before .if1 .left) _ _ _ lies) ∙ u .inv .1)
 
 returns-3 : tie.Need-returns-3 Inv-loop μ-loop
 returns-3 c = fault-end (c .before .before .before .args .tape .now) (c .before .loop .at) (c .before .loop .left) (c .before .loop .wrong) (omega arith) ∙ c .before .loop .inv .1

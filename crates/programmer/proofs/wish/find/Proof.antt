@@ -31,25 +31,40 @@ enum-told : tie.Need-enum-told Inv-loop μ-loop
 enum-told c = search needs
 
 returns : tie.Need-returns Inv-loop μ-loop
-returns c = walk-none (c .before .before .before .before .before .before .args .tape .now) (c .before .before .before .before .loop .at) (c .before .before .before .before .loop .k) (c .before .before .before .before .before .before .args .i) (c .before .before .before .before .loop .inv .2) (omega arith) (c .before .before .before .before .loop .inv .0) (rw (c .enum-told .given .1) at (c .before .before .field-here .ensures))
+returns c =
+    let a = c .before .before .before .before .before .before .args in
+    let u = c .before .before .before .before .loop in
+    walk-none (a .tape .now) (u .at) (u .k) (a .i) (u .inv .2) (omega arith) (u .inv .0) (rw (c .enum-told .given .1) at (c .before .before .field-here .ensures))
 
 is-sized-requires : tie.Need-is-sized-requires Inv-loop μ-loop
 is-sized-requires c κs = ((rw (c .before .start .given .1) at (c .before .before .before .field-here .ensures)) .some, (rw (c .before .start .given .1) at (c .before .before .before .field-here .ensures)) .inside)
 
 returns-2 : tie.Need-returns-2 Inv-loop μ-loop
-returns-2 c = walk-unsized (c .before .before .before .before .before .before .before .before .before .args .tape .now) (c .before .before .before .before .before .before .before .loop .at) (c .before .before .before .before .before .before .before .loop .k) (c .before .before .before .before .before .before .before .before .before .args .i) (c .before .before .before .before .before .before .before .loop .inv .2) (omega arith) _ _ _ (rw (c .before .before .before .start .given .1) at (c .before .before .before .before .before .field-here .ensures)) (c .before .before .before .before .before .before .before .loop .inv .0) (sym (c .before .is-sized .ensures) ∙ not-true _ (c .if1 .taken))
+returns-2 c =
+    let a = c .before .before .before .before .before .before .before .before .before .args in
+    let u = c .before .before .before .before .before .before .before .loop in
+    let lies = rw (c .before .before .before .start .given .1) at (c .before .before .before .before .before .field-here .ensures) in
+    walk-unsized (a .tape .now) (u .at) (u .k) (a .i) (u .inv .2) (omega arith) _ _ _ lies (u .inv .0) (sym (c .before .is-sized .ensures) ∙ not-true _ (c .if1 .taken))
 
 shared-slice-read-t12 : tie.Need-shared-slice-read-t12 Inv-loop μ-loop
-shared-slice-read-t12 c = omega (arith, (rw (c .before .before .before .before .before .start .given .1) at (c .before .before .before .before .before .before .before .field-here .ensures)) .some, (rw (c .before .before .before .before .before .start .given .1) at (c .before .before .before .before .before .before .before .field-here .ensures)) .inside)
+shared-slice-read-t12 c =
+    let lies = rw (c .before .before .before .before .before .start .given .1) at (c .before .before .before .before .before .before .before .field-here .ensures) in
+    omega (arith, lies .some, lies .inside)
 
 add-t13 : tie.Need-add-t13 Inv-loop μ-loop
-add-t13 c = omega (arith, (rw (c .before .before .before .before .before .start .given .1) at (c .before .before .before .before .before .before .before .field-here .ensures)) .some, (rw (c .before .before .before .before .before .start .given .1) at (c .before .before .before .before .before .before .before .field-here .ensures)) .inside)
+add-t13 c =
+    let lies = rw (c .before .before .before .before .before .start .given .1) at (c .before .before .before .before .before .before .before .field-here .ensures) in
+    omega (arith, lies .some, lies .inside)
 
 sub-t14 : tie.Need-sub-t14 Inv-loop μ-loop
 sub-t14 c = omega (arith, (rw (c .before .before .before .before .before .start .given .1) at (c .before .before .before .before .before .before .before .field-here .ensures)) .some)
 
 returns-3 : tie.Need-returns-3 Inv-loop μ-loop
-returns-3 c = walk-found (c .before .before .before .before .before .before .before .before .before .before .before .args .tape .now) (c .before .before .before .before .before .before .before .before .before .loop .at) (c .before .before .before .before .before .before .before .before .before .loop .k) (c .before .before .before .before .before .before .before .before .before .before .before .args .i) (c .before .before .before .before .before .before .before .before .before .loop .inv .2) (omega arith) _ _ _ (rw (c .before .before .before .before .before .start .given .1) at (c .before .before .before .before .before .before .before .field-here .ensures)) (sym (c .before .before .before .is-sized .ensures) ∙ not-false _ (c .before .before .if1 .left)) (c .before .if2 .taken)
+returns-3 c =
+    let a = c .before .before .before .before .before .before .before .before .before .before .before .args in
+    let u = c .before .before .before .before .before .before .before .before .before .loop in
+    let lies = rw (c .before .before .before .before .before .start .given .1) at (c .before .before .before .before .before .before .before .field-here .ensures) in
+    walk-found (a .tape .now) (u .at) (u .k) (a .i) (u .inv .2) (omega arith) _ _ _ lies (sym (c .before .before .before .is-sized .ensures) ∙ not-false _ (c .before .before .if1 .left)) (c .before .if2 .taken)
 
 add-k : tie.Need-add-k Inv-loop μ-loop
 add-k c = omega arith
@@ -58,7 +73,11 @@ loop-less : tie.Need-loop-less Inv-loop μ-loop
 loop-less c = omega arith
 
 loop-again : tie.Need-loop-again Inv-loop μ-loop
-loop-again c = (omega (arith, other _ _ (c .before .before .before .before .before .before .before .before .loop .inv .0) (c .if2 .left)), omega arith, walk-more (c .before .before .before .before .before .before .before .before .before .before .args .tape .now) (c .before .before .before .before .before .before .before .before .loop .at) (c .before .before .before .before .before .before .before .before .loop .k) (c .before .before .before .before .before .before .before .before .before .before .args .i) (c .before .before .before .before .before .before .before .before .loop .inv .2) (omega arith) _ _ _ (rw (c .before .before .before .before .start .given .1) at (c .before .before .before .before .before .before .field-here .ensures)) (sym (c .before .before .is-sized .ensures) ∙ not-false _ (c .before .if1 .left)))
+loop-again c =
+    let a = c .before .before .before .before .before .before .before .before .before .before .args in
+    let u = c .before .before .before .before .before .before .before .before .loop in
+    let lies = rw (c .before .before .before .before .start .given .1) at (c .before .before .before .before .before .before .field-here .ensures) in
+    (omega (arith, other _ _ (u .inv .0) (c .if2 .left)), omega arith, walk-more (a .tape .now) (u .at) (u .k) (a .i) (u .inv .2) (omega arith) _ _ _ lies (sym (c .before .before .is-sized .ensures) ∙ not-false _ (c .before .if1 .left)))
 
 returns-4 : tie.Need-returns-4 Inv-loop μ-loop
 returns-4 c = walk-end (c .before .before .before .args .tape .now) (c .before .loop .at) (c .before .loop .k) (c .before .before .before .args .i) (c .before .loop .inv .2) (omega arith) (c .before .loop .inv .0)

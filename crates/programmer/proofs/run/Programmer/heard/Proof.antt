@@ -24,7 +24,8 @@ use Rattle.programmer.proofs.turn.on_verdict.Reads as on-verdict-reads
 
 -- the request as it stands in the buffer
 sends-at : (c : tie.After-length-written)
-    → Sends (c .before .before .before .before .before .before .before .before .before .args .self .address) (wishOf (c .before .before .before .before .before .before .before .before .before .args .tape .now)) (c .before .before .before .before .before .standing .given .0 .0) (c .before .before .ask .result) (c .before .before .ask .last .1 .1 .1 .0)
+    → let a = c .before .before .before .before .before .before .before .before .before .args in
+    Sends (a .self .address) (wishOf (a .tape .now)) (c .before .before .before .before .before .standing .given .0 .0) (c .before .before .ask .result) (c .before .before .ask .last .1 .1 .1 .0)
 sends-at c = sends _ _ _ _ _ _ refl (c .before .before .ask .ensures)
 
 enum-known-standing : tie.Need-enum-known-standing

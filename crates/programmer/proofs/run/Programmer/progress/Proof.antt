@@ -34,13 +34,19 @@ in-all-requires : tie.Need-in-all-requires
 in-all-requires c κs = search needs
 
 returns : tie.Need-returns
-returns c = progress-at (wishOf (c .before .before .before .before .before .args .tape .now)) (c .before .before .before .before .before .args .self) (At (c .before .before .standing .given .0 .0)) (c .before .before .standing .given .0 .0) _ (c .before .before .standing .given .1) refl (c .stood .ensures)
+returns c =
+    let a = c .before .before .before .before .before .args in
+    progress-at (wishOf (a .tape .now)) (a .self) (At (c .before .before .standing .given .0 .0)) (c .before .before .standing .given .0 .0) _ (c .before .before .standing .given .1) refl (c .stood .ensures)
 
 returns-2 : tie.Need-returns-2
-returns-2 c = progress-at (wishOf (c .before .before .before .before .before .args .tape .now)) (c .before .before .before .before .before .args .self) (Failed (c .before .before .standing2 .given .0 .0) (c .before .before .standing2 .given .0 .1 .0)) (c .before .before .standing2 .given .0 .0) _ (c .before .before .standing2 .given .1) refl (c .stood2 .ensures)
+returns-2 c =
+    let a = c .before .before .before .before .before .args in
+    progress-at (wishOf (a .tape .now)) (a .self) (Failed (c .before .before .standing2 .given .0 .0) (c .before .before .standing2 .given .0 .1 .0)) (c .before .before .standing2 .given .0 .0) _ (c .before .before .standing2 .given .1) refl (c .stood2 .ensures)
 
 returns-3 : tie.Need-returns-3
-returns-3 c = progress-done (wishOf (c .before .before .before .before .before .args .tape .now)) (c .before .before .before .before .before .args .self) (c .before .before .enum-told .given .1) _ (all-as (wishOf (c .before .before .before .before .before .args .tape .now)) (c .before .before .before .before .before .args .self .present) _ _ (c .before .count .ensures .all) (c .in-all .ensures))
+returns-3 c =
+    let a = c .before .before .before .before .before .args in
+    progress-done (wishOf (a .tape .now)) (a .self) (c .before .before .enum-told .given .1) _ (all-as (wishOf (a .tape .now)) (a .self .present) _ _ (c .before .count .ensures .all) (c .in-all .ensures))
 
 pub progress-spec : {M : Type 1} → statement M
 progress-spec =
