@@ -1,0 +1,3 @@
+-- The definitions of `shop`, file by file.
+pub mod Promises
+pub mod Passages
