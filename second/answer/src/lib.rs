@@ -14,6 +14,7 @@ mod plate;
 mod refusal;
 mod request;
 mod state;
+mod status;
 mod work;
 
 pub use bench::{data_part, judge, write_request, Verdict, BROADCAST, REQUEST_ROOM};
