@@ -15,6 +15,7 @@ mod refusal;
 mod request;
 mod state;
 mod status;
+mod wish;
 mod work;
 
 pub use bench::{data_part, judge, write_request, Verdict, BROADCAST, REQUEST_ROOM};
@@ -24,6 +25,7 @@ pub use plate::Plate;
 pub use refusal::Refusal;
 pub use request::Request;
 pub use state::{Remaining, State, KEPT_LIMIT, QUEUE_LIMIT};
+pub use wish::{read_label_tape, TapeFault, WantedField, Wish};
 pub use work::ErrorCode;
 
 /// "The checksum is the XOR of all bytes before it" (01; 000, 2.3.3).
