@@ -46,4 +46,9 @@ impl Status {
     pub fn deleted(self) -> Status {
         Status(self.0 & !EXISTS)
     }
+
+    /// The same status, write-enabled.
+    pub fn unlocked(self) -> Status {
+        Status(self.0 | WRITABLE)
+    }
 }
