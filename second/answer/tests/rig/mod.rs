@@ -2,6 +2,8 @@
 
 #![allow(dead_code)]
 
+pub mod shop;
+
 use second::{
     character, fault, measured, poll, power_on, Heard, Label, Plate, Refusal, Remaining, State,
     REPLY_ROOM,
