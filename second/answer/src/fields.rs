@@ -1,46 +1,7 @@
 //! The lent memory: data fields of whole blocks and the table of their status bytes.
 
+use crate::status::{Status, BLOCK};
 use crate::work::ErrorCode;
-
-/// "A block is 16 bytes."
-const BLOCK: usize = 16;
-
-/// A field's status byte (01, "Status byte").
-#[derive(Clone, Copy)]
-pub struct Status(pub u8);
-
-impl Status {
-    /// Bit 7: the field exists.
-    pub fn exists(self) -> bool {
-        self.0 & 0x80 != 0
-    }
-
-    /// Bit 6: write-enabled.
-    pub fn writable(self) -> bool {
-        self.0 & 0x40 != 0
-    }
-
-    /// Bits 4 and 5: code number.
-    pub fn code_number(self) -> usize {
-        usize::from(self.0 >> 4 & 3)
-    }
-
-    /// Bit 3: code wanted.
-    pub fn wants_code(self) -> bool {
-        self.0 & 0x08 != 0
-    }
-
-    /// Bits 0 to 2: blocks less one.
-    pub fn blocks(self) -> usize {
-        usize::from(self.0 & 7) + 1
-    }
-
-    /// Whether a deletion names this status: "all status bits except bit 7 must equal the stored
-    /// ones" (02, Req 02).
-    pub fn is_named_by(self, asked: Status) -> bool {
-        self.0 & 0x7F == asked.0 & 0x7F
-    }
-}
 
 /// The memory of one board, its status table found sound.
 pub struct Fields<'m> {
@@ -108,7 +69,7 @@ impl<'m> Fields<'m> {
         let start = usize::from(offset);
         let end = start + usize::from(count);
         let first_byte = BLOCK * field.first_block;
-        let whole = &mut self.data[first_byte..][..BLOCK * field.status.blocks()];
+        let whole = &mut self.data[first_byte..][..field.status.size()];
         whole.get_mut(start..end).ok_or(ErrorCode::WrongOffset)
     }
 
@@ -139,7 +100,7 @@ impl<'m> Fields<'m> {
     /// Deletes a field; 0Dh unless the status names the stored one, "after 0Fh and before 10h" (02,
     /// Req 02); "10h if not the last".
     pub fn delete(&mut self, field: Field, status: Status) -> Result<(), ErrorCode> {
-        if !field.status.is_named_by(status) {
+        if status != field.status.deleted() {
             return Err(ErrorCode::WrongArgument);
         }
         if !self.is_last(field) {

@@ -1,7 +1,8 @@
 //! The requests at work on the board: each is checked left to right and writes its reply data.
 
-use crate::fields::{Field, Fields, Status};
+use crate::fields::{Field, Fields};
 use crate::request::Request;
+use crate::status::Status;
 use crate::{is_board_address, Plate, State};
 
 /// The codes of error replies.

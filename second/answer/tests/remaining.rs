@@ -2,7 +2,7 @@
 
 mod rig;
 
-use rig::{hex, sheet_plate, Rig};
+use rig::{hex, sheet_plate, Dice, Rig};
 use second::Remaining::{NoFrameOpen, Ticks};
 use second::{character, poll, Plate, Refusal, Remaining, State, REPLY_ROOM};
 
@@ -25,25 +25,6 @@ fn all_pauses() -> Vec<(Plate, u32)> {
     let rates = [1, 2, 4, 8, 16, 32, 64];
     let pauses = rates.map(|ticks| [22, 55].map(|pause| (plate(ticks, pause), ticks * pause)));
     pauses.concat()
-}
-
-/// A small generator of numbers, the same ones on every run.
-struct Dice(u64);
-
-impl Dice {
-    fn number(&mut self) -> u32 {
-        let step = self.0.wrapping_mul(6_364_136_223_846_793_005);
-        self.0 = step.wrapping_add(1_442_695_040_888_963_407);
-        (self.0 >> 32) as u32
-    }
-
-    fn below(&mut self, limit: u32) -> u32 {
-        self.number() % limit
-    }
-
-    fn pick<T: Copy>(&mut self, from: &[T]) -> T {
-        from[self.below(from.len() as u32) as usize]
-    }
 }
 
 impl Rig {

@@ -2,6 +2,9 @@
 
 #![allow(dead_code)]
 
+pub mod by_hand;
+pub mod shop;
+
 use second::{
     character, fault, measured, poll, power_on, Heard, Label, Plate, Refusal, Remaining, State,
     REPLY_ROOM,
@@ -40,6 +43,25 @@ pub fn hex(text: &str) -> Vec<u8> {
 pub fn sealed(bytes: &[u8]) -> Vec<u8> {
     let sum = bytes.iter().fold(0, |sum, byte| sum ^ byte);
     [bytes, &[sum]].concat()
+}
+
+/// A small generator of numbers, the same ones on every run.
+pub struct Dice(pub u64);
+
+impl Dice {
+    pub fn number(&mut self) -> u32 {
+        let step = self.0.wrapping_mul(6_364_136_223_846_793_005);
+        self.0 = step.wrapping_add(1_442_695_040_888_963_407);
+        (self.0 >> 32) as u32
+    }
+
+    pub fn below(&mut self, limit: u32) -> u32 {
+        self.number() % limit
+    }
+
+    pub fn pick<T: Copy>(&mut self, from: &[T]) -> T {
+        from[self.below(from.len() as u32) as usize]
+    }
 }
 
 impl Rig {
