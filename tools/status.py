@@ -40,11 +40,12 @@ SAID = {
     **{f"{blocks * BLOCK} bytes": (BLOCKS, blocks - 1) for blocks in SIZES},
 }
 SIZE_WORDS = "1 to 8 blocks, or 16 to 128 bytes in steps of 16"
+FIELD_WORDS = "N blocks, N bytes, code N wanted, code number N, code wanted, no code wanted, read-only, write-enabled"
 # What is like such a word and none, and why.
 NEAR = (
     (re.compile(r"\S+ (?:block|byte)s?"), f"a field has {SIZE_WORDS}"),
     (re.compile(r"code (?:number \S+|\S+ wanted)"), "a code number is 0 to 3"),
-    (re.compile(r".*"), "words, with commas between them, are N blocks, N bytes, code N wanted, code number N, code wanted, no code wanted, read-only, write-enabled"),
+    (re.compile(r".*"), f"words, with commas between them, are {FIELD_WORDS}"),
 )
 
 

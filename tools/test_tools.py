@@ -1,5 +1,5 @@
 #!/usr/bin/env python3
-"""Tests of the tools: those of test_tape.py, test_explain.py, test_boards.py and test_fields.py, and here the command line, bad files and the answer program.
+"""Tests of the tools: those of the other test files, and here the command line, bad files and the answer program.
 
     test_tools.py             the tools alone, with the judge of target/libquicksetter.so
     test_tools.py PROGRAM     also the sessions, run through this answer program
@@ -19,6 +19,7 @@ import tape
 import test_boards
 import test_explain
 import test_fields
+import test_label
 import test_tape
 import texts
 import traffic
@@ -138,10 +139,11 @@ def test_closed_pipe_and_full_disk():
     turns = 1000
     long_session = (PLATE_LINE + "ask 40 44\n" * turns).encode()
     answers = "tick reply\n" + "".join(f"{308 + 352 * turn} 40 50 0B 1B\n" for turn in range(turns))
-    explaining, writing = os.path.join(HERE, "explain.py"), os.path.join(HERE, "tape.py")
+    explaining, writing, labelling = (os.path.join(HERE, name) for name in ("explain.py", "tape.py", "label.py"))
+    long_label = test_label.FIRST + test_label.SMALL * 256
     with tempfile.TemporaryDirectory() as folder:
         long_page = [explaining, put(folder, "session", long_session), put(folder, "answers", answers.encode())]
-        for tool in (long_page, [explaining, "--help"]):
+        for tool in (long_page, [explaining, "--help"], [labelling, "--show", put(folder, "label", long_label)]):
             for script, status in OUTPUTS:
                 assert shell_runs(script, tool) == status, (script, tool)
             reading_end, writing_end = os.pipe()
@@ -150,6 +152,8 @@ def test_closed_pipe_and_full_disk():
             os.close(writing_end)
             assert (found.returncode, found.stderr) == (0, b""), found
     assert shell_runs(OUTPUTS[0][0], [writing, "write"], long_session) == 0
+    assert shell_runs(OUTPUTS[0][0], [labelling, test_label.SPINDLE, "-"]) == 0
+    assert shell_runs('"$@" >/dev/full', [labelling, test_label.SPINDLE, "-"]) == 1
     assert shell_runs('"$@" >/dev/full', [writing, "read"], SHEET_TAPE) == 1
 
 
@@ -234,7 +238,7 @@ def test_program(program):
 
 
 def main(arguments):
-    modules = (test_tape, test_explain, test_boards, test_fields, sys.modules[__name__])
+    modules = (test_tape, test_explain, test_boards, test_fields, test_label, sys.modules[__name__])
     found = [each for module in modules for each in vars(module).items()]
     tests = [check for name, check in found if name.startswith("test_") and callable(check) and check is not test_program]
     for check in tests:

@@ -151,6 +151,15 @@ def put_out(data: bytes):
             raise
 
 
+def write_file(name: str, data: bytes):
+    """Writes a file; standard output for the name -."""
+    if name == "-":
+        put_out(data)
+        return
+    with open(name, "wb") as file:
+        file.write(data)
+
+
 def complain(text: str):
     """Writes a line to standard error, if there is one."""
     try:
