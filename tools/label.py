@@ -35,13 +35,13 @@ import sys
 from typing import List, NamedTuple, Tuple
 
 from records import RawRecord, cut, hex_of, record_bytes
-from status import BLOCKS, EXISTS, blocks_of, counted, size_of, status_parts, status_said
+from status import BLOCKS, CODE_NUMBERS, EXISTS, blocks_of, counted, size_of, status_parts, status_said
 from texts import TextError
 from written import WrittenError, complain, event_and_comment, hex_bytes_of, is_text, put_out, read_file, read_text, write_file
 
 CODES_KIND = 0x0020
 FIELD_KIND = 0x0021
-NUMBER_OF_CODES = 4
+NUMBER_OF_CODES = len(CODE_NUMBERS)
 MOST_FIELDS = 256
 ESCAPE = "\\"
 QUOTED = re.compile(r'"((?:[^"\\]|\\.)*)"')
@@ -104,8 +104,10 @@ def bad_record(place: int, reason: str) -> WrittenError:
 
 def label_of(tape: bytes) -> Label:
     """What a tape says; WrittenError with its first bad record, else with its first field of another size."""
-    if not tape or is_text(tape):
-        raise bad_record(0, "a text, not a tape" if tape else "an empty tape has no codes")
+    if not tape:
+        raise bad_record(0, "an empty tape has no codes")
+    if is_text(tape):
+        raise bad_record(0, "a text, not a tape")
     raws, bad = cut(tape)
     for number, raw in enumerate(raws):
         reason = misfit(raw, number)

@@ -14,7 +14,7 @@ BLOCKS = 0x07
 PARTS = {"blocks": BLOCKS, "code wanted": CODE_WANTED, "code number": CODE_NUMBER, "write-enabled": WRITE_ENABLED}
 
 BLOCK = 16  # bytes
-CODES = range(4)
+CODE_NUMBERS = range(4)
 SIZES = range(1, 9)  # blocks
 
 
@@ -29,13 +29,13 @@ TOLD = {
     "read-only": (WRITE_ENABLED, 0),
     "code wanted": (CODE_WANTED, CODE_WANTED),
     "no code wanted": (CODE_WANTED, 0),
-    **{f"code number {number}": (CODE_NUMBER, number << 4) for number in CODES},
+    **{f"code number {number}": (CODE_NUMBER, number << 4) for number in CODE_NUMBERS},
     **{counted(blocks, "block"): (BLOCKS, blocks - 1) for blocks in SIZES},
 }
 # What people may write too.
 SAID = {
     **TOLD,
-    **{f"code {number} wanted": (CODE_NUMBER | CODE_WANTED, number << 4 | CODE_WANTED) for number in CODES},
+    **{f"code {number} wanted": (CODE_NUMBER | CODE_WANTED, number << 4 | CODE_WANTED) for number in CODE_NUMBERS},
     **{f"{blocks} blocks": (BLOCKS, blocks - 1) for blocks in SIZES},
     **{f"{blocks * BLOCK} bytes": (BLOCKS, blocks - 1) for blocks in SIZES},
 }

@@ -202,57 +202,60 @@ def test_a_bad_record_comes_before_a_wrong_size():
 # --- texts ------------------------------------------------------------------------------------
 
 
+# Lines that are bad by themselves, behind the codes and a field of 16 bytes.
+BAD_LINES = (
+    ("codes 55 55 55 55", "a second line of codes"),
+    ("fields 2 blocks", "no line of a label starts like this: fields 2 blocks"),
+    ("2 blocks", "no line of a label starts like this: 2 blocks"),
+    ('text"A"', 'no line of a label starts like this: text"A"'),
+    ("field", f"nothing: {WORDS}"),
+    ("field 1 block,", f"nothing: {WORDS}"),
+    ("field read-only", f"no size: {SIZE}"),
+    ("field 0 blocks", f"0 blocks: {SIZE}"),
+    ("field 9 blocks", f"9 blocks: {SIZE}"),
+    ("field -1 blocks", f"-1 blocks: {SIZE}"),
+    ("field two blocks", f"two blocks: {SIZE}"),
+    ("field 0 bytes", f"0 bytes: {SIZE}"),
+    ("field 17 bytes", f"17 bytes: {SIZE}"),
+    ("field 144 bytes", f"144 bytes: {SIZE}"),
+    ("field 1 byte", f"1 byte: {SIZE}"),
+    ("field 1 block, 16 bytes", "16 bytes: a word before it speaks of the same"),
+    ("field 1 block, code number 4", "code number 4: a code number is 0 to 3"),
+    ("field 1 block, code 4 wanted", "code 4 wanted: a code number is 0 to 3"),
+    ("field 1 block, code x wanted", "code x wanted: a code number is 0 to 3"),
+    ("field 1 block, code 1 wanted, code number 1", "code number 1: a word before it speaks of the same"),
+    ("field 1 block, code 1 wanted, no code wanted", "no code wanted: a word before it speaks of the same"),
+    ("field 1 block, read-only, write-enabled", "write-enabled: a word before it speaks of the same"),
+    ("field 1 block, locked", f"locked: {WORDS}"),
+    ("field 1 block read-only", f"1 block read-only: {WORDS}"),
+    ("field 1 block, exists", f"exists: {WORDS}"),
+    ("hex 4G", "no byte in hex: 4G"),
+    ("hex 40 4", "no byte in hex: 4"),
+    ('hex 40 "A"', 'no byte in hex: "A"'),
+    ("hex 40 sum", "no byte in hex: sum"),
+    ("hex", "no bytes"),
+    ("hex # 40", "no bytes"),
+    ('text ""', "no bytes"),
+    ("hex 00*17", "too long: 17 bytes for a field of 16"),
+    ('text "seventeen letters"', "too long: 17 bytes for a field of 16"),
+    ("text", "no text in quotation marks: "),
+    ("text SERVO", "no text in quotation marks: SERVO"),
+    ('text "SERVO # 4711', 'a text without its end: "SERVO # 4711'),
+    ('text "SERVO\\"', 'a text without its end: "SERVO\\"'),
+    ('text "SERVO\\', 'a text without its end: "SERVO\\'),
+    ('text "A" "B"', 'behind the text\'s end: "B"'),
+    ('text "A"B', "behind the text's end: B"),
+    ('text "\\n"', '\\n is no letter; there are \\" and \\\\ and \\xNN'),
+    ('text "\\x4"', '\\x is no letter; there are \\" and \\\\ and \\xNN'),
+    ('text "\\x4G"', '\\x is no letter; there are \\" and \\\\ and \\xNN'),
+    ('text "180 °C"', "no printable ASCII: '°'; \\xNN says any byte"),
+    ('text "A\tB"', "no printable ASCII: '\\t'; \\xNN says any byte"),
+    ('text "\x7f"', "no printable ASCII: '\\x7f'; \\xNN says any byte"),
+)
+
+
 def test_bad_lines():
-    """Each line is bad by itself: behind the codes and a field of 16 bytes it is line 3."""
-    for line, said in (
-        ("codes 55 55 55 55", "a second line of codes"),
-        ("fields 2 blocks", "no line of a label starts like this: fields 2 blocks"),
-        ("2 blocks", "no line of a label starts like this: 2 blocks"),
-        ('text"A"', 'no line of a label starts like this: text"A"'),
-        ("field", f"nothing: {WORDS}"),
-        ("field 1 block,", f"nothing: {WORDS}"),
-        ("field read-only", f"no size: {SIZE}"),
-        ("field 0 blocks", f"0 blocks: {SIZE}"),
-        ("field 9 blocks", f"9 blocks: {SIZE}"),
-        ("field -1 blocks", f"-1 blocks: {SIZE}"),
-        ("field two blocks", f"two blocks: {SIZE}"),
-        ("field 0 bytes", f"0 bytes: {SIZE}"),
-        ("field 17 bytes", f"17 bytes: {SIZE}"),
-        ("field 144 bytes", f"144 bytes: {SIZE}"),
-        ("field 1 byte", f"1 byte: {SIZE}"),
-        ("field 1 block, 16 bytes", "16 bytes: a word before it speaks of the same"),
-        ("field 1 block, code number 4", "code number 4: a code number is 0 to 3"),
-        ("field 1 block, code 4 wanted", "code 4 wanted: a code number is 0 to 3"),
-        ("field 1 block, code x wanted", "code x wanted: a code number is 0 to 3"),
-        ("field 1 block, code 1 wanted, code number 1", "code number 1: a word before it speaks of the same"),
-        ("field 1 block, code 1 wanted, no code wanted", "no code wanted: a word before it speaks of the same"),
-        ("field 1 block, read-only, write-enabled", "write-enabled: a word before it speaks of the same"),
-        ("field 1 block, locked", f"locked: {WORDS}"),
-        ("field 1 block read-only", f"1 block read-only: {WORDS}"),
-        ("field 1 block, exists", f"exists: {WORDS}"),
-        ("hex 4G", "no byte in hex: 4G"),
-        ("hex 40 4", "no byte in hex: 4"),
-        ('hex 40 "A"', 'no byte in hex: "A"'),
-        ("hex 40 sum", "no byte in hex: sum"),
-        ("hex", "no bytes"),
-        ("hex # 40", "no bytes"),
-        ('text ""', "no bytes"),
-        ("hex 00*17", "too long: 17 bytes for a field of 16"),
-        ('text "seventeen letters"', "too long: 17 bytes for a field of 16"),
-        ("text", "no text in quotation marks: "),
-        ("text SERVO", "no text in quotation marks: SERVO"),
-        ('text "SERVO # 4711', 'a text without its end: "SERVO # 4711'),
-        ('text "SERVO\\"', 'a text without its end: "SERVO\\"'),
-        ('text "SERVO\\', 'a text without its end: "SERVO\\'),
-        ('text "A" "B"', 'behind the text\'s end: "B"'),
-        ('text "A"B', "behind the text's end: B"),
-        ('text "\\n"', '\\n is no letter; there are \\" and \\\\ and \\xNN'),
-        ('text "\\x4"', '\\x is no letter; there are \\" and \\\\ and \\xNN'),
-        ('text "\\x4G"', '\\x is no letter; there are \\" and \\\\ and \\xNN'),
-        ('text "180 °C"', "no printable ASCII: '°'; \\xNN says any byte"),
-        ('text "A\tB"', "no printable ASCII: '\\t'; \\xNN says any byte"),
-        ('text "\x7f"', "no printable ASCII: '\\x7f'; \\xNN says any byte"),
-    ):
+    for line, said in BAD_LINES:
         found = bad_lines(CODES + "field 1 block\n" + line + "\n")
         assert found == [f"line 3: {said}"], (line, found)
 
@@ -288,10 +291,13 @@ def test_texts_with_every_letter():
         assert made(f'{CODES}field 8 blocks\ntext "{pairs}"\n') == FIRST + record(0x21, b"\xC7" + bytes(range(start, start + 128)))
 
 
-def test_spindle():
+def spindle():
     with open(SPINDLE, encoding="utf-8") as file:
-        text = file.read()
-    found = label.label_of(made(text))
+        return file.read()
+
+
+def test_spindle():
+    found = label.label_of(made(spindle()))
     assert [field.status for field in found.fields] == [0xC3, 0xD9, 0x80, 0xE1] and found.codes == b"\x55" * 4
     assert found.summary() == "summary: 4 fields, 9 blocks needed"
     assert found.fields[1].content == b'order "20815": bearings new\x07\xE8\x03\x0F\x00' and found.fields[2].content == b"SN 4711-0815".ljust(16, b"\x00")

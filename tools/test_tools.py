@@ -15,6 +15,7 @@ import bench
 import boards
 import bus
 import explain
+import label
 import tape
 import test_boards
 import test_explain
@@ -207,6 +208,19 @@ def test_scrambled_texts():
             explain.explain_tape(found, "tick reply\n" + scrambled(dice, ["308 40 4E 08 00 06", "bad 9", "660 40"]), JUDGE)
         except written.WrittenError:
             continue
+
+
+def test_scrambled_labels():
+    """Of a label too; and where no line is bad, the tape is good."""
+    dice = random.Random(8)
+    lines = test_label.spindle().splitlines() + test_label.TEXT.splitlines()
+    good = 0
+    for _ in range(1500):
+        found, bad = label.read_label(test_label.CODES + scrambled(dice, [line for line in lines if not line.startswith("codes")]))
+        if not bad:
+            label.label_of(label.tape_of(found))
+            good += 1
+    assert good > 100, good
 
 
 def test_program(program):
