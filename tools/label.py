@@ -45,7 +45,7 @@ NUMBER_OF_CODES = len(CODE_NUMBERS)
 MOST_FIELDS = 256
 ESCAPE = "\\"
 QUOTED = re.compile(r'"((?:[^"\\]|\\.)*)"')
-LETTER = re.compile(r'\\x([0-9a-fA-F]{2})|\\(["\\])|([ !#-\[\]-~])|(\\?.)')
+LETTER = re.compile(r'\\x([0-9a-fA-F]{2})|\\(["\\])|([ -\[\]-~])|(\\?.)')
 CONTENT = re.compile(rb"(\A[ -~]+\Z|[ -~]{4,})|((?:(?![ -~]{4}).){1,16})", re.DOTALL)
 
 

@@ -225,6 +225,8 @@ BAD_LINES = (
     ("field 1 block, code x wanted", "code x wanted: a code number is 0 to 3"),
     ("field 1 block, code 1 wanted, code number 1", "code number 1: a word before it speaks of the same"),
     ("field 1 block, code 1 wanted, no code wanted", "no code wanted: a word before it speaks of the same"),
+    ("field 1 block, code wanted, code 1 wanted", "code 1 wanted: a word before it speaks of the same"),
+    ("field 1 block, code number 1, code 1 wanted", "code 1 wanted: a word before it speaks of the same"),
     ("field 1 block, read-only, write-enabled", "write-enabled: a word before it speaks of the same"),
     ("field 1 block, locked", f"locked: {WORDS}"),
     ("field 1 block read-only", f"1 block read-only: {WORDS}"),
@@ -286,6 +288,7 @@ def test_texts_with_every_letter():
     printable = "".join(map(chr, range(32, 127)))
     escaped = printable.replace("\\", "\\\\").replace('"', '\\"')
     assert made(f'{CODES}field 8 blocks\ntext "{escaped}"#"\n') == FIRST + record(0x21, b"\xC7" + printable.encode().ljust(128, b"\x00"))
+    assert made(f'{CODES}field 1 block\ntext "\\\\" # behind it "\n') == FIRST + record(0x21, b"\xC0\\" + bytes(15))
     for start in range(0, 256, 128):
         pairs = "".join(f"\\x{byte:02x}" for byte in range(start, start + 128))
         assert made(f'{CODES}field 8 blocks\ntext "{pairs}"\n') == FIRST + record(0x21, b"\xC7" + bytes(range(start, start + 128)))

@@ -85,14 +85,14 @@ def one_word(word: Match, before: bytearray) -> bytes:
 
 
 def event_and_comment(line: str, escape: str = "") -> Tuple[str, str]:
-    """The line up to its first # that stands outside quotation marks, and what is behind it. Within them the letter behind an `escape` ends nothing."""
+    """The line up to its first # that stands outside quotation marks, and what is behind it. A quotation mark behind an `escape` is none."""
     quoted = escaped = False
     for place, letter in enumerate(line):
         if letter == '"' and not escaped:
             quoted = not quoted
         if letter == "#" and not quoted:
             return line[:place].strip(), line[place + 1 :].strip()
-        escaped = quoted and not escaped and letter == escape
+        escaped = letter == escape and not escaped
     return line.strip(), ""
 
 
