@@ -47,7 +47,7 @@ from records import Bad, Plate, split
 from texts import Expectation, Session, TextError, read_session
 from traffic import explain_log
 from words import Summary, call_words, entry, error_code, hex_lines, page_of, plate_line, reply_words, request_words, sleep_words
-from written import WrittenError, complain, is_text, put_out, read_file, text_of_bytes
+from written import WrittenError, complain, is_text, put_out, read_file, read_text, text_in
 
 ANSWER = os.path.join("target", "here", "answer")
 
@@ -261,14 +261,6 @@ def built_program() -> str:
     return program
 
 
-def text_in(name: str, data: bytes) -> str:
-    """The text that a file has."""
-    try:
-        return text_of_bytes(data)
-    except WrittenError as error:
-        raise WrittenError(f"{name}: {error}") from None
-
-
 def put_page(page: str, summary: Summary) -> int:
     put_out(page.encode("ascii", "backslashreplace"))
     return summary.status()
@@ -308,10 +300,7 @@ def tell_session(name: str, answers: Callable[[bytes], str], judge: Judge, tells
 
 
 def tell_log(name: str, judge: Judge) -> int:
-    data = read_file(name)
-    if not is_text(data):
-        raise WrittenError(f"{name}: a log is text, and this is not")
-    return put_page(*explain_log(text_in(name, data), judge))
+    return put_page(*explain_log(read_text(name, "a log"), judge))
 
 
 def run(arguments: List[str]) -> int:

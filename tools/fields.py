@@ -5,10 +5,7 @@ from typing import Dict, List, Optional
 from bench import Verdict
 from commands import CREATE_FIELD, FIELD_STATUS
 from frames import is_good
-
-EXISTS = 0x80
-# The parts of a status byte beside bit 7 (01, "Status byte").
-PARTS = {"blocks": 0x07, "code wanted": 0x08, "code number": 0x30, "write-enabled": 0x40}
+from status import EXISTS, PARTS
 
 
 def is_deletion(request: bytes) -> bool:

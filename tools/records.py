@@ -1,4 +1,4 @@
-"""Tapes of the answer program as records and bytes, and the small numbers that all tools share: ticks, checksums, hex."""
+"""Tapes as raw records, those of the answer program as what they say, and the small numbers that all tools share: ticks, checksums, hex."""
 
 from functools import reduce
 from operator import xor
@@ -81,6 +81,9 @@ class PowerOn(NamedTuple):
 Record = Union[Plate, Character, Poll, Measured, Fault, PowerOn]
 
 
+# --- any tape -------------------------------------------------------------------------------
+
+
 class Bad(NamedTuple):
     """The place of the first record that fits nothing, why, and all bytes from there on."""
 
@@ -89,12 +92,57 @@ class Bad(NamedTuple):
     rest: bytes
 
 
+class RawRecord(NamedTuple):
+    """A whole record, whatever its kind: the place of its first byte, its kind and its body."""
+
+    place: int
+    kind: int
+    body: bytes
+
+    def end(self) -> int:
+        return self.place + 4 + len(self.body)
+
+
+def record_bytes(kind: int, body: bytes) -> bytes:
+    """A record as it stands on a tape: length, kind, body (01, "The answer program")."""
+    return (2 + len(body)).to_bytes(2, "little") + kind.to_bytes(2, "little") + body
+
+
+def raw_record(tape: bytes, place: int) -> Tuple[Optional[RawRecord], str]:
+    """The whole record at a place; or none, and why."""
+    if len(tape) - place < 2:
+        return None, "a lone last byte"
+    length = int.from_bytes(tape[place : place + 2], "little")
+    end = place + 2 + length
+    if length < 2:
+        return None, f"a length of {length}, which has no room for the kind"
+    if end > len(tape):
+        return None, f"cut short: {length} bytes announced, {len(tape) - place - 2} there"
+    return RawRecord(place, int.from_bytes(tape[place + 2 : place + 4], "little"), tape[place + 4 : end]), ""
+
+
+def cut(tape: bytes) -> Tuple[List[RawRecord], Optional[Bad]]:
+    """All whole records from the tape's front, and what follows them that is none, if anything does."""
+    found: List[RawRecord] = []
+    place = 0
+    while place < len(tape):
+        raw, reason = raw_record(tape, place)
+        if raw is None:
+            return found, Bad(place, reason, tape[place:])
+        found.append(raw)
+        place = raw.end()
+    return found, None
+
+
+# --- the answer program's -------------------------------------------------------------------
+
+
 def four_bytes(number: int) -> bytes:
     return number.to_bytes(4, "little")
 
 
 def encode(record: Record) -> bytes:
-    """A record's bytes: length, kind, body (01, "The answer program")."""
+    """A record's bytes."""
     if isinstance(record, Plate):
         kind, body = 1, bytes(record)
     elif isinstance(record, Character):
@@ -107,7 +155,7 @@ def encode(record: Record) -> bytes:
         kind, body = 5, bytes([record.code])
     else:
         kind, body = 6, b""
-    return (2 + len(body)).to_bytes(2, "little") + kind.to_bytes(2, "little") + body
+    return record_bytes(kind, body)
 
 
 BODY_LENGTHS = {1: 5, 2: 6, 3: 4, 4: 4, 5: 1, 6: 0}
@@ -128,40 +176,36 @@ def decode_body(kind: int, body: bytes) -> Record:
     return PowerOn()
 
 
-def decode(tape: bytes, place: int) -> Tuple[Optional[Record], int, str]:
-    """The record at a place and the place behind it; or none, and why."""
-    if len(tape) - place < 2:
-        return None, place, "a lone last byte"
-    length = int.from_bytes(tape[place : place + 2], "little")
-    end = place + 2 + length
-    if length < 2:
-        return None, place, f"a length of {length}, which has no room for the kind"
-    if end > len(tape):
-        return None, place, f"cut short: {length} bytes announced, {len(tape) - place - 2} there"
-    kind = int.from_bytes(tape[place + 2 : place + 4], "little")
-    body = tape[place + 4 : end]
+def decode(raw: RawRecord) -> Tuple[Optional[Record], str]:
+    """What a raw record says; or nothing, and why."""
+    kind, body = raw.kind, raw.body
     if kind not in BODY_LENGTHS:
-        return None, place, f"kind {kind} is unknown"
+        return None, f"kind {kind} is unknown"
     if len(body) != BODY_LENGTHS[kind]:
-        return None, place, f"kind {kind} has {len(body)} bytes, not {BODY_LENGTHS[kind]}"
+        return None, f"kind {kind} has {len(body)} bytes, not {BODY_LENGTHS[kind]}"
     if kind == 2 and body[5] > 1:
-        return None, place, f"a parity fault of {body[5]}, not 0 or 1"
-    return decode_body(kind, body), end, ""
+        return None, f"a parity fault of {body[5]}, not 0 or 1"
+    return decode_body(kind, body), ""
+
+
+def record_at(tape: bytes, place: int) -> Optional[Record]:
+    """The record at a place, if there is a good one."""
+    raw, _ = raw_record(tape, place)
+    return decode(raw)[0] if raw else None
 
 
 def split(tape: bytes) -> Tuple[List[Record], Optional[Bad]]:
     """All good records from the tape's front, and the bad one that ends them, if any."""
+    raws, bad = cut(tape)
     records: List[Record] = []
-    place = 0
-    while place < len(tape):
-        record, end, reason = decode(tape, place)
-        if record is not None and not reason:
+    for raw in raws:
+        record, reason = decode(raw)
+        if record is not None:
             reason = misplaced(record, first=not records)
         if record is None or reason:
-            return records, Bad(place, reason, tape[place:])
+            return records, Bad(raw.place, reason, tape[raw.place :])
         records.append(record)
-        place = end
-    return records, None
+    return records, bad
 
 
 def misplaced(record: Record, first: bool) -> str:

@@ -1,5 +1,5 @@
 #!/usr/bin/env python3
-"""Tests of the tools: those of test_tape.py, test_explain.py, test_boards.py and test_fields.py, and here the command line, bad files and the answer program.
+"""Tests of the tools: those of the other test files, and here the command line, bad files and the answer program.
 
     test_tools.py             the tools alone, with the judge of target/libquicksetter.so
     test_tools.py PROGRAM     also the sessions, run through this answer program
@@ -15,10 +15,12 @@ import bench
 import boards
 import bus
 import explain
+import label
 import tape
 import test_boards
 import test_explain
 import test_fields
+import test_label
 import test_tape
 import texts
 import traffic
@@ -138,10 +140,11 @@ def test_closed_pipe_and_full_disk():
     turns = 1000
     long_session = (PLATE_LINE + "ask 40 44\n" * turns).encode()
     answers = "tick reply\n" + "".join(f"{308 + 352 * turn} 40 50 0B 1B\n" for turn in range(turns))
-    explaining, writing = os.path.join(HERE, "explain.py"), os.path.join(HERE, "tape.py")
+    explaining, writing, labelling = (os.path.join(HERE, name) for name in ("explain.py", "tape.py", "label.py"))
+    long_label = test_label.FIRST + test_label.SMALL * 256
     with tempfile.TemporaryDirectory() as folder:
         long_page = [explaining, put(folder, "session", long_session), put(folder, "answers", answers.encode())]
-        for tool in (long_page, [explaining, "--help"]):
+        for tool in (long_page, [explaining, "--help"], [labelling, "--show", put(folder, "label", long_label)]):
             for script, status in OUTPUTS:
                 assert shell_runs(script, tool) == status, (script, tool)
             reading_end, writing_end = os.pipe()
@@ -150,6 +153,8 @@ def test_closed_pipe_and_full_disk():
             os.close(writing_end)
             assert (found.returncode, found.stderr) == (0, b""), found
     assert shell_runs(OUTPUTS[0][0], [writing, "write"], long_session) == 0
+    assert shell_runs(OUTPUTS[0][0], [labelling, test_label.SPINDLE, "-"]) == 0
+    assert shell_runs('"$@" >/dev/full', [labelling, test_label.SPINDLE, "-"]) == 1
     assert shell_runs('"$@" >/dev/full', [writing, "read"], SHEET_TAPE) == 1
 
 
@@ -205,6 +210,19 @@ def test_scrambled_texts():
             continue
 
 
+def test_scrambled_labels():
+    """Of a label too; and where no line is bad, the tape is good."""
+    dice = random.Random(8)
+    lines = test_label.spindle().splitlines() + test_label.TEXT.splitlines()
+    good = 0
+    for _ in range(1500):
+        found, bad = label.read_label(test_label.CODES + scrambled(dice, [line for line in lines if not line.startswith("codes")]))
+        if not bad:
+            label.label_of(label.tape_of(found))
+            good += 1
+    assert good > 100, good
+
+
 def test_program(program):
     for name in SESSIONS:
         text = session(name)
@@ -234,7 +252,7 @@ def test_program(program):
 
 
 def main(arguments):
-    modules = (test_tape, test_explain, test_boards, test_fields, sys.modules[__name__])
+    modules = (test_tape, test_explain, test_boards, test_fields, test_label, sys.modules[__name__])
     found = [each for module in modules for each in vars(module).items()]
     tests = [check for name, check in found if name.startswith("test_") and callable(check) and check is not test_program]
     for check in tests:

@@ -7,7 +7,7 @@ from asking import Wanted, asked, wanted_of
 from bench import Verdict
 from commands import ERROR, WARNING
 from frames import Frame, address_after, frame_at, frames_of
-from records import TICKS, Character, Fault, Measured, Plate, Poll, PowerOn, Record, decode, encode, hex_of, split, xor_of
+from records import TICKS, Character, Fault, Measured, Plate, Poll, PowerOn, Record, encode, hex_of, record_at, split, xor_of
 from written import WrittenError, bytes_of, event_and_comment, hex_byte, number_of
 
 
@@ -208,8 +208,7 @@ class Session(NamedTuple):
 
 def named_reply(writer: Writer, start: int, event: str, comment: str) -> NamedReply:
     """The reply that a comment names: brought by the event's first character, by its poll, or by the poll of an ask."""
-    record, _, _ = decode(writer.tape, start)
-    if not isinstance(record, (Character, Poll)):
+    if not isinstance(record_at(writer.tape, start), (Character, Poll)):
         raise WrittenError("only a character or a poll brings a reply")
     place = len(writer.tape) - len(encode(Poll(0))) if event.startswith("ask") else start
     return NamedReply(writer.line, place, bytes_of(comment[len(REPLY_WORD) :]))
@@ -301,5 +300,5 @@ def answers_to_come(text: str) -> str:
     """What an answer program is to print of a text that names every reply (01, "The answer program")."""
     session = good_session(text)
     replies = replies_to_come(session)
-    ticks = {place: decode(session.tape, place)[0].tick for place in replies}
+    ticks = {place: record_at(session.tape, place).tick for place in replies}
     return "tick reply\n" + "".join(f"{ticks[place]} {hex_of(replies[place])}\n" for place in sorted(replies) if replies[place])

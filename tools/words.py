@@ -5,30 +5,17 @@ from typing import Callable, Dict, List, NamedTuple, Optional
 from bench import NOT_A_REQUEST, REFUSALS, Verdict
 from commands import ADDRESS_BYTES, BROADCAST, COMMANDS, CREATE_FIELD, ERROR, SET_ADDRESS, WARNING, WRONG_ARGUMENT
 from commands import Part, code_words, error_words, fault_words, layout_fits, pieces
-from fields import EXISTS, Fields, deletion_of, differing, is_deletion
+from fields import Fields, deletion_of, differing, is_deletion
 from frames import KEPT_BYTES, SHORTEST, Frame
 from records import Fault, Measured, Plate, Record, gap, hex_of, milliseconds, xor_of
+from status import BLOCK, EXISTS, status_words
 
 BYTES_A_LINE = 24
 DATA_RATES = dict(enumerate((600, 1200, 2400, 4800, 9600, 19200, 38400)))
 PARITIES = {0: "no parity", 2: "even parity", 3: "odd parity"}
-BLOCK = 16
 
 
 # --- data -----------------------------------------------------------------------------------
-
-
-def status_words(status: int) -> str:
-    """A status byte taken apart (01, "Status byte")."""
-    blocks = status % 8 + 1
-    parts = [
-        "exists" if status & EXISTS else "does not exist",
-        "write-enabled" if status & 0x40 else "read-only",
-        "code wanted" if status & 0x08 else "no code wanted",
-        f"code number {status >> 4 & 3}",
-        f"{blocks} block" + "s" * (blocks > 1),
-    ]
-    return f"status {status:02X}h ({', '.join(parts)})"
 
 
 def address_words(byte: int) -> str:

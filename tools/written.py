@@ -3,7 +3,7 @@
 import os
 import re
 import sys
-from typing import Tuple
+from typing import Iterator, Match, Pattern, Tuple
 
 from records import xor_of
 
@@ -11,9 +11,9 @@ MOST_TIMES = 100_000
 LONGEST_NUMBER = 20
 UTF_16 = (b"\xff\xfe", b"\xfe\xff")
 
-BYTE_WORD = re.compile(
-    r'[\s,]*(?:(?:0[xX]([0-9a-fA-F]|(?:[0-9a-fA-F]{2})+)|((?:[0-9a-fA-F]{2})+)[hH]?)(?:\*([0-9]+))?|"([^"]*)"|(sum))(?=[\s,]|$)'
-)
+HEX_PAIRS = r"(?:0[xX]([0-9a-fA-F]|(?:[0-9a-fA-F]{2})+)|((?:[0-9a-fA-F]{2})+)[hH]?)(?:\*([0-9]+))?"
+HEX_WORD = re.compile(rf"[\s,]*{HEX_PAIRS}(?=[\s,]|$)")
+BYTE_WORD = re.compile(rf'[\s,]*(?:{HEX_PAIRS}|"([^"]*)"|(sum))(?=[\s,]|$)')
 HEX_BYTE = re.compile(r"(?:0[xX])?([0-9a-fA-F]{1,2})[hH]?")
 
 
@@ -43,39 +43,56 @@ def hex_byte(text: str, what: str) -> int:
     return int(found.group(1), 16)
 
 
-def bytes_of(text: str) -> bytes:
-    """The bytes that a list says: hex pairs (40 4E, 404E, 0x40, 40h), quoted text, `sum`, a byte so many times; commas or blanks between them."""
-    found = bytearray()
+def words_of(text: str, form: Pattern, what: str) -> Iterator[Match]:
+    """The words of a list, all of one form, with commas or blanks between them."""
     place = 0
     while text[place:].strip(" \t\r\n,"):
-        word = BYTE_WORD.match(text, place)
+        word = form.match(text, place)
         if not word:
-            raise WrittenError(f"no byte, quoted text or sum: {text[place:].strip()}")
-        found += one_word(word, found)
+            raise WrittenError(f"no {what}: {text[place:].strip()}")
+        yield word
         place = word.end()
+
+
+def bytes_of(text: str) -> bytes:
+    """The bytes that a list says: hex pairs (40 4E, 404E, 0x40, 40h), quoted text, `sum`, a byte so many times."""
+    found = bytearray()
+    for word in words_of(text, BYTE_WORD, "byte, quoted text or sum"):
+        found += one_word(word, found)
     return bytes(found)
 
 
-def one_word(word, before: bytearray) -> bytes:
-    prefixed, pairs, times, quoted, total = word.groups()
-    if prefixed or pairs:
-        digits = prefixed or pairs
-        return bytes.fromhex("0" * (len(digits) % 2) + digits) * number_of(times or "1", MOST_TIMES + 1, "a byte's number of times")
+def hex_bytes_of(text: str) -> bytes:
+    """The bytes that a list says in hex alone."""
+    return b"".join(hex_pairs(word) for word in words_of(text, HEX_WORD, "byte in hex"))
+
+
+def hex_pairs(word: Match) -> bytes:
+    prefixed, pairs, times = word.groups()[:3]
+    digits = prefixed or pairs
+    return bytes.fromhex("0" * (len(digits) % 2) + digits) * number_of(times or "1", MOST_TIMES + 1, "a byte's number of times")
+
+
+def one_word(word: Match, before: bytearray) -> bytes:
+    quoted, total = word.groups()[3:]
     if total:
         return bytes([xor_of(before)])
+    if quoted is None:
+        return hex_pairs(word)
     if not quoted.isascii():
         raise WrittenError(f'only ASCII text has bytes here: "{quoted}"')
     return quoted.encode("ascii")
 
 
-def event_and_comment(line: str) -> Tuple[str, str]:
-    """The line up to its first # that stands outside quotation marks, and what is behind it."""
-    quoted = False
+def event_and_comment(line: str, escape: str = "") -> Tuple[str, str]:
+    """The line up to its first # that stands outside quotation marks, and what is behind it. A quotation mark behind an `escape` is none."""
+    quoted = escaped = False
     for place, letter in enumerate(line):
-        if letter == '"':
+        if letter == '"' and not escaped:
             quoted = not quoted
         if letter == "#" and not quoted:
             return line[:place].strip(), line[place + 1 :].strip()
+        escaped = letter == escape and not escaped
     return line.strip(), ""
 
 
@@ -105,6 +122,22 @@ def read_file(name: str) -> bytes:
     return sys.stdin.buffer.read()
 
 
+def text_in(name: str, data: bytes) -> str:
+    """The text that a file has."""
+    try:
+        return text_of_bytes(data)
+    except WrittenError as error:
+        raise WrittenError(f"{name}: {error}") from None
+
+
+def read_text(name: str, what: str) -> str:
+    """The text of a file that is to be `what`."""
+    data = read_file(name)
+    if not is_text(data):
+        raise WrittenError(f"{name}: {what} is text, and this is not")
+    return text_in(name, data)
+
+
 def put_out(data: bytes):
     """Writes to standard output. If nobody reads it any more, the rest is left unsaid."""
     if sys.stdout is None:
@@ -116,6 +149,15 @@ def put_out(data: bytes):
         os.dup2(os.open(os.devnull, os.O_WRONLY), sys.stdout.fileno())
         if not isinstance(error, BrokenPipeError):
             raise
+
+
+def write_file(name: str, data: bytes):
+    """Writes a file; standard output for the name -."""
+    if name == "-":
+        put_out(data)
+        return
+    with open(name, "wb") as file:
+        file.write(data)
 
 
 def complain(text: str):
