@@ -6,7 +6,7 @@ use mathlib.Core.List.{List, [], _∷_}
 use native.Mathlib.Omega.{arith}
 use native.Mathlib.Nat.{not-suc-le-zero, le-of-suc-le-suc}
 use native.Mathlib.Decide.{decLt}
-use lib.Dec.{T, eqb, leb, ltb}
+use lib.Dec.{T, eqb, leb, ltb, leb→le}
 use lib.ListN.{length, getD, take}
 use lib.Seq.{take-all}
 use borrow.Author.Tests.{lt-ltb, le-ltb, ltb-true, ltb-false, eq-eqb, ne-eqb, le-leb, lt-leb}
@@ -15,6 +15,7 @@ use denote.Enum.Declared.{tagOf}
 use Rattle.meaning.specs.Bytes.{pick, both}
 use Rattle.meaning.specs.Fields.{writable}
 use Rattle.meaning.specs.Bench.{addressOk}
+use Rattle.meaning.proofs.Steps.{both-0, both-1}
 use Rattle.programmer.specs.Wishes.{Field, Wish, noField, wanted, wishOf}
 use Rattle.programmer.specs.Steps.{stillThere, requestsFor, inAll, answered, answeredAt}
 use Rattle.programmer.specs.Reading.{FoundField, RequestsCounted}
@@ -22,6 +23,7 @@ use Rattle.programmer.specs.Running.{progressOf, canStand, isPossible}
 use Rattle.programmer.specs.declared.count.Progress.{Progress}
 use Rattle.programmer.specs.declared.run.Programmer.{Programmer}
 use Rattle.programmer.specs.declared.step.Step.{Step}
+use Rattle.programmer.specs.declared.step.Step.the-variants.{Count, Look, Remove, Create, Store, Read, Lock}
 use Rattle.programmer.specs.declared.step.Standing.{Standing}
 use Rattle.programmer.specs.declared.step.Standing.the-variants.{At, Done, Failed}
 use Rattle.programmer.proofs.step.Standing.{the-type}
@@ -146,6 +148,12 @@ module _ (l : Wish) (x : Programmer) where
     unfolding isPossible
     stands-as h r e = rw (good, le-leb (x .present) 255 h, e)
 
+-- and what it can have left has few fields present
+pub few-present : (l : Wish) (x : Programmer) → T (isPossible l x) → x .present ≤ 255
+unfolding isPossible
+few-present l x h =
+    leb→le (x .present) 255 (both-0 (leb (x .present) 255) (canStand l (x .present) (x .standing)) (both-1 (addressOk (x .address)) (both (leb (x .present) 255) (canStand l (x .present) (x .standing))) h))
+
 pub none-there : (x : Standing) → OneOf (1 ∷ 2 ∷ []) (tagOf the-type x) → 0 ≡ stillThere x
 none-there (At st) k = absurd (miss (1 ∷ 2 ∷ []) 0 tt k)
 none-there Done k = refl
@@ -171,3 +179,28 @@ module _ (l : Wish) (x : Programmer) where
   pub progress-done : x .standing ≡ Done → (r : ℕ) → r ≡ inAll l (x .present) → _≡_ {A = Progress} (record { answered = r; all = r }) (progressOf l x)
   unfolding progressOf
   progress-done e r h = rw (e, h)
+
+-- at most four requests for a field
+pub requests-few : (fs : List Field) → requestsFor fs ≤ 4 * length fs
+unfolding requestsFor
+requests-few [] = omega arith
+requests-few (f ∷ fs) = omega (arith, requests-few fs, cost-few (writable (f .status)))
+
+answered-few : (l : Wish) (p : ℕ) (st : Step) → answered l p st ≤ 4 + (2 * p + requestsFor (l .fields))
+answered-few l p Count = omega arith
+answered-few l p (Look k) = omega arith
+answered-few l p (Remove k st) = omega arith
+answered-few l p (Create i) = omega (arith, some-of (l .fields) i)
+answered-few l p (Store i) = omega (arith, some-of (l .fields) i)
+answered-few l p (Read i) = omega (arith, some-of (l .fields) i)
+answered-few l p (Lock i) = omega (arith, some-of (l .fields) i)
+
+-- so of a good tape's run both numbers of the progress are small
+pub progress-few : (l : Wish) (x : Programmer) → length (l .fields) ≤ 256 → x .present ≤ 255 → ((progressOf l x) .answered ≤ 1538) × ((progressOf l x) .all ≤ 1538)
+unfolding progressOf inAll
+progress-few l x few low = (go (x .standing), omega (arith, requests-few (l .fields)))
+  where
+    go : (y : Standing) → answeredAt l (x .present) y ≤ 1538
+    go (At st) = omega (arith, answered-few l (x .present) st, requests-few (l .fields))
+    go Done = omega (arith, requests-few (l .fields))
+    go (Failed st w) = omega (arith, answered-few l (x .present) st, requests-few (l .fields))

@@ -31,6 +31,13 @@ Unread (Record kind start n next) = ⊥
 Unread More = Unit
 Unread read.Bad = Unit
 
+-- a length of two bytes is no more than they can say
+pub short-length : (l : List ℕ) → ((i : ℕ) → getD l i 0 < 256) → little (take 2 l) ≤ 0xFFFF
+unfolding little
+short-length [] B = omega arith
+short-length (x ∷ []) B = omega (arith, B 0)
+short-length (x ∷ y ∷ l) B = omega (arith, B 0, B 1)
+
 -- a record that is read
 module _ (s : List ℕ) (at : ℕ) where
   abbrev t : List ℕ
@@ -46,13 +53,6 @@ module _ (s : List ℕ) (at : ℕ) where
         past = w .past;
         onward = omega (arith, w .past);
       }
-
-  -- a length of two bytes is no more than they can say
-  short-length : (l : List ℕ) → ((i : ℕ) → getD l i 0 < 256) → little (take 2 l) ≤ 0xFFFF
-  unfolding little
-  short-length [] B = omega arith
-  short-length (x ∷ []) B = omega (arith, B 0)
-  short-length (x ∷ y ∷ l) B = omega (arith, B 0, B 1)
 
   pub stands-cut : ((i : ℕ) → getD s i 0 < 256) → (v : Read) → Unread v → v ≡ readAt 0xFFFF at t → recordAt t ≡ cut
   unfolding readAt lengthAt

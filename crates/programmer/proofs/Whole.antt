@@ -5,7 +5,8 @@ use mathlib.Core.Bool.{Bool, true, false, false≢true}
 use mathlib.Core.List.{List, [], _∷_}
 use native.Mathlib.Omega.{arith}
 use lib.Dec.{T, eqb, leb}
-use lib.ListN.{length, drop, length-drop}
+use lib.ListN.{length, getD, drop, length-drop}
+use lib.Seq.{getD-drop}
 use borrow.Author.Tests.{eqb-true, eqb-false, leb-true}
 use Rattle.meaning.specs.Bytes.{pick, both, arg, part, little}
 use Rattle.meaning.specs.Fields.{bytesOf, blocks, exists}
@@ -16,6 +17,7 @@ use Rattle.programmer.specs.Wishes.{Field, Wish, fieldIn, bodyOf, isCode
 use Rattle.programmer.specs.Promises.{FieldsFit, spanOf, WholeTape, GoodIsWhole}
 use Rattle.programmer.specs.declared.wish.Checked.{Checked}
 use Rattle.programmer.specs.declared.wish.Checked.the-variants.{Good, BadRecord, WrongSize}
+use Rattle.programmer.proofs.Reading.{short-length}
 
 kind : Checked → ℕ
 kind Good = 0
@@ -143,3 +145,50 @@ good-is-whole t e = go (isCodes (recordAt t)) refl e
           all = omega (arith, h, all-read 256 Good 8 (drop 8 t) e .1, length-drop 8 t);
         }
     go false f e = never-bad 0 e
+
+-- ---- the place of a fault
+
+abbrev pub placeIn : Checked → ℕ
+placeIn Good = 0
+placeIn (BadRecord at) = at
+placeIn (WrongSize at) = at
+
+first-place : (c : Checked) (q : Bool) (at : ℕ) → placeIn c ≤ at → placeIn (firstWrong c q at) ≤ at
+unfolding firstWrong
+first-place Good true at h = omega arith
+first-place Good false at h = omega arith
+first-place (BadRecord n) q at h = h
+first-place (WrongSize n) q at h = h
+
+dropped-byte : (n : ℕ) (t : List ℕ) → ((i : ℕ) → getD t i 0 < 256) → (i : ℕ) → getD (drop n t) i 0 < 256
+dropped-byte n t B i = rw (getD-drop n t i 0) (B (n + i))
+
+-- each record takes at most as many bytes as its length can say, and two more
+low-from : (n : ℕ) (c : Checked) (at : ℕ) (t : List ℕ) → ((i : ℕ) → getD t i 0 < 256) → placeIn c ≤ at → placeIn (checkedFrom n c at t) ≤ at + n * 65537
+unfolding checkedFrom lengthAt
+low-from zero c at [] B h = omega arith
+low-from zero c at (x ∷ t) B h = omega arith
+low-from (suc n) c at [] B h = omega arith
+low-from (suc n) c at (x ∷ t) B h =
+    go (isField (recordAt (x ∷ t)))
+    (low-from n (firstWrong c (ofItsSize (bodyOf (recordAt (x ∷ t)))) at) (at + wholeLength (x ∷ t)) (drop (wholeLength (x ∷ t)) (x ∷ t))
+    (dropped-byte (wholeLength (x ∷ t)) (x ∷ t) B) (omega (arith, first-place c (ofItsSize (bodyOf (recordAt (x ∷ t)))) at h)))
+  where
+    few : wholeLength (x ∷ t) ≤ 65537
+    few = omega (arith, short-length (x ∷ t) B)
+
+    go : (p : Bool)
+        → placeIn (checkedFrom n (firstWrong c (ofItsSize (bodyOf (recordAt (x ∷ t)))) at) (at + wholeLength (x ∷ t)) (drop (wholeLength (x ∷ t)) (x ∷ t))) ≤ at + wholeLength (x ∷ t) + n * 65537
+        → placeIn (pick p (checkedFrom n (firstWrong c (ofItsSize (bodyOf (recordAt (x ∷ t)))) at) (at + wholeLength (x ∷ t)) (drop (wholeLength (x ∷ t)) (x ∷ t))) (BadRecord at))
+        ≤ at + suc n * 65537
+    go true k = omega (arith, few, k)
+    go false k = omega arith
+
+-- so a place has 32 bits
+pub low-place : (t : List ℕ) → ((i : ℕ) → getD t i 0 < 256) → placeIn (checkedTape t) < 0x100000000
+unfolding checkedTape
+low-place t B = go (isCodes (recordAt t)) (low-from 256 Good 8 (drop 8 t) (dropped-byte 8 t B) (omega arith))
+  where
+    go : (p : Bool) → placeIn (checkedFrom 256 Good 8 (drop 8 t)) ≤ 8 + 256 * 65537 → placeIn (pick p (checkedFrom 256 Good 8 (drop 8 t)) (BadRecord 0)) < 0x100000000
+    go true k = omega arith
+    go false k = omega arith

@@ -150,7 +150,8 @@ unfolding closes
 can-be-carried p s m a c d tick spacing ok low close short idle sent =
     let q = request a c d in
     let pl = told-true (plateOk p) ok in
-    let few : fullPause p < 2 ^ 32 = omega (arith, longest-pause p pl) in
-    (record { calls = sending tick spacing q (length q); closing = (stampOf tick spacing (length q - 1) + fullPause p) % 2 ^ 32 },
-    sent-is-told p s m tick spacing q idle low close short a c d refl sent,
-    rw (over-now p s m tick spacing a c d idle low close few short (sent .address) (sent .label) (sent .size) (sent .may)) tt)
+    let few : fullPause p < 2 ^ 32 = omega (arith, longest-pause p pl) in (
+      record { calls = sending tick spacing q (length q); closing = (stampOf tick spacing (length q - 1) + fullPause p) % 2 ^ 32 },
+      sent-is-told p s m tick spacing q idle low close short a c d refl sent,
+      rw (over-now p s m tick spacing a c d idle low close few short (sent .address) (sent .label) (sent .size) (sent .may)) tt,
+    )

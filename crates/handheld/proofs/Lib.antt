@@ -1,0 +1,2 @@
+-- The laws of `handheld`, file by file.
+pub mod Taking
