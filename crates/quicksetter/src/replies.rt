@@ -3,10 +3,12 @@ ghost use mathlib.Core.Path.{_≡_};
 ghost use Prim.Native.Nat.{_<_};
 ghost use lib.ListN.{length};
 ghost use Rattle.meaning.specs.Bench as meaning;
+ghost use Rattle.bench.specs.Outcomes.{checkNumber};
 ghost use Rattle.bench.specs.Lengths.{expectedLength};
 ghost use Rattle.quicksetter.specs.Verdicts.{writtenNumber, verdictNumber, verdictCode, expectedNumber, pieceNumber, Writes};
 use crate::given::REFUSED;
 use bench::Expected;
+use bench::Refusal;
 use bench::Verdict;
 use bench::Written;
 
@@ -34,6 +36,12 @@ fn wide(b: u8) -> u32
     b as u32
 }
 
+fn refusal_number(refusal: Refusal) -> u32
+    ensures { λ r. ⌜ (r ≡ checkNumber refusal) × (r < 7) ⌝ }
+{
+    wide(refusal.number())
+}
+
 fn verdict_code(verdict: Verdict) -> u32
     ensures { λ r. ⌜ r ≡ verdictCode verdict ⌝ }
 {
@@ -42,7 +50,7 @@ fn verdict_code(verdict: Verdict) -> u32
         Verdict::DoneWithWarning => 1,
         Verdict::Error(code) => 256 + wide(code),
         Verdict::ErrorWithWarning(code) => 512 + wide(code),
-        Verdict::Refused(refusal) => 1024 + wide(refusal.number()),
+        Verdict::Refused(refusal) => 1024 + refusal_number(refusal),
     }
 }
 
@@ -71,7 +79,7 @@ fn expected_number(expected: Expected) -> u64
     match expected {
         Expected::Unknown => 0,
         Expected::Bytes(n) => n as u64,
-        Expected::Refused(refusal) => 1024 + wide(refusal.number()) as u64,
+        Expected::Refused(refusal) => 1024 + refusal_number(refusal) as u64,
     }
 }
 
