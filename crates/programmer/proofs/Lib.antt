@@ -6,3 +6,4 @@ pub mod Counting
 pub mod Whole
 pub mod Replies
 pub mod ReadBack
+pub mod Allowed

@@ -57,7 +57,7 @@ taken-byte (suc n) [] B j = omega arith
 taken-byte (suc n) (x ∷ r) B zero = B 0
 taken-byte (suc n) (x ∷ r) B (suc j) = taken-byte n r (λ i. B (suc i)) j
 
-data-byte : (r : List ℕ) → ((i : ℕ) → getD r i 0 < 256) → (j : ℕ) → arg (dataOf r) j < 256
+pub data-byte : (r : List ℕ) → ((i : ℕ) → getD r i 0 < 256) → (j : ℕ) → arg (dataOf r) j < 256
 unfolding dataOf
 data-byte r B j = taken-byte (length r - 3) (drop 2 r) (λ i. rw (getD-drop 2 r i 0) (B (2 + i))) j
 
@@ -134,7 +134,7 @@ module _ (l : Wish) where
       go false w n c = rw (c, w) (omega (arith, e))
 
 -- B0 to B6: a refusal has one of their numbers
-abbrev Few : Verdict → Type 0
+abbrev pub Few : Verdict → Type 0
 Few (refusal n) = n ≤ 6
 Few (done w d) = Unit
 Few (failed w e) = Unit
@@ -149,7 +149,7 @@ unfolding branch
 few-branch true v w f g = f
 few-branch false v w f g = g
 
-few-checks : (q r : List ℕ) → Few (judge q r)
+pub few-checks : (q r : List ℕ) → Few (judge q r)
 unfolding judge content
 few-checks q r =
     few-bad 0 _ _ (omega arith) (few-bad 1 _ _ (omega arith) (few-bad 2 _ _ (omega arith) (few-bad 3 _ _ (omega arith) (few-bad 4 _ _ (omega arith)

@@ -31,6 +31,7 @@ use Rattle.programmer.specs.declared.step.Step.{Step}
 use Rattle.programmer.specs.declared.step.Step.the-variants.{Count, Look, Remove, Create, Store, Read, Lock}
 use Rattle.programmer.specs.declared.step.Standing.{Standing}
 use Rattle.programmer.specs.declared.step.Standing.the-variants.{At, Done, Failed}
+use Rattle.programmer.proofs.Allowed.{fits-at, may-store, may-read}
 use Rattle.shop.proofs.Laid.{Laid, laid-count, laid-used, laid-status, laid-first, laid-sound, laid-few, laid-of, laid-gone, laid-made, made-low, laid-stored, stored-low, laid-set, relaid-data}
 use Rattle.shop.proofs.Answers.{told-count, told-status, deleted, made, changed, stored, brought, blocks-few}
 use Rattle.shop.proofs.Kept.{statuses, statuses-length, statuses-at, statuses-snoc, enabled-exists, enabled-blocks, enabled-code, enabled-writable, Kept, kept-none, kept-more}
@@ -44,24 +45,6 @@ past-end : (sts : List ℕ) (k g : ℕ) → getD (sts ++ zeros k) g 0 ≡ getD s
 past-end [] k g = getD-zeros k g
 past-end (x ∷ sts) k zero = refl
 past-end (x ∷ sts) k (suc g) = past-end sts k g
-
-fits-at : (fs : List Field) (g : ℕ) → FieldsFit fs → g < length fs → length ((getD fs g noField) .bytes) ≡ 16 * blocks ((getD fs g noField) .status)
-fits-at [] g F h = absurd (not-suc-le-zero h)
-fits-at (f ∷ fs) zero F h = F .1
-fits-at (f ∷ fs) (suc g) F h = fits-at fs g (F .2) (le-of-suc-le-suc h)
-
--- R5: what is stored and read back is allowed
-may-store : (i c : ℕ) (bs : List ℕ) → 1 ≤ length bs → length bs ≤ 128 → T (allowed c4B (i ∷ 0 ∷ length bs ∷ c ∷ bs))
-unfolding allowed asked row lengthFits inRange
-may-store i c bs h k =
-    let n : ℕ = length (i ∷ 0 ∷ length bs ∷ c ∷ bs) in
-    both-intro (both (leb 5 n) (both (leb n 132) (eqb n (4 + length bs)))) true
-    (both-intro (leb 5 n) (both (leb n 132) (eqb n (4 + length bs))) (le→leb 5 n (omega arith))
-    (both-intro (leb n 132) (eqb n (4 + length bs)) (le→leb n 132 (omega arith)) (eq→eqb n (4 + length bs) (omega arith)))) tt
-
-may-read : (i c k : ℕ) → 1 ≤ k → k ≤ 128 → T (allowed c4A (i ∷ 0 ∷ k ∷ c ∷ []))
-unfolding allowed asked row lengthFits inRange
-may-read i c k h u = both-intro (leb 1 k) (leb k 128) (le→leb 1 k h) (le→leb k 128 u)
 
 module _ (p : board.Plate) (home : length (p .label) ≡ labelLength) (n : ℕ) (good : T (addressOk n)) (l : Wish) where
   abbrev t : ℕ
