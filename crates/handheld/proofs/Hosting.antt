@@ -15,6 +15,7 @@ use Rattle.meaning.specs.Demands.{Grounds}
 use Rattle.meaning.proofs.Fitting.{only-if-fits}
 use Rattle.meaning.proofs.Steps.{both-0, both-1}
 use Rattle.meaning.proofs.Choices.{told-true}
+use Rattle.meaning.proofs.Wire.{writes-well}
 use Rattle.programmer.specs.Wishes.{Wish, wanted, checkedTape, wishOf}
 use Rattle.programmer.specs.Steps.{due, making, clearing, locking, onto, onVerdict, bytesDue, afterReply}
 use Rattle.programmer.specs.Running.{atFirst, asks, hears, reachable, failsBy, canStand, isPossible}
@@ -31,7 +32,7 @@ use Rattle.programmer.proofs.Counting.{few-present}
 use Rattle.programmer.proofs.Replies.{data-byte, Few, few-checks, same-address, stands-after, stays-possible}
 use Rattle.programmer.proofs.Whole.{good-is-whole}
 use Rattle.handheld.specs.Numbers.{fieldPart, statusPart, numberPart, runNumber, runIn}
-use Rattle.handheld.specs.Entries.{givenBy, heardBy, handedOn, Hosted, QpRuns, QpWrites}
+use Rattle.handheld.specs.Entries.{requestOf, givenBy, heardBy, handedOn, Hosted, QpRuns, QpWrites}
 use Rattle.handheld.specs.declared.given.Given.the-variants as given
 use Rattle.handheld.proofs.Numbers.{SmallStep, Small, run-back, is-run}
 
@@ -169,9 +170,12 @@ pub qp-writes : QpWrites
 unfolding asks writes
 qp-writes t x buffer good could long = go (x .standing) (can-stand (wishOf t) x could)
   where
-    go : (y : Standing) → T (canStand (wishOf t) (x .present) y) → (asks (x .address) (wishOf t) y buffer) .refusal ≡ 0
+    go : (y : Standing) → T (canStand (wishOf t) (x .present) y) → (requestOf (asks (x .address) (wishOf t) y buffer)) .number ≤ 135
     go (At st) h =
+        let c = (due (wishOf t) st) .command in
+        let d = (due (wishOf t) st) .body in
         let may = due-allowed (wishOf t) (x .present) st (good-is-whole t good .fit) h in
-        rw (le-ltb (length buffer) 135 long, told-true (addressOk (x .address)) (right-address (wishOf t) x could), told-true (allowed (commandOf ((due (wishOf t) st) .command)) ((due (wishOf t) st) .body)) may)
-    go Done h = refl
-    go (Failed st w) h = refl
+        let right = right-address (wishOf t) x could in
+        rw (le-ltb (length buffer) 135 long, told-true (addressOk (x .address)) right, told-true (allowed (commandOf c) d) may) (writes-well (x .address) c d right may .1)
+    go Done h = omega arith
+    go (Failed st w) h = omega arith

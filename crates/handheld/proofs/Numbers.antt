@@ -15,7 +15,7 @@ use Rattle.programmer.specs.declared.step.Why.{Why}
 use Rattle.programmer.specs.declared.step.Why.the-variants.{Judgement, Error, Differs}
 use Rattle.programmer.specs.declared.step.Standing.{Standing}
 use Rattle.programmer.specs.declared.step.Standing.the-variants.{At, Done, Failed}
-use Rattle.handheld.specs.Numbers.{stageOf, fieldPart, statusPart, whyOf, numberPart, standingBytes, runNumber, byteIn, stepIn, whyIn, standingIn, runIn, isRun}
+use Rattle.handheld.specs.Numbers.{stagePart, fieldPart, statusPart, whyOf, numberPart, standingBytes, runNumber, byteIn, stepIn, whyIn, standingIn, runIn, isRun}
 
 -- ---- seven bytes
 
@@ -67,7 +67,7 @@ module _ (a b c d e p q : ℕ) (ha : a < 256) (hb : b < 256) (hc : c < 256) (hd 
 
 -- ---- a standing by its five bytes
 
-step-back : (st : Step) → stepIn (stageOf st) (fieldPart st) (statusPart st) ≡ st
+step-back : (st : Step) → stepIn (stagePart st) (fieldPart st) (statusPart st) ≡ st
 unfolding stepIn
 step-back Count = refl
 step-back (Look k) = refl
@@ -77,7 +77,7 @@ step-back (Store i) = refl
 step-back (Read i) = refl
 step-back (Lock i) = refl
 
-not-done : (st : Step) → eqb (stageOf st) 8 ≡ false
+not-done : (st : Step) → eqb (stagePart st) 8 ≡ false
 not-done Count = refl
 not-done (Look k) = refl
 not-done (Remove k st) = refl
@@ -116,7 +116,7 @@ Small (At st) = SmallStep st
 Small Done = Unit
 Small (Failed st w) = SmallStep st × (numberPart w < 256)
 
-small-stage : (st : Step) → stageOf st < 256
+small-stage : (st : Step) → stagePart st < 256
 small-stage Count = omega arith
 small-stage (Look k) = omega arith
 small-stage (Remove k st) = omega arith

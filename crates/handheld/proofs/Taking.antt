@@ -23,7 +23,7 @@ use Rattle.programmer.specs.declared.count.Progress.{Progress}
 use Rattle.programmer.proofs.Whole.{good-is-whole, placeIn, low-place}
 use Rattle.programmer.proofs.Counting.{few-present, progress-few}
 use Rattle.handheld.specs.Numbers.{runNumber, runIn, isRun}
-use Rattle.handheld.specs.Entries.{refusalNumber, tapeNumber, startNumber, Answer, askedNumber, requestOf, givenBy, nextBy}
+use Rattle.handheld.specs.Entries.{refusedWith, tapeNumber, startNumber, NextAnswer, askedNumber, requestOf, givenBy, nextBy}
 use Rattle.handheld.specs.declared.given.Given.{Given}
 use Rattle.handheld.specs.declared.given.Given.the-variants as given
 
@@ -63,12 +63,12 @@ abbrev pub startedNumber : Started → ℕ
 startedNumber (started.Ready x) = runNumber x
 startedNumber (started.BadRecord at) = tapeNumber (BadRecord at)
 startedNumber (started.WrongSize at) = tapeNumber (WrongSize at)
-startedNumber started.R5 = refusalNumber 5
+startedNumber started.R5 = refusedWith 5
 
 start-as : (n : ℕ) (c : Checked) → startedNumber (startedBy n c) ≡ startNumber n c
 start-as n Good = go (addressOk n)
   where
-    go : (q : Bool) → startedNumber (pick q (started.Ready (atFirst n)) started.R5) ≡ pick q (runNumber (atFirst n)) (refusalNumber 5)
+    go : (q : Bool) → startedNumber (pick q (started.Ready (atFirst n)) started.R5) ≡ pick q (runNumber (atFirst n)) (refusedWith 5)
     go true = refl
     go false = refl
 start-as n (BadRecord at) = refl
@@ -97,7 +97,7 @@ module _ (t : List ℕ) (n : ℕ) where
     good : checkedTape t ≡ Good
     good = good-tape (checkedTape t) (sym e ∙ z)
 
-    pub given-other : (r : ℕ) → r ≡ runNumber x → (r ≡ n → ⊥) → given.Refused (refusalNumber 3) ≡ givenBy t n
+    pub given-other : (r : ℕ) → r ≡ runNumber x → (r ≡ n → ⊥) → given.Refused (refusedWith 3) ≡ givenBy t n
     unfolding isRun
     given-other r h d =
         let f : eqb (runNumber (runIn n)) n ≡ false = ne-eqb (runNumber (runIn n)) n (λ q. d (h ∙ ap runNumber is ∙ q)) in
@@ -107,7 +107,7 @@ module _ (t : List ℕ) (n : ℕ) where
       its-number : eqb (runNumber (runIn n)) n ≡ true
       its-number = eq-eqb (runNumber (runIn n)) n (sym (h ∙ ap runNumber is) ∙ same)
 
-      pub given-impossible : (q : Bool) → q ≡ isPossible (wishOf t) x → q ≡ false → given.Refused (refusalNumber 3) ≡ givenBy t n
+      pub given-impossible : (q : Bool) → q ≡ isPossible (wishOf t) x → q ≡ false → given.Refused (refusedWith 3) ≡ givenBy t n
       unfolding isRun
       given-impossible q p f =
           let g : isPossible (wishOf t) (runIn n) ≡ false = ap (isPossible (wishOf t)) (sym is) ∙ sym p ∙ f in
@@ -131,7 +131,7 @@ module _ (t : List ℕ) (n : ℕ) where
   held-by : HeldBy (givenBy t n)
   held-by = go (checkedTape t) refl
     where
-      choose : (q : Bool) → checkedTape t ≡ Good → both (isRun n) (isPossible (wishOf t) (runIn n)) ≡ q → HeldBy (pick q (given.Run (runIn n)) (given.Refused (refusalNumber 3)))
+      choose : (q : Bool) → checkedTape t ≡ Good → both (isRun n) (isPossible (wishOf t) (runIn n)) ≡ q → HeldBy (pick q (given.Run (runIn n)) (given.Refused (refusedWith 3)))
       choose true g e = record { whole = g; could = true-told (isPossible (wishOf t) (runIn n)) (both-right (isRun n) (isPossible (wishOf t) (runIn n)) e) }
       choose false g e = tt
 
@@ -152,15 +152,15 @@ asked-as asked.R4 buffer = refl
 asked-as asked.R5 buffer = refl
 
 module _ (t : List ℕ) (n : ℕ) (v : Given) (e : v ≡ givenBy t n) (buffer : List ℕ) where
-  pub next-refused : (k : ℕ) → v ≡ given.Refused k → _≡_ {A = Answer} (record { number = k; buffer = buffer }) (nextBy (givenBy t n) (wishOf t) buffer)
+  pub next-refused : (k : ℕ) → v ≡ given.Refused k → _≡_ {A = NextAnswer} (record { number = k; buffer = buffer }) (nextBy (givenBy t n) (wishOf t) buffer)
   next-refused k h = rw (← e, h)
 
   module _ (x : Programmer) (h : v ≡ given.Run x) where
-    pub next-short : length buffer < 135 → _≡_ {A = Answer} (record { number = refusalNumber 4; buffer = buffer }) (nextBy (givenBy t n) (wishOf t) buffer)
+    pub next-short : length buffer < 135 → _≡_ {A = NextAnswer} (record { number = refusedWith 4; buffer = buffer }) (nextBy (givenBy t n) (wishOf t) buffer)
     next-short s = rw (← e, h, lt-ltb (length buffer) 135 s)
 
     pub next-asked : 135 ≤ length buffer → (w : Asked) (buffer′ : List ℕ) (r : ℕ) → askedOf w buffer′ ≡ asks (x .address) (wishOf t) (x .standing) buffer → r ≡ askedNumber w
-        → _≡_ {A = Answer} (record { number = r; buffer = buffer′ }) (nextBy (givenBy t n) (wishOf t) buffer)
+        → _≡_ {A = NextAnswer} (record { number = r; buffer = buffer′ }) (nextBy (givenBy t n) (wishOf t) buffer)
     next-asked s w buffer′ r k q = rw (← e, h, le-ltb (length buffer) 135 s, ← k, q) (asked-as w buffer′)
 
 -- ---- qp_progress

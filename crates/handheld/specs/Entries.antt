@@ -19,24 +19,24 @@ use Rattle.handheld.specs.Numbers.{runNumber, runIn, isRun}
 use Rattle.handheld.specs.declared.given.Given.{Given}
 use Rattle.handheld.specs.declared.given.Given.the-variants as given
 
-abbrev pub refusalNumber : ℕ → ℕ  -- bit 31 is set in no run, length or progress
-refusalNumber n = 0x80000000 + n
+abbrev pub refusedWith : ℕ → ℕ  -- bit 31 is set in no run, length or progress
+refusedWith n = 0x80000000 + n
 
 -- "bad tape record; body not the field's size", the record's place in the high 32 bits; 0 for a good tape
 abbrev pub tapeNumber : Checked → ℕ
 tapeNumber Good = 0
-tapeNumber (BadRecord at) = at * 0x100000000 + refusalNumber 1
-tapeNumber (WrongSize at) = at * 0x100000000 + refusalNumber 2
+tapeNumber (BadRecord at) = at * 0x100000000 + refusedWith 1
+tapeNumber (WrongSize at) = at * 0x100000000 + refusedWith 2
 
 -- the tape's faults, then R5
 abbrev pub startNumber : ℕ → Checked → ℕ
-startNumber n Good = pick (addressOk n) (runNumber (atFirst n)) (refusalNumber 5)
+startNumber n Good = pick (addressOk n) (runNumber (atFirst n)) (refusedWith 5)
 startNumber n (BadRecord at) = tapeNumber (BadRecord at)
 startNumber n (WrongSize at) = tapeNumber (WrongSize at)
 
 -- a run that is handed in with a tape: the tape's faults, then whether a run of this tape has that number
 abbrev pub givenWith : Checked → List ℕ → ℕ → Given
-givenWith Good t n = pick (both (isRun n) (isPossible (wishOf t) (runIn n))) (given.Run (runIn n)) (given.Refused (refusalNumber 3))
+givenWith Good t n = pick (both (isRun n) (isPossible (wishOf t) (runIn n))) (given.Run (runIn n)) (given.Refused (refusedWith 3))
 givenWith (BadRecord at) t n = given.Refused (tapeNumber (BadRecord at))
 givenWith (WrongSize at) t n = given.Refused (tapeNumber (WrongSize at))
 
@@ -44,23 +44,23 @@ abbrev pub givenBy : List ℕ → ℕ → Given
 givenBy t n = givenWith (checkedTape t) t n
 
 -- what qp_next returns and leaves; R4 whether a request is due or not
-pub record Answer : Type 0 where
+pub record NextAnswer : Type 0 where
   pub number : ℕ
   pub buffer : List ℕ
 
 abbrev pub askedNumber : Asked → ℕ
 askedNumber (asked.Request n) = n
 askedNumber asked.Over = 0
-askedNumber asked.R4 = refusalNumber 4
-askedNumber asked.R5 = refusalNumber 5
+askedNumber asked.R4 = refusedWith 4
+askedNumber asked.R5 = refusedWith 5
 
-abbrev pub requestOf : Written → Answer
-requestOf w = record { number = pick (eqb (w .refusal) 0) (w .count) (refusalNumber (w .refusal)); buffer = w .buffer }
+abbrev pub requestOf : Written → NextAnswer
+requestOf w = record { number = pick (eqb (w .refusal) 0) (w .count) (pick (eqb (w .refusal) 6) 0 (refusedWith (w .refusal))); buffer = w .buffer }
 
-abbrev pub nextBy : Given → Wish → List ℕ → Answer
+abbrev pub nextBy : Given → Wish → List ℕ → NextAnswer
 nextBy (given.Refused k) l buffer = record { number = k; buffer = buffer }
 nextBy (given.Run x) l buffer =
-    pick (ltb (length buffer) longestRequest) (record { number = refusalNumber 4; buffer = buffer }) (requestOf (asks (x .address) l (x .standing) buffer))
+    pick (ltb (length buffer) longestRequest) (record { number = refusedWith 4; buffer = buffer }) (requestOf (asks (x .address) l (x .standing) buffer))
 
 abbrev pub heardBy : Given → Wish → List ℕ → ℕ
 heardBy (given.Refused k) l r = k
@@ -87,7 +87,7 @@ pub record Hosted (n : ℕ) (t : List ℕ) (rs : List (List ℕ)) : Type 0 where
 abbrev pub QpRuns : Type 0
 QpRuns = (n : ℕ) (t : List ℕ) (rs : List (List ℕ)) → checkedTape t ≡ Good → T (addressOk n) → AllBytes rs → Hosted n t rs
 
--- R5 is not met on the way: each request that is due is one that the bench writes
+-- R5 is not met on the way: each request that is due is one that the bench writes, so that what is returned is its length
 abbrev pub QpWrites : Type 0
 QpWrites = (t : List ℕ) (x : Programmer) (buffer : List ℕ) → checkedTape t ≡ Good → T (isPossible (wishOf t) x) → longestRequest ≤ length buffer
-    → (asks (x .address) (wishOf t) (x .standing) buffer) .refusal ≡ 0
+    → (requestOf (asks (x .address) (wishOf t) (x .standing) buffer)) .number ≤ longestRequest

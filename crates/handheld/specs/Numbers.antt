@@ -14,14 +14,14 @@ use Rattle.programmer.specs.declared.step.Standing.{Standing}
 use Rattle.programmer.specs.declared.step.Standing.the-variants.{At, Done, Failed}
 
 -- a step by its stage, its field and its status; 0 for what it has not
-abbrev pub stageOf : Step → ℕ
-stageOf Count = 1
-stageOf (Look k) = 2
-stageOf (Remove k st) = 3
-stageOf (Create i) = 4
-stageOf (Store i) = 5
-stageOf (Read i) = 6
-stageOf (Lock i) = 7
+abbrev pub stagePart : Step → ℕ
+stagePart Count = 1
+stagePart (Look k) = 2
+stagePart (Remove k st) = 3
+stagePart (Create i) = 4
+stagePart (Store i) = 5
+stagePart (Read i) = 6
+stagePart (Lock i) = 7
 
 abbrev pub fieldPart : Step → ℕ
 fieldPart Count = 0
@@ -54,9 +54,9 @@ numberPart Differs = 0
 
 -- the five low bytes: stage, field, status, why, number
 abbrev pub standingBytes : Standing → List ℕ
-standingBytes (At st) = stageOf st ∷ fieldPart st ∷ statusPart st ∷ 0 ∷ 0 ∷ []
+standingBytes (At st) = stagePart st ∷ fieldPart st ∷ statusPart st ∷ 0 ∷ 0 ∷ []
 standingBytes Done = 8 ∷ 0 ∷ 0 ∷ 0 ∷ 0 ∷ []
-standingBytes (Failed st w) = stageOf st ∷ fieldPart st ∷ statusPart st ∷ whyOf w ∷ numberPart w ∷ []
+standingBytes (Failed st w) = stagePart st ∷ fieldPart st ∷ statusPart st ∷ whyOf w ∷ numberPart w ∷ []
 
 -- .. and two more: the fields that were present, the address
 unfoldable pub runNumber : Programmer → ℕ

@@ -2,7 +2,7 @@
 ghost use mathlib.Core.Path.{_≡_};
 ghost use Prim.Native.Nat.{_+_, _*_, _<_};
 ghost use Rattle.programmer.specs.Wishes.{checkedTape};
-ghost use Rattle.handheld.specs.Entries.{refusalNumber, tapeNumber, givenBy};
+ghost use Rattle.handheld.specs.Entries.{refusedWith, tapeNumber, givenBy};
 use crate::number::run_in;
 use crate::number::run_number;
 use programmer::Checked;
@@ -20,7 +20,7 @@ pub enum Given {
 // A refusal with the place of a record in its high 32 bits.
 pub(crate) fn placed(at: usize, refusal: u64) -> u64
     requires { ⌜ (at < 0x100000000) × (refusal < 8) ⌝ }
-    ensures { λ r. ⌜ r ≡ at * 0x100000000 + refusalNumber refusal ⌝ }
+    ensures { λ r. ⌜ r ≡ at * 0x100000000 + refusedWith refusal ⌝ }
 {
     at as u64 * 0x100000000 + (REFUSED + refusal)
 }

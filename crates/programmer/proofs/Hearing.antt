@@ -62,7 +62,7 @@ module _ (l : Wish) (st : Step) where
 
 -- a run that is over
 module _ (n : ℕ) (l : Wish) where
-  pub asks-over : (x : Standing) (buffer : List ℕ) → OneOf (1 ∷ 2 ∷ []) (tagOf the-type x) → _≡_ {A = meaning.Written} (record { refusal = 0; count = 0; buffer = buffer }) (asks n l x buffer)
+  pub asks-over : (x : Standing) (buffer : List ℕ) → OneOf (1 ∷ 2 ∷ []) (tagOf the-type x) → _≡_ {A = meaning.Written} (record { refusal = 6; count = 0; buffer = buffer }) (asks n l x buffer)
   unfolding asks
   asks-over (At st) buffer k = absurd (miss (1 ∷ 2 ∷ []) 0 tt k)
   asks-over Done buffer k = refl

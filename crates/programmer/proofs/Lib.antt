@@ -7,3 +7,5 @@ pub mod Whole
 pub mod Replies
 pub mod ReadBack
 pub mod Allowed
+pub mod Worked
+pub mod Tight

@@ -47,18 +47,18 @@ lengthWritten (written.Request n) = n
 lengthWritten written.R4 = 0
 lengthWritten written.R5 = 0
 
--- by the paper's numbers, with the buffer as it is afterwards; where nothing is due nothing is written and nothing refused
+-- by the paper's numbers, with the buffer as it is afterwards; 6 where nothing is due any more, which the paper does not number
 abbrev pub askedOf : Asked → List ℕ → meaning.Written
 askedOf (asked.Request n) buffer = record { refusal = 0; count = n; buffer = buffer }
-askedOf asked.Over buffer = record { refusal = 0; count = 0; buffer = buffer }
+askedOf asked.Over buffer = record { refusal = 6; count = 0; buffer = buffer }
 askedOf asked.R4 buffer = record { refusal = 4; count = 0; buffer = buffer }
 askedOf asked.R5 buffer = record { refusal = 5; count = 0; buffer = buffer }
 
--- the request that is due is written (meaning, `writes`: R4 before R5)
+-- the request that is due is written (meaning, `writes`: R4 before R5); where none is, nothing is
 unfoldable pub asks : ℕ → Wish → Standing → List ℕ → meaning.Written
 asks n l (At st) buffer = writes n ((due l st) .command) ((due l st) .body) buffer
-asks n l Done buffer = record { refusal = 0; count = 0; buffer = buffer }
-asks n l (Failed st w) buffer = record { refusal = 0; count = 0; buffer = buffer }
+asks n l Done buffer = record { refusal = 6; count = 0; buffer = buffer }
+asks n l (Failed st w) buffer = record { refusal = 6; count = 0; buffer = buffer }
 
 -- the reply is taken; as many fields were present as were ever still there
 unfoldable pub hears : Wish → Programmer → List ℕ → Programmer

@@ -68,7 +68,9 @@ fn read_back(tape: &[u8], field: u8, answer: &[u8]) -> Standing
     let piece = wanted(tape, field);
     let start = piece.start;
     let end = start + piece.count;
-    if !wire::same(past_three(answer), &tape[start..end]) {
+    let read = past_three(answer);
+    let stored = &tape[start..end];
+    if !wire::same(read, stored) {
         return Standing::Failed(Step::Read { field }, Why::Differs);
     }
     locking(tape, field)

@@ -4,3 +4,4 @@ pub mod Answers
 pub mod Kept
 pub mod Programming
 pub mod Calls
+pub mod Worked

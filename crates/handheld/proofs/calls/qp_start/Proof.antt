@@ -41,13 +41,25 @@ add-result : tie.Need-add-result
 add-result c = search needs
 
 returns : tie.Need-returns
-returns c = starts-as (c .before .before .before .before .before .before .args .address) (checkedTape (c .before .before .before .before .before .before .args .tape .now)) _ (started.Ready (c .before .before .run .given .0 .0)) _ (c .before .before .before .before .start .ensures) (c .before .before .run .given .1) (c .run-number .ensures)
+returns c =
+    let known = c .before .before in
+    let at-match = known .before .before in
+    let a = at-match .before .before .args in
+    starts-as (a .address) (checkedTape (a .tape .now)) _ (started.Ready (known .run .given .0 .0)) _ (at-match .start .ensures) (known .run .given .1) (c .run-number .ensures)
 
 returns-2 : tie.Need-returns-2
-returns-2 c = starts-as (c .before .before .before .before .before .before .args .address) (checkedTape (c .before .before .before .before .before .before .args .tape .now)) _ (started.BadRecord (c .before .before .at .given .0 .0)) _ (c .before .before .before .before .start .ensures) (c .before .before .at .given .1) (c .placed .ensures)
+returns-2 c =
+    let known = c .before .before in
+    let at-match = known .before .before in
+    let a = at-match .before .before .args in
+    starts-as (a .address) (checkedTape (a .tape .now)) _ (started.BadRecord (known .at .given .0 .0)) _ (at-match .start .ensures) (known .at .given .1) (c .placed .ensures)
 
 returns-3 : tie.Need-returns-3
-returns-3 c = starts-as (c .before .before .before .before .before .before .args .address) (checkedTape (c .before .before .before .before .before .before .args .tape .now)) _ (started.WrongSize (c .before .before .at2 .given .0 .0)) _ (c .before .before .before .before .start .ensures) (c .before .before .at2 .given .1) (c .placed2 .ensures)
+returns-3 c =
+    let known = c .before .before in
+    let at-match = known .before .before in
+    let a = at-match .before .before .args in
+    starts-as (a .address) (checkedTape (a .tape .now)) _ (started.WrongSize (known .at2 .given .0 .0)) _ (at-match .start .ensures) (known .at2 .given .1) (c .placed2 .ensures)
 
 returns-4 : tie.Need-returns-4
 returns-4 c = starts-as (c .before .before .before .before .args .address) (checkedTape (c .before .before .before .before .args .tape .now)) _ started.R5 _ (c .before .before .start .ensures) (c .enum-told .given .1) refl

@@ -36,10 +36,16 @@ add-t9 : tie.Need-add-t9
 add-t9 c = search needs
 
 returns-3 : tie.Need-returns-3
-returns-3 c = given-impossible _ _ _ (c .before .before .before .before .before .before .tape-number .ensures) (c .before .before .before .before .before .if1 .left) _ (c .before .before .before .before .run-in .ensures) _ (c .before .before .before .run-number .ensures) (c .before .before .if2 .left) _ (c .before .is-possible .ensures) (not-true _ (c .if3 .taken))
+returns-3 c =
+    let numbered = c .before .before .before in
+    let read = numbered .before in
+    given-impossible _ _ _ (read .before .before .tape-number .ensures) (read .before .if1 .left) _ (read .run-in .ensures) _ (numbered .run-number .ensures) (c .before .before .if2 .left) _ (c .before .is-possible .ensures) (not-true _ (c .if3 .taken))
 
 returns-4 : tie.Need-returns-4
-returns-4 c = given-run _ _ _ (c .before .before .before .before .before .before .tape-number .ensures) (c .before .before .before .before .before .if1 .left) _ (c .before .before .before .before .run-in .ensures) _ (c .before .before .before .run-number .ensures) (c .before .before .if2 .left) _ (c .before .is-possible .ensures) (not-false _ (c .if3 .left))
+returns-4 c =
+    let numbered = c .before .before .before in
+    let read = numbered .before in
+    given-run _ _ _ (read .before .before .tape-number .ensures) (read .before .if1 .left) _ (read .run-in .ensures) _ (numbered .run-number .ensures) (c .before .before .if2 .left) _ (c .before .is-possible .ensures) (not-false _ (c .if3 .left))
 
 pub taken-spec : {M : Type 1} → statement M
 taken-spec =

@@ -21,14 +21,14 @@ add-end c = search needs
 past-three-requires : tie.Need-past-three-requires
 past-three-requires c κs = search needs
 
-sub-same : tie.Need-sub-same
-sub-same c = search needs
+sub-stored : tie.Need-sub-stored
+sub-stored c = search needs
 
-part-same-start : tie.Need-part-same-start
-part-same-start c = search needs
+part-stored-start : tie.Need-part-stored-start
+part-stored-start c = search needs
 
-part-same-end : tie.Need-part-same-end
-part-same-end c = search needs
+part-stored-end : tie.Need-part-stored-end
+part-stored-end c = search needs
 
 same-requires : tie.Need-same-requires
 same-requires c κs = search needs
@@ -49,9 +49,9 @@ read-back-spec =
     wanted-requires
     add-end
     past-three-requires
-    sub-same
-    part-same-start
-    part-same-end
+    sub-stored
+    part-stored-start
+    part-stored-end
     same-requires
     returns
     locking-requires
