@@ -1,6 +1,7 @@
 //! The C entry points of host/quicksetter.h as safe functions on slices, and the image as the second program's plate and state.
 
 pub mod dice;
+pub mod programmer;
 
 use second::{Heard, Label, Plate, Refusal, Remaining, State, Verdict, LABEL_LENGTH};
 

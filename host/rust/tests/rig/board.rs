@@ -338,6 +338,29 @@ impl Board {
         let length = self.step(Call::Poll { tick }).expect("not refused");
         self.room[..length].to_vec()
     }
+
+    /// Sends a whole request as demand 2 has it, with any gaps below the pause and polls that come too early: the reply.
+    pub fn send(&mut self, dice: &mut Dice, request: &[u8]) -> Vec<u8> {
+        for &value in request {
+            let gap = self.inner_gap(dice);
+            let tick = self.after(gap);
+            let made = Call::Character {
+                tick,
+                value,
+                parity: 0,
+            };
+            assert_eq!(self.step(made), Ok(0));
+        }
+        if dice.once_in(4) {
+            for made in self.early_polls(dice) {
+                assert_eq!(self.step(made), Ok(0));
+            }
+        }
+        let gap = self.outer_gap(dice);
+        let tick = self.after(gap);
+        let length = self.step(Call::Poll { tick }).expect("not refused");
+        self.room[..length].to_vec()
+    }
 }
 
 /// A label, seldom the one of a tape, which is all zero.

@@ -1,8 +1,12 @@
-//! Requests as a drive would send them, now and then damaged; used by the tests of board and bench.
+//! Requests as a drive would send them, now and then damaged; and what the tests of board, bench and programmer share.
 
 #![allow(dead_code)]
 
 pub mod board;
+pub mod foreign;
+pub mod label;
+pub mod programmers;
+pub mod shop;
 
 use quicksetter_host::dice::Dice;
 use second::Plate;
