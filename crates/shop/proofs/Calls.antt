@@ -73,7 +73,7 @@ module _ (p : board.Plate) (s : board.State) (m d : List ℕ) where
   stays-state c (accept r s′ m′) h = h
   stays-state c (quiet s′ m′) h = h
 
-due-stays : (p : board.Plate) (s : board.State) (m : List ℕ) (l : Wish) (st : Step) → (meant p s m ((due l st) .command) ((due l st) .body)) .state ≡ s
+pub due-stays : (p : board.Plate) (s : board.State) (m : List ℕ) (l : Wish) (st : Step) → (meant p s m ((due l st) .command) ((due l st) .body)) .state ≡ s
 unfolding meant due commandOf
 due-stays p s m l Count = stays-state p s m ((due l Count) .body) _ _ (stays-4E p s m ((due l Count) .body))
 due-stays p s m l (Look k) = stays-state p s m ((due l (Look k)) .body) _ _ (stays-4C p s m ((due l (Look k)) .body))

@@ -5,3 +5,4 @@ pub mod Kept
 pub mod Programming
 pub mod Calls
 pub mod Worked
+pub mod Exchanges
