@@ -1,5 +1,5 @@
 -- A host that hands on what the calls return runs as the programmer does. Assumes nothing.
-use Prim.Native.Nat.{ℕ, suc, _+_, _-_, _≤_, _<_}
+use Prim.Native.Nat.{ℕ, _+_, _-_, _*_, _≤_, _<_}
 use mathlib.Core.Path.{_≡_, refl, sym, ap, _∙_}
 use mathlib.Core.Bool.{Bool, true, false, not}
 use mathlib.Core.List.{List, [], _∷_}
@@ -26,15 +26,15 @@ use Rattle.programmer.specs.declared.step.Step.the-variants.{Count, Look, Remov
 use Rattle.programmer.specs.declared.step.Why.the-variants.{Judgement, Error, Differs}
 use Rattle.programmer.specs.declared.step.Standing.{Standing}
 use Rattle.programmer.specs.declared.step.Standing.the-variants.{At, Done, Failed}
-use Rattle.programmer.specs.declared.wish.Checked.the-variants.{Good}
+use Rattle.programmer.specs.declared.wish.Checked.the-variants.{Good, BadRecord, WrongSize}
 use Rattle.programmer.proofs.Allowed.{due-allowed}
-use Rattle.programmer.proofs.Counting.{few-present}
+use Rattle.programmer.proofs.Counting.{few-present, progress-few}
 use Rattle.programmer.proofs.Replies.{data-byte, Few, few-checks, same-address, stands-after, stays-possible}
 use Rattle.programmer.proofs.Whole.{good-is-whole}
-use Rattle.handheld.specs.Numbers.{fieldPart, statusPart, numberPart, runNumber, runIn}
-use Rattle.handheld.specs.Entries.{requestOf, givenBy, heardBy, handedOn, Hosted, QpRuns, QpWrites}
+use Rattle.handheld.specs.Numbers.{fieldPart, statusPart, numberPart, standingBytes, runNumber, runIn}
+use Rattle.handheld.specs.Entries.{requestOf, givenBy, heardBy, handedOn, bit31, Hosted, QpRuns, QpWrites, QpToldApart, QpRefusals}
 use Rattle.handheld.specs.declared.given.Given.the-variants as given
-use Rattle.handheld.proofs.Numbers.{SmallStep, Small, run-back, is-run}
+use Rattle.handheld.proofs.Numbers.{Small, five-small, as-seven, run-back, is-run}
 
 -- ---- statuses and codes that replies told are bytes
 
@@ -179,3 +179,40 @@ qp-writes t x buffer good could long = go (x .standing) (can-stand (wishOf t) x 
         rw (le-ltb (length buffer) 135 long, told-true (addressOk (x .address)) right, told-true (allowed (commandOf c) d) may) (writes-well (x .address) c d right may .1)
     go Done h = omega arith
     go (Failed st w) h = omega arith
+
+-- ---- refusals told apart
+
+few-whys : (y : Standing) → arg (standingBytes y) 3 ≤ 3
+few-whys (At st) = omega arith
+few-whys Done = omega arith
+few-whys (Failed st (Judgement k)) = omega arith
+few-whys (Failed st (Error e)) = omega arith
+few-whys (Failed st Differs) = omega arith
+
+unrefused : (a b c d r : ℕ) → a < 256 → b < 256 → c < 256 → d ≤ 3 → bit31 (a + 256 * (b + 256 * (c + 256 * (d + 256 * r)))) ≡ 0
+unrefused a b c d r ha hb hc hd = omega arith
+
+run-unrefused : (x : Programmer) (h : Small (x .standing)) (few : x .present < 256) (near : x .address < 256) → bit31 (runNumber x) ≡ 0
+run-unrefused x h few near =
+    let y = x .standing in
+    let s = five-small y h in
+    rw (as-seven x h few near) (unrefused (arg (standingBytes y) 0) (arg (standingBytes y) 1) (arg (standingBytes y) 2) (arg (standingBytes y) 3) _ (s .s0) (s .s1) (s .s2) (few-whys y))
+
+pub qp-told-apart : QpToldApart
+qp-told-apart n t rs good ok B =
+    let l = wishOf t in
+    let x = afterReplies n l rs in
+    let H = qp-runs n t rs good ok B in
+    let could = stays-possible n l rs ok B in
+    let few = few-present l x could in
+    let y = small l (x .present) few (good-is-whole t good .few) (x .standing) (can-stand l x could) (all-told l n rs B) in
+    let f = progress-few l x (good-is-whole t good .few) few in
+    record {
+      run = rw (H .number) (run-unrefused x y (omega (arith, few)) (address-low (x .address) (right-address l x could)));
+      progress = rw (H .taken) (omega (arith, f .0, f .1));
+    }
+
+pub qp-refusals : QpRefusals
+qp-refusals Good e = absurd (e refl)
+qp-refusals (BadRecord at) e = omega arith
+qp-refusals (WrongSize at) e = omega arith

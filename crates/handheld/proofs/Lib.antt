@@ -2,3 +2,4 @@
 pub mod Taking
 pub mod Numbers
 pub mod Hosting
+pub mod Worked

@@ -137,7 +137,7 @@ pub record FiveSmall (y : Standing) : Type 0 where
   pub s3 : byte y 3 < 256
   pub s4 : byte y 4 < 256
 
-five-small : (y : Standing) → Small y → FiveSmall y
+pub five-small : (y : Standing) → Small y → FiveSmall y
 five-small (At st) h = record { s0 = small-stage st; s1 = h .0; s2 = h .1; s3 = omega arith; s4 = omega arith }
 five-small Done h = record { s0 = omega arith; s1 = omega arith; s2 = omega arith; s3 = omega arith; s4 = omega arith }
 five-small (Failed st w) h = record { s0 = small-stage st; s1 = h .0 .0; s2 = h .0 .1; s3 = small-why w; s4 = h .1 }
@@ -152,7 +152,7 @@ module _ (x : Programmer) (h : Small (x .standing)) (few : x .present < 256) (ne
   abbrev y : Standing
   y = x .standing
 
-  as-seven : runNumber x ≡ byte y 0 + 256 * (byte y 1 + 256 * (byte y 2 + 256 * (byte y 3 + 256 * (byte y 4 + 256 * (x .present + 256 * x .address)))))
+  pub as-seven : runNumber x ≡ byte y 0 + 256 * (byte y 1 + 256 * (byte y 2 + 256 * (byte y 3 + 256 * (byte y 4 + 256 * (x .present + 256 * x .address)))))
   unfolding runNumber
   as-seven = omega (arith, five-number y)
 

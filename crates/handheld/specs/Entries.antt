@@ -1,5 +1,5 @@
 -- What a call from C returns and leaves (host/programmer.h). Assumes nothing.
-use Prim.Native.Nat.{ℕ, _+_, _*_, _≤_}
+use Prim.Native.Nat.{ℕ, _+_, _*_, _/_, _%_, _≤_}
 use mathlib.Core.Path.{_≡_}
 use mathlib.Core.List.{List, [], _∷_}
 use lib.Dec.{T, eqb, ltb}
@@ -91,3 +91,17 @@ QpRuns = (n : ℕ) (t : List ℕ) (rs : List (List ℕ)) → checkedTape t ≡ G
 abbrev pub QpWrites : Type 0
 QpWrites = (t : List ℕ) (x : Programmer) (buffer : List ℕ) → checkedTape t ≡ Good → T (isPossible (wishOf t) x) → longestRequest ≤ length buffer
     → (requestOf (asks (x .address) (wishOf t) (x .standing) buffer)) .number ≤ longestRequest
+
+abbrev pub bit31 : ℕ → ℕ  -- QP_IS_REFUSED of host/programmer.h
+bit31 r = r / 0x80000000 % 2
+
+-- a host tells a refusal by bit 31: each refusal has it, and no run that was taken, request's length or progress has
+pub record ToldApart (t : List ℕ) (rs : List (List ℕ)) (n : ℕ) : Type 0 where
+  pub run : bit31 (handedOn n t rs) ≡ 0
+  pub progress : bit31 (progressBy (givenBy t (handedOn n t rs)) (wishOf t)) ≡ 0
+
+abbrev pub QpToldApart : Type 0
+QpToldApart = (n : ℕ) (t : List ℕ) (rs : List (List ℕ)) → checkedTape t ≡ Good → T (addressOk n) → AllBytes rs → ToldApart t rs n
+
+abbrev pub QpRefusals : Type 0
+QpRefusals = (c : Checked) → (c ≡ Good → ⊥) → bit31 (tapeNumber c) ≡ 1

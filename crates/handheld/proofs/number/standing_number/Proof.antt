@@ -62,11 +62,14 @@ returns-2 : tie.Need-returns-2
 returns-2 c = (c .five2 .ensures .0 ∙ rw (c .before .enum-told .given .1), c .five2 .ensures .1)
 
 returns-3 : tie.Need-returns-3
-returns-3 c = (
-  c .five3 .ensures .0
-      ∙ rw (c .before .before .before .before .before .before .before .standing2 .given .1, c .before .before .before .before .before .stage-of2 .ensures, c .before .before .before .before .field-part2 .ensures, c .before .before .before .status-part2 .ensures, c .before .before .why-of .ensures, c .before .number-part .ensures),
-  c .five3 .ensures .1,
-)
+returns-3 c =
+    let status = c .before .before .before in
+    let stage = status .before .before in
+    let whys = c .before .before in (
+      c .five3 .ensures .0
+          ∙ rw (stage .before .before .standing2 .given .1, stage .stage-of2 .ensures, status .before .field-part2 .ensures, status .status-part2 .ensures, whys .why-of .ensures, c .before .number-part .ensures),
+      c .five3 .ensures .1,
+    )
 
 pub standing-number-spec : {M : Type 1} → statement M
 standing-number-spec =
