@@ -371,13 +371,19 @@ static void test_damaged_tapes(void) {
     }
 }
 
-/* Kinds, statuses and sizes that are right but for one throw in some. */
+/* Kinds, statuses and sizes that are right but for one throw in some. One throw to a line: C does not say in which order those of one line come. */
 static void put_thrown_record(bool first) {
-    uint8_t body[2 * LARGEST_FIELD], status = (uint8_t)(once_in(40) ? dice() : dice() | QS_STATUS_EXISTS);
-    unsigned size = first ? 4 : 1 + size_of(status), kind = first ? 0x20 : 0x21;
+    uint8_t body[2 * LARGEST_FIELD];
     memset(body, (int)below(256), sizeof body);
-    body[0] = status;
-    put_record(once_in(50) ? (unsigned)dice() & 0xFFFF : once_in(50) ? kind ^ 1 : kind, body, once_in(30) ? below(sizeof body) : size);
+    body[0] = (uint8_t)dice();
+    if (!once_in(40))
+        body[0] |= QS_STATUS_EXISTS;
+    unsigned size = first ? 4 : 1 + size_of(body[0]), kind = first ? 0x20 : 0x21;
+    if (once_in(50))
+        kind ^= 1u << below(16);
+    if (once_in(30))
+        size = below(sizeof body);
+    put_record(kind, body, size);
 }
 
 static void test_thrown_tapes(void) {
@@ -838,12 +844,22 @@ static void throw_statuses(unsigned blocks, char *said) {
     }
 }
 
+static struct plate thrown_plate(void) {
+    struct plate plate;
+    plate.total = once_in(4) ? LARGEST_TOTAL : 1 + below(LARGEST_TOTAL);
+    plate.bits = 1 + below(32);
+    plate.address = below(32);
+    plate.ticks = 1u << below(7);
+    plate.pause = once_in(2) ? 22 : 55;
+    return plate;
+}
+
 /* Any board of ours with any sound memory, any codes and any wish that fits, locked or not, whatever waits. */
 static void test_thrown_runs(void) {
     enum { ROUNDS = 400 };
     for (unsigned long i = 0; i < ROUNDS; i++) {
         char present[3 * LARGEST_TOTAL + 1], wanted[3 * LARGEST_TOTAL + 1];
-        struct plate plate = {once_in(4) ? 112 : 1 + below(112), 1 + below(32), below(32), 1u << below(7), once_in(2) ? 22 : 55};
+        struct plate plate = thrown_plate();
         throw_statuses(plate.total, present);
         throw_statuses(plate.total, wanted);
         want(wanted);
@@ -1287,14 +1303,23 @@ static void test_near_numbers(void) {
     }
 }
 
+/* Numbers of which some are runs: a limit for each byte, and now and then a 0. */
+static uint64_t thrown_number(void) {
+    static const uint32_t ends[] = {10, 64, 256, 4, 8, 64, 34};
+    uint64_t run = 0;
+    for (unsigned place = 0; place < COUNT(ends); place++) {
+        uint64_t byte = below(ends[place]);
+        run |= once_in(3) ? 0 : byte << 8 * place;
+    }
+    return run;
+}
+
 static void test_thrown_numbers(void) {
-    enum { ROUNDS = 20000 };
+    enum { ROUNDS = 40000 };
     want("98 F1 C0*40");
     for (unsigned long i = 0; i < ROUNDS; i++) {
-        uint64_t run = RUN(below(34), below(64), once_in(2) ? 0 : below(8), below(4), once_in(2) ? 0 : below(256), below(64), below(10));
+        uint64_t run = i % 8 == 0 ? dice() : thrown_number();
         is_taken_as_run(run, is_run(run), "a thrown number", i);
-        run = dice();
-        is_taken_as_run(run, is_run(run), "any number", i);
     }
 }
 
