@@ -3,13 +3,14 @@
 
 ANSWER = target/here/answer
 ARCHIVE = target/here/libquicksetter.a
+HANDHELD = target/here/libhandheld.a
 SHARED = target/libquicksetter.so
 LIB = target/lib
 
 help:
 	@echo 'make demo    a first session at the bench: the pallet night, run and told in words'
 	@echo 'make test    the whole gate: layout, proofs, must-fail edits, programs, tapes, C and Rust hosts, tools'
-	@echo 'make lib     the library for a C host, with header and example, in $(LIB)'
+	@echo 'make lib     the libraries for a C host, board and programmer, with headers and examples, in $(LIB)'
 	@echo 'make bench   measures, and writes docs/PERFORMANCE.md'
 	@echo 'make clean   removes target/'
 	@echo 'make $(ANSWER)'
@@ -34,16 +35,19 @@ $(ARCHIVE): crates.txt $(shell find crates -name '*.rt' -o -name '*.antt' -o -ty
 	bash tools/here.sh library
 	@touch $@
 
-$(SHARED): $(ARCHIVE)
+# The same run makes these.
+$(HANDHELD) $(SHARED): $(ARCHIVE)
 	@test -e $@ || bash tools/here.sh library
 	@touch $@
 
-lib: $(ARCHIVE)
+lib: $(ARCHIVE) $(HANDHELD)
 	@mkdir -p $(LIB)/include
-	@cp host/quicksetter.h $(LIB)/include/
-	@cp $(ARCHIVE) host/example.c $(LIB)/
+	@cp host/quicksetter.h host/programmer.h $(LIB)/include/
+	@cp $(ARCHIVE) $(HANDHELD) host/example.c host/program.c $(LIB)/
 	@echo 'gcc -std=c11 -O2 -I include example.c -L . -lquicksetter -o example' >$(LIB)/README
-	@echo 'In $(LIB): include/quicksetter.h, libquicksetter.a, example.c; README has the line that compiles the example.'
+	@echo 'gcc -std=c11 -O2 -I include program.c -L . -lhandheld -lquicksetter -o program' >>$(LIB)/README
+	@echo 'In $(LIB), of the board: include/quicksetter.h, libquicksetter.a, example.c;'
+	@echo 'of the handheld programmer: include/programmer.h, libhandheld.a, program.c. README has the line that compiles each example.'
 
 test:
 	bash .ci/run

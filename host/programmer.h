@@ -33,7 +33,7 @@
  *   - no other master changes the board's fields or codes meanwhile;
  *   - when a run failed or the host was switched off, a new one starts with qp_start: it deletes what the broken run left.
  * Duties towards the library: as for host/quicksetter.h. No pointer is null, each has as many bytes behind it as the length beside it says, and buffer does not
- * overlap the tape. The library keeps nothing, allocates nothing, always returns and calls nothing of the host's.
+ * overlap the tape. The library keeps nothing, allocates nothing, always returns and calls nothing of the host's; of the C library it needs memcpy.
  *
  * Refusals. A call refuses in the order of the numbers below, and then it has done nothing: the buffer is as it was, and the run that was handed in still holds. */
 #ifndef QUICKSETTER_PROGRAMMER_H
@@ -56,9 +56,10 @@ extern "C" {
 #define QP_REFUSED 0x80000000u
 #define QP_IS_REFUSED(result) (((result)&QP_REFUSED) != 0) /* of every call's result */
 #define QP_REFUSAL(result) ((uint32_t)(result))            /* which of these: */
-#define QP_BAD_RECORD (QP_REFUSED + 1) /* the record at QP_PLACE is cut short, of an unknown kind, no 0020h though first, a second 0020h, has no bit 7, or is a 257th field */
+#define QP_BAD_RECORD (QP_REFUSED + 1) /* the record at QP_PLACE is cut short, of an unknown kind, not the four codes though first, or codes again, or it is a field
+                                          whose status is missing or has bit 7 clear, or a 257th field. An empty tape is bad at place 0 */
 #define QP_WRONG_SIZE (QP_REFUSED + 2) /* no record is bad, and the field at QP_PLACE has not exactly its bytes */
-#define QP_NO_RUN (QP_REFUSED + 3)     /* the number is none that qp_start or qp_heard returned for this tape */
+#define QP_NO_RUN (QP_REFUSED + 3)     /* the number is none that a run of this tape can have */
 #define QP_R4 (QP_REFUSED + 4)         /* buffer under QP_REQUEST_BUFFER bytes, needed or not */
 #define QP_R5 (QP_REFUSED + 5)         /* an address neither 0 to 31 nor QP_BROADCAST */
 #define QP_PLACE(result) ((uint32_t)((uint64_t)(result) >> 32)) /* of QP_BAD_RECORD and QP_WRONG_SIZE: where the record's length stands, counted from 0 */

@@ -1,9 +1,9 @@
 #!/usr/bin/env bash
 # here.sh answer | library: what the kit builds is for x86-64; this makes it usable on the machine at hand, in target/here. gcc, cargo and python3 take it from there.
 #   answer     the answer program itself; on another processor the kit's emulator with it
-#   library    libquicksetter.a itself; on another processor its own module, compiled once more by the kit's clang. And target/libquicksetter.so of it, which
-#              explain.py has its judge from
-# The module is the archive's own: compiled for x86-64 it must give the archive's object, byte for byte. What it is changed in, target lines and one line of
+#   library    libquicksetter.a and libhandheld.a themselves; on another processor the module of each, compiled once more by the kit's clang. And
+#              target/libquicksetter.so of the first, which explain.py has its judge from
+# A module is its archive's own: compiled for x86-64 it must give the archive's object, byte for byte. What it is changed in, target lines and one line of
 # attributes, must be as expected. Beyond that the back end for this processor is to be believed.
 set -euo pipefail
 cd "$(dirname "$0")/.."
@@ -39,7 +39,7 @@ kit_that_keeps() {
     chmod +x "$tools/bin/clang"
 }
 
-expect() { [ "$(grep -cE "$2" "$work/module.ll")" = "$1" ] || fail "the module is not as expected: not $1 lines match $2"; }
+expect() { [ "$(grep -cE "$2" "$folder/module.ll")" = "$1" ] || fail "the module of $name is not as expected: not $1 lines match $2"; }
 
 # As rattle calls clang, for this target and with these words.
 compile() {
@@ -47,17 +47,16 @@ compile() {
         -c -x ir "$2" -o "$3" "${@:4}"
 }
 
-# Proves the library, and compiles its module for this machine.
+# Proves a library, and compiles its module for this machine.
 compiled_here() {
-    local clang=$own/toolchain/bin/clang triple
-    work=$(mktemp -d)
-    trap 'rm -rf "$work"' EXIT
-    kit_that_keeps "$work/kit" "$work/module.bc"
-    RATTLE_HOME=$work/kit rt staticlib quicksetter
-    "$clang" --target=$built_for --no-default-config -S -emit-llvm -Xclang -disable-llvm-passes -x ir "$work/module.bc" -o "$work/module.ll"
-    compile $built_for "$work/module.ll" "$work/again.o" -march=x86-64
-    "$own/toolchain/bin/llvm-ar" p target/staticlib/libquicksetter.a >"$work/archived.o"
-    cmp "$work/archived.o" "$work/again.o" || fail "the module does not give the archive's object"
+    local name=$1 folder=$work/$1 clang=$own/toolchain/bin/clang triple
+    mkdir "$folder"
+    kit_that_keeps "$folder/kit" "$folder/module.bc"
+    RATTLE_HOME=$folder/kit rt staticlib "$name"
+    "$clang" --target=$built_for --no-default-config -S -emit-llvm -Xclang -disable-llvm-passes -x ir "$folder/module.bc" -o "$folder/module.ll"
+    compile $built_for "$folder/module.ll" "$folder/again.o" -march=x86-64
+    "$own/toolchain/bin/llvm-ar" p "target/staticlib/lib$name.a" >"$folder/archived.o"
+    cmp "$folder/archived.o" "$folder/again.o" || fail "the module of $name does not give the archive's object"
     expect 2 '^target '
     expect 1 '^attributes #0 = \{ nounwind "probe-stack"="inline-asm" "target-cpu"="x86-64" \}$'
     expect 1 '^attributes .*(target-|probe-)'
@@ -65,21 +64,29 @@ compiled_here() {
     triple=$(gcc -dumpmachine)
     {
         "$clang" --target="$triple" --no-default-config -S -emit-llvm -x c /dev/null -o - | grep '^target '
-        sed -e '/^target /d' -e 's/^attributes #0 = .*/attributes #0 = { nounwind }/' "$work/module.ll"
-    } >"$work/here.ll"
-    compile "$triple" "$work/here.ll" "$work/quicksetter.o"
-    rm -f "$here/libquicksetter.a"
-    "$own/toolchain/bin/llvm-ar" rcsD "$here/libquicksetter.a" "$work/quicksetter.o"
-    echo "here.sh: this machine is $machine: the module of the proved archive, compiled for $triple, stands in its place"
+        sed -e '/^target /d' -e 's/^attributes #0 = .*/attributes #0 = { nounwind }/' "$folder/module.ll"
+    } >"$folder/here.ll"
+    compile "$triple" "$folder/here.ll" "$folder/$name.o"
+    rm -f "$here/lib$name.a"
+    "$own/toolchain/bin/llvm-ar" rcsD "$here/lib$name.a" "$folder/$name.o"
+    echo "here.sh: this machine is $machine: the module of the proved lib$name.a, compiled for $triple, stands in its place"
+}
+
+# Proves a library, and puts what is used of it on this machine into target/here.
+proved() {
+    if [ "$machine" = x86_64 ]; then
+        rt staticlib "$1"
+        ln -sf "../staticlib/lib$1.a" "$here/lib$1.a"
+    else
+        compiled_here "$1"
+    fi
 }
 
 library() {
-    if [ "$machine" = x86_64 ]; then
-        rt staticlib quicksetter
-        ln -sf ../staticlib/libquicksetter.a "$here/libquicksetter.a"
-    else
-        compiled_here
-    fi
+    work=$(mktemp -d)
+    trap 'rm -rf "$work"' EXIT
+    proved quicksetter
+    proved handheld
     gcc -shared -Wl,--whole-archive "$here/libquicksetter.a" -Wl,--no-whole-archive -o target/libquicksetter.so
 }
 
