@@ -1,12 +1,13 @@
 -- A run of exchanges is a run over requests. Assumes nothing.
 use Prim.Native.Nat.{ℕ, zero, suc, _≤_}
 use mathlib.Core.Path.{_≡_, refl, sym, ap, _∙_, subst}
-use mathlib.Core.Bool.{Bool, true, false}
+use mathlib.Core.Bool.{Bool, true, false, false≢true}
 use mathlib.Core.List.{List, [], _∷_}
 use native.Mathlib.Omega.{arith}
 use lib.Dec.{T, eqb}
-use lib.ListN.{length}
-use Rattle.meaning.specs.Bytes.{pick, either}
+use lib.ListN.{length, take, drop}
+use lib.Seq.{take-append-seam}
+use Rattle.meaning.specs.Bytes.{pick, either, put}
 use Rattle.meaning.specs.State as board
 use Rattle.meaning.specs.State.{ownByte, withLine, plateOk, lastAddress}
 use Rattle.meaning.specs.Frames.{Outcome, still, resting}
@@ -14,7 +15,9 @@ use Rattle.meaning.specs.Bench.{addressFor}
 use Rattle.meaning.specs.Demands.{meant}
 use Rattle.meaning.proofs.Choices.{told-true}
 use Rattle.meaning.proofs.Plates.{whole-label}
-use Rattle.exchange.specs.Passing.{reached, answerTo}
+use Rattle.meaning.proofs.Puts.{put-front}
+use Rattle.board.specs.Board.{stateOf}
+use Rattle.exchange.specs.Passing.{Ended, refused, heard, endedOf, refusalFor, reached, answerTo, passed}
 use Rattle.programmer.specs.Wishes.{Wish, wishOf}
 use Rattle.programmer.specs.Steps.{due}
 use Rattle.programmer.specs.Running.{atFirst, hears}
@@ -23,7 +26,7 @@ use Rattle.programmer.specs.declared.step.Standing.the-variants.{At, Done, Fail
 use Rattle.programmer.proofs.Whole.{good-is-whole}
 use Rattle.shop.specs.Promises.{Talk, talked, talkedOn, Met, InForce, Programmed}
 use Rattle.shop.specs.Passages.{Scene, talkOf}
-use Rattle.shop.specs.Exchanges.{exchangedAt, exchangedOn, ProgramsByExchange}
+use Rattle.shop.specs.Exchanges.{exchangedAt, exchangedOn, ExchangeIsOne, ProgramsByExchange}
 use Rattle.shop.proofs.Programming.{programs}
 use Rattle.shop.proofs.Calls.{due-stays}
 
@@ -79,6 +82,43 @@ module _ (p : board.Plate) (n : ℕ) (l : Wish) where
   all-met : (k : ℕ) (x : Scene) → Kept x → InForce n l (states k x)
   all-met zero x K = tt
   all-met (suc k) x K = (K .met, all-met k (next x) (exchanges x (x .programmer .standing) refl K .kept))
+
+-- ---- one call of `exchange` is one of them
+
+wasHeard : Ended → Bool
+wasHeard (refused k) = false
+wasHeard (heard k j v) = true
+
+replyBytes : Ended → ℕ
+replyBytes (refused k) = 0
+replyBytes (heard k j v) = j
+
+front-again : (w bs : List ℕ) → take (length bs) (put w 0 bs) ≡ bs
+front-again w bs = rw (put-front w bs) (take-append-seam bs (drop (length bs) w))
+
+pub exchange-is-one : ExchangeIsOne
+unfolding exchangedAt passed wasHeard replyBytes
+exchange-is-one p b n l x st spacing q kept m w r q′ kept′ m′ w′ k j v P e = go (eqb (refusalFor p b n c d spacing q kept m w) 0) refl
+  where
+    c : ℕ
+    c = (due l st) .command
+
+    d : List ℕ
+    d = (due l st) .body
+
+    o : Outcome
+    o = answerTo p (resting (stateOf b kept)) m (addressFor n) c d
+
+    go : (t : Bool) → eqb (refusalFor p b n c d spacing q kept m w) 0 ≡ t
+        → _≡_ {A = Scene} (record { programmer = hears l x (take j w′); state = stateOf (r .board) kept′; memory = m′ }) (record { programmer = hears l x (o .reply); state = o .state; memory = o .memory })
+    go true f =
+        let y : replyBytes (endedOf (r .ended)) ≡ length (o .reply) = ap replyBytes (P .ended) ∙ rw f in
+        let z : j ≡ length (o .reply) = ap replyBytes (sym e) ∙ y in
+        let a : take j w′ ≡ o .reply = rw (z, P .room, f) (front-again w (o .reply)) in
+        rw (a, P .state, P .memory, f)
+    go false f =
+        let y : wasHeard (endedOf (r .ended)) ≡ false = ap wasHeard (P .ended) ∙ rw f in
+        absurd (false≢true (sym y ∙ ap wasHeard e))
 
 rests : (n : ℕ) (l : Wish) (s : board.State) → s .codes ≡ l .codes → s .address ≤ lastAddress → T (reached s (addressFor n)) → Met n l (resting s)
 unfolding resting withLine reached ownByte
