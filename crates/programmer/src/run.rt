@@ -126,8 +126,10 @@ impl Programmer {
         let len = length_written(ask(self.address, tape, step, &mut request));
         let asked = &request[..len];
         let verdict = bench::judge(asked, reply);
-        let answer = bench::data_of(asked, reply);
-        let next = on_verdict(tape, step, verdict, answer);
+        let piece = verdict.piece(reply.len());
+        let from = piece.from;
+        let end = from + piece.count;
+        let next = on_verdict(tape, step, verdict, &reply[from..end]);
         Programmer {
             address: self.address,
             present: larger(self.present, still_there(next)),

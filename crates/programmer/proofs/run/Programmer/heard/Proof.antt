@@ -1,10 +1,13 @@
 -- `programmer::run::Programmer::heard` meets its contract. Assumes nothing.
-use Prim.Native.Nat.{max}
+use native.Mathlib.Omega.{arith}
+use Prim.Native.Nat.{ℕ, max}
 use mathlib.Core.Path.{_≡_, refl, sym, ap, _∙_}
+use mathlib.Core.List.{List}
 use lib.ListN.{take}
 use lib.Seq.{length-take-le}
 use Rattle.meaning.specs.Bench.{judge}
 use Rattle.meaning.proofs.Pieces.{piece-is-data}
+use Rattle.bench.proofs.Verdicts.{handed-by, piece-within, cut-out}
 use Rattle.programmer.specs.Wishes.{wishOf}
 use Rattle.programmer.specs.Steps.{bytesDue}
 use Rattle.programmer.specs.declared.step.Standing.the-variants.{At}
@@ -14,7 +17,7 @@ use Rattle.programmer.proofs.run.Programmer.heard.Statement.{statement}
 use Rattle.programmer.proofs.run.Programmer.heard.Tie as tie
 use Rattle.programmer.proofs.run.Programmer.heard.Reads as reads
 use Rattle.programmer.proofs.run.Programmer.heard.Lts as lts
-use Rattle.bench.proofs.data_of.Reads as data-of-reads
+use Rattle.bench.proofs.reply.Verdict.piece.Reads as piece-reads
 use Rattle.bench.proofs.judge.Reads as judge-reads
 use Rattle.programmer.proofs.request.ask.Reads as ask-reads
 use Rattle.programmer.proofs.run.larger.Reads as larger-reads
@@ -23,6 +26,9 @@ use Rattle.programmer.proofs.run.still_there.Reads as still-there-reads
 use Rattle.programmer.proofs.turn.on_verdict.Reads as on-verdict-reads
 
 -- the request as it stands in the buffer
+abbrev asked-bytes : tie.After-length-written → List ℕ
+asked-bytes c = take (c .length-written .result) (c .before .before .ask .last .1 .1 .1 .0)
+
 sends-at : (c : tie.After-length-written)
     → let a = c .before .before .before .before .before .before .before .before .before .args in
     Sends (a .self .address) (wishOf (a .tape .now)) (c .before .before .before .before .before .standing .given .0 .0) (c .before .before .ask .result) (c .before .before .ask .last .1 .1 .1 .0)
@@ -52,8 +58,20 @@ slice-aggregate-asked c = sym (length-take-le _ _ (array-share-prefix-request (c
 judge-requires : tie.Need-judge-requires
 judge-requires c κs = search needs
 
-data-of-requires : tie.Need-data-of-requires
-data-of-requires c κs = search needs
+piece-requires : tie.Need-piece-requires
+piece-requires c κs = search needs
+
+add-end : tie.Need-add-end
+add-end c = record { fits = omega (arith, piece-within (asked-bytes (c .before .before .before .before)) (c .before .before .before .before .before .before .before .before .before .before .before .before .before .args .reply .now) (c .before .before .judge .result) (c .before .before .judge .ensures) (c .before .piece .result) (c .before .piece .ensures)) }
+
+sub-on-verdict : tie.Need-sub-on-verdict
+sub-on-verdict c = search needs
+
+part-on-verdict-start : tie.Need-part-on-verdict-start
+part-on-verdict-start c = search needs
+
+part-on-verdict-end : tie.Need-part-on-verdict-end
+part-on-verdict-end c = omega (arith, piece-within (asked-bytes (c .before .before .before .before)) (c .before .before .before .before .before .before .before .before .before .before .before .before .before .args .reply .now) (c .before .before .judge .result) (c .before .before .judge .ensures) (c .before .piece .result) (c .before .piece .ensures))
 
 on-verdict-requires : tie.Need-on-verdict-requires
 on-verdict-requires c κs = search needs
@@ -66,16 +84,19 @@ larger-requires c κs = search needs
 
 returns-2 : tie.Need-returns-2
 returns-2 c =
-    let after-judge = c .before .before .before in
-    let written = after-judge .before .before .before in
-    let a = c .before .before .before .before .before .before .before .before .before .before .before .before .before .before .before .args in
+    let verdict = c .before .before in
+    let judged = verdict .before .before .before .before in
+    let written = judged .before .before in
+    let a = c .before .before .before .before .before .before .before .before .before .before .before .before .before .before .before .before .before .args in
     let l = wishOf (a .tape .now) in
     let st = written .before .before .before .before .before .standing .given .0 .0 in
     let q = take (written .length-written .result) (written .before .before .ask .last .1 .1 .1 .0) in
     let e : q ≡ bytesDue (a .self .address) l (At st) = rw (written .length-written .ensures) (sends-at written .bytes) in
+    let cut = verdict .before .before .before .piece in
+    let h = handed-by q (a .reply .now) (judged .judge .result) (judged .judge .ensures) ∙ sym (cut .ensures) in
     hears-as l (a .self) (a .reply .now) _ _
-    (heard-at (a .self .address) l (a .self .standing) st (written .before .before .before .before .before .standing .given .1) q (a .reply .now) (c .before .before .on-verdict .result) e
-    (c .before .before .on-verdict .ensures (judge q (a .reply .now)) (after-judge .before .judge .ensures) (after-judge .data-of .ensures .0 ∙ piece-is-data q (a .reply .now))))
+    (heard-at (a .self .address) l (a .self .standing) st (written .before .before .before .before .before .standing .given .1) q (a .reply .now) (verdict .on-verdict .result) e
+    (verdict .on-verdict .ensures (judge q (a .reply .now)) (judged .judge .ensures) (cut-out (a .reply .now) (cut .result .from) (cut .result .count) ∙ rw h at (piece-is-data q (a .reply .now)))))
     (c .larger .ensures ∙ ap (max (a .self .present)) (c .before .still-there .ensures))
 
 pub heard-spec : {M : Type 1} → statement M
@@ -90,7 +111,11 @@ heard-spec =
     array-share-prefix-request
     slice-aggregate-asked
     judge-requires
-    data-of-requires
+    piece-requires
+    add-end
+    sub-on-verdict
+    part-on-verdict-start
+    part-on-verdict-end
     on-verdict-requires
     still-there-requires
     larger-requires
