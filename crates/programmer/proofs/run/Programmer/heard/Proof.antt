@@ -62,7 +62,10 @@ piece-requires : tie.Need-piece-requires
 piece-requires c κs = search needs
 
 add-end : tie.Need-add-end
-add-end c = record { fits = omega (arith, piece-within (asked-bytes (c .before .before .before .before)) (c .before .before .before .before .before .before .before .before .before .before .before .before .before .args .reply .now) (c .before .before .judge .result) (c .before .before .judge .ensures) (c .before .piece .result) (c .before .piece .ensures)) }
+add-end c =
+    let judged = c .before .before in
+    let a = judged .before .before .before .before .before .before .before .before .before .before .before .args in
+    record { fits = omega (arith, piece-within (asked-bytes (judged .before .before)) (a .reply .now) (judged .judge .result) (judged .judge .ensures) (c .before .piece .result) (c .before .piece .ensures)) }
 
 sub-on-verdict : tie.Need-sub-on-verdict
 sub-on-verdict c = search needs
@@ -71,7 +74,10 @@ part-on-verdict-start : tie.Need-part-on-verdict-start
 part-on-verdict-start c = search needs
 
 part-on-verdict-end : tie.Need-part-on-verdict-end
-part-on-verdict-end c = omega (arith, piece-within (asked-bytes (c .before .before .before .before)) (c .before .before .before .before .before .before .before .before .before .before .before .before .before .args .reply .now) (c .before .before .judge .result) (c .before .before .judge .ensures) (c .before .piece .result) (c .before .piece .ensures))
+part-on-verdict-end c =
+    let judged = c .before .before in
+    let a = judged .before .before .before .before .before .before .before .before .before .before .before .args in
+    omega (arith, piece-within (asked-bytes (judged .before .before)) (a .reply .now) (judged .judge .result) (judged .judge .ensures) (c .before .piece .result) (c .before .piece .ensures))
 
 on-verdict-requires : tie.Need-on-verdict-requires
 on-verdict-requires c κs = search needs
