@@ -1,9 +1,9 @@
 -- `programmer::run::Programmer::heard` meets its contract. Assumes nothing.
 use native.Mathlib.Omega.{arith}
-use Prim.Native.Nat.{ℕ, max}
+use Prim.Native.Nat.{ℕ, _+_, _≤_, max}
 use mathlib.Core.Path.{_≡_, refl, sym, ap, _∙_}
 use mathlib.Core.List.{List}
-use lib.ListN.{take}
+use lib.ListN.{length, take}
 use lib.Seq.{length-take-le}
 use Rattle.meaning.specs.Bench.{judge}
 use Rattle.meaning.proofs.Pieces.{piece-is-data}
@@ -34,6 +34,12 @@ sends-at : (c : tie.After-length-written)
     Sends (a .self .address) (wishOf (a .tape .now)) (c .before .before .before .before .before .standing .given .0 .0) (c .before .before .ask .result) (c .before .before .ask .last .1 .1 .1 .0)
 sends-at c = sends _ _ _ _ _ _ refl (c .before .before .ask .ensures)
 
+-- the data part lies within the reply
+within : (c : tie.After-piece) → c .piece .result .from + c .piece .result .count ≤ length (c .before .before .before .before .before .before .before .before .before .before .before .before .args .reply .now)
+within c =
+    let judged = c .before in
+    piece-within (asked-bytes (judged .before .before)) (c .before .before .before .before .before .before .before .before .before .before .before .before .args .reply .now) (judged .judge .result) (judged .judge .ensures) (c .piece .result) (c .piece .ensures)
+
 enum-known-standing : tie.Need-enum-known-standing
 enum-known-standing c = search needs
 
@@ -62,10 +68,7 @@ piece-requires : tie.Need-piece-requires
 piece-requires c κs = search needs
 
 add-end : tie.Need-add-end
-add-end c =
-    let judged = c .before .before in
-    let a = judged .before .before .before .before .before .before .before .before .before .before .before .args in
-    record { fits = omega (arith, piece-within (asked-bytes (judged .before .before)) (a .reply .now) (judged .judge .result) (judged .judge .ensures) (c .before .piece .result) (c .before .piece .ensures)) }
+add-end c = record { fits = omega (arith, within (c .before)) }
 
 sub-on-verdict : tie.Need-sub-on-verdict
 sub-on-verdict c = search needs
@@ -74,10 +77,7 @@ part-on-verdict-start : tie.Need-part-on-verdict-start
 part-on-verdict-start c = search needs
 
 part-on-verdict-end : tie.Need-part-on-verdict-end
-part-on-verdict-end c =
-    let judged = c .before .before in
-    let a = judged .before .before .before .before .before .before .before .before .before .before .before .args in
-    omega (arith, piece-within (asked-bytes (judged .before .before)) (a .reply .now) (judged .judge .result) (judged .judge .ensures) (c .before .piece .result) (c .before .piece .ensures))
+part-on-verdict-end c = omega (arith, within (c .before))
 
 on-verdict-requires : tie.Need-on-verdict-requires
 on-verdict-requires c κs = search needs
