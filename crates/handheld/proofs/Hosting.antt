@@ -1,16 +1,16 @@
 -- A host that hands on what the calls return runs as the programmer does. Assumes nothing.
 use Prim.Native.Nat.{ℕ, _+_, _-_, _*_, _≤_, _<_}
-use mathlib.Core.Path.{_≡_, refl, sym, ap, _∙_}
+use mathlib.Core.Path.{_≡_, refl, ap, _∙_}
 use mathlib.Core.Bool.{Bool, true, false, not}
 use mathlib.Core.List.{List, [], _∷_}
 use native.Mathlib.Omega.{arith}
 use lib.Dec.{T, eqb, leb, ltb, eqb→eq, leb→le, ltb→lt}
 use lib.ListN.{length, getD, drop}
 use borrow.Author.Tests.{le-ltb}
-use Rattle.meaning.specs.Bytes.{pick, both, either, arg, same}
+use Rattle.meaning.specs.Bytes.{pick, either, arg, same}
 use Rattle.meaning.specs.Fields.{writable}
 use Rattle.meaning.specs.Commands.{commandOf}
-use Rattle.meaning.specs.Bench.{Verdict, refusal, done, failed, addressOk, addressFor, allowed, request, writes, judge}
+use Rattle.meaning.specs.Bench.{Verdict, refusal, done, failed, addressOk, allowed, writes, judge}
 use Rattle.meaning.specs.Demands.{Grounds}
 use Rattle.meaning.proofs.Fitting.{only-if-fits}
 use Rattle.meaning.proofs.Steps.{both-0, both-1}
@@ -18,7 +18,7 @@ use Rattle.meaning.proofs.Choices.{told-true}
 use Rattle.meaning.proofs.Wire.{writes-well}
 use Rattle.programmer.specs.Wishes.{Wish, wanted, checkedTape, wishOf}
 use Rattle.programmer.specs.Steps.{due, making, clearing, locking, onto, onVerdict, bytesDue, afterReply}
-use Rattle.programmer.specs.Running.{atFirst, asks, hears, reachable, failsBy, canStand, isPossible}
+use Rattle.programmer.specs.Running.{asks, reachable, failsBy, canStand, isPossible}
 use Rattle.programmer.specs.Promises.{afterReplies, AllBytes}
 use Rattle.programmer.specs.declared.run.Programmer.{Programmer}
 use Rattle.programmer.specs.declared.step.Step.{Step}
@@ -29,10 +29,10 @@ use Rattle.programmer.specs.declared.step.Standing.the-variants.{At, Done, Fail
 use Rattle.programmer.specs.declared.wish.Checked.the-variants.{Good, BadRecord, WrongSize}
 use Rattle.programmer.proofs.Allowed.{due-allowed}
 use Rattle.programmer.proofs.Counting.{few-present, progress-few}
-use Rattle.programmer.proofs.Replies.{data-byte, Few, few-checks, same-address, stands-after, stays-possible}
+use Rattle.programmer.proofs.Replies.{data-byte, Few, few-checks, stands-after, stays-possible}
 use Rattle.programmer.proofs.Whole.{good-is-whole}
 use Rattle.handheld.specs.Numbers.{fieldPart, statusPart, numberPart, standingBytes, runNumber, runIn}
-use Rattle.handheld.specs.Entries.{requestOf, givenBy, heardBy, handedOn, bit31, Hosted, QpRuns, QpWrites, QpToldApart, QpRefusals}
+use Rattle.handheld.specs.Entries.{requestOf, givenBy, handedOn, bit31, QpRuns, QpWrites, QpToldApart, QpRefusals}
 use Rattle.handheld.specs.declared.given.Given.the-variants as given
 use Rattle.handheld.proofs.Numbers.{Small, five-small, as-seven, run-back, is-run}
 

@@ -1,13 +1,11 @@
 -- A run is got back from its number. Assumes nothing.
 use Prim.Native.Nat.{ℕ, _+_, _*_, _/_, _%_, _<_}
-use mathlib.Core.Path.{_≡_, refl, sym, ap, _∙_}
-use mathlib.Core.Bool.{Bool, true, false}
-use mathlib.Core.List.{List, [], _∷_}
+use mathlib.Core.Path.{_≡_, refl, ap}
+use mathlib.Core.Bool.{true, false}
 use native.Mathlib.Omega.{arith}
 use lib.Dec.{eqb}
-use lib.ListN.{getD}
 use borrow.Author.Tests.{eq-eqb}
-use Rattle.meaning.specs.Bytes.{pick, arg, little}
+use Rattle.meaning.specs.Bytes.{arg, little}
 use Rattle.programmer.specs.declared.run.Programmer.{Programmer}
 use Rattle.programmer.specs.declared.step.Step.{Step}
 use Rattle.programmer.specs.declared.step.Step.the-variants.{Count, Look, Remove, Create, Store, Read, Lock}

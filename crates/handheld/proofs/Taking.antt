@@ -1,16 +1,16 @@
 -- What is handed in with a tape, and what comes back of it. Assumes nothing.
-use Prim.Native.Nat.{ℕ, _+_, _*_, _≤_, _<_}
+use Prim.Native.Nat.{ℕ, _≤_, _<_}
 use mathlib.Core.Path.{_≡_, refl, sym, ap, _∙_}
 use mathlib.Core.Bool.{Bool, true, false}
 use mathlib.Core.List.{List}
 use native.Mathlib.Omega.{arith}
-use lib.Dec.{T, eqb, ltb}
+use lib.Dec.{T, eqb}
 use lib.ListN.{length, getD}
 use borrow.Author.Tests.{eq-eqb, ne-eqb, lt-ltb, le-ltb}
 use Rattle.meaning.specs.Bytes.{pick, both}
 use Rattle.meaning.specs.Bench.{addressOk}
 use Rattle.meaning.proofs.Choices.{both-right, true-told}
-use Rattle.programmer.specs.Wishes.{Wish, checkedTape, wishOf}
+use Rattle.programmer.specs.Wishes.{checkedTape, wishOf}
 use Rattle.programmer.specs.Running.{atFirst, startedBy, askedOf, asks, progressOf, isPossible}
 use Rattle.programmer.specs.declared.run.Asked.{Asked}
 use Rattle.programmer.specs.declared.run.Asked.the-variants as asked

@@ -1,6 +1,5 @@
 -- Numbers of runs and refusals, computed (host/programmer.h). Assumes nothing.
 use mathlib.Core.Path.{_≡_, refl}
-use Prim.Native.Nat.{ℕ}
 use Rattle.meaning.specs.Bytes.{little}
 use Rattle.programmer.specs.Running.{atFirst}
 use Rattle.programmer.specs.declared.run.Programmer.{Programmer}

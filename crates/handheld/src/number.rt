@@ -3,7 +3,7 @@ ghost use mathlib.Core.Path.{_≡_};
 ghost use mathlib.Core.List.{_∷_, []};
 ghost use Prim.Native.Nat.{_+_, _*_, _%_, _<_};
 ghost use Rattle.meaning.specs.Bytes.{little};
-ghost use Rattle.handheld.specs.Numbers.{stagePart, fieldPart, statusPart, whyOf, numberPart, standingBytes, runNumber, byteIn, stepIn, whyIn, standingIn, runIn};
+ghost use Rattle.handheld.specs.Numbers.{stagePart, fieldPart, statusPart, whyOf, numberPart, standingBytes, runNumber, stepIn, whyIn, standingIn, runIn};
 use programmer::Programmer;
 use programmer::Standing;
 use programmer::Step;

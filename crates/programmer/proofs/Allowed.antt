@@ -1,14 +1,14 @@
 -- Each request that is due is one that the bench writes (R5 is not met on the way). Assumes nothing.
 use Prim.Native.Nat.{ℕ, zero, suc, _+_, _*_, _≤_, _<_}
-use mathlib.Core.Path.{_≡_, refl}
-use mathlib.Core.Bool.{Bool, true, false}
+use mathlib.Core.Path.{_≡_}
+use mathlib.Core.Bool.{true}
 use mathlib.Core.List.{List, [], _∷_}
 use native.Mathlib.Omega.{arith}
 use native.Mathlib.Nat.{not-suc-le-zero, le-of-suc-le-suc}
 use lib.Dec.{T, eqb, leb, ltb, ltb→lt, le→leb}
 use lib.ListN.{length, getD}
-use Rattle.meaning.specs.Bytes.{pick, both}
-use Rattle.meaning.specs.Fields.{bytesOf, blocks}
+use Rattle.meaning.specs.Bytes.{both}
+use Rattle.meaning.specs.Fields.{blocks}
 use Rattle.meaning.specs.Commands.{c4A, c4B, commandOf, row, lengthFits, asked}
 use Rattle.meaning.specs.Bench.{inRange, allowed}
 use Rattle.meaning.proofs.Cases.{eq→eqb}

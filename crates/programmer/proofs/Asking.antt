@@ -1,14 +1,13 @@
 -- Laws of the wanted fields as the code finds them, and of the requests that it writes. Assumes nothing.
-use Prim.Native.Nat.{ℕ, zero, suc, _+_, _-_, _*_, _/_, _%_, _≤_, _<_}
-use mathlib.Core.Path.{_≡_, refl, sym, ap, _∙_}
-use mathlib.Core.Bool.{Bool, true, false, not}
+use Prim.Native.Nat.{ℕ, suc, _+_, _-_, _/_, _%_, _≤_}
+use mathlib.Core.Path.{_≡_, sym, ap, _∙_}
+use mathlib.Core.Bool.{true, false}
 use mathlib.Core.List.{List, [], _∷_, _++_, append-nil}
 use native.Mathlib.Omega.{arith}
-use lib.Dec.{T, eqb, ltb}
-use lib.ListN.{length, getD, take, drop, List·getD-eq-default}
+use lib.ListN.{length, take, drop, List·getD-eq-default}
 use lib.Seq.{take-at}
 use borrow.Author.Tests.{lt-ltb, le-ltb, eq-eqb, ne-eqb}
-use Rattle.meaning.specs.Bytes.{pick, both, arg, part, put, same}
+use Rattle.meaning.specs.Bytes.{arg, part, put, same}
 use Rattle.meaning.specs.Fields.{codeNo, writable, attributes}
 use Rattle.meaning.specs.Bench as meaning
 use Rattle.meaning.proofs.Puts.{put-front}

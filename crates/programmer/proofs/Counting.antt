@@ -1,5 +1,5 @@
 -- Laws of counting the requests, and of what a run can have left. Assumes nothing.
-use Prim.Native.Nat.{ℕ, zero, suc, _+_, _-_, _*_, _/_, _%_, _≤_, _<_}
+use Prim.Native.Nat.{ℕ, zero, suc, _+_, _*_, _/_, _%_, _≤_, _<_}
 use mathlib.Core.Path.{_≡_, refl, sym, ap, _∙_}
 use mathlib.Core.Bool.{Bool, true, false, not}
 use mathlib.Core.List.{List, [], _∷_}
@@ -16,7 +16,7 @@ use Rattle.meaning.specs.Bytes.{pick, both}
 use Rattle.meaning.specs.Fields.{writable}
 use Rattle.meaning.specs.Bench.{addressOk}
 use Rattle.meaning.proofs.Steps.{both-0, both-1}
-use Rattle.programmer.specs.Wishes.{Field, Wish, noField, wanted, wishOf}
+use Rattle.programmer.specs.Wishes.{Field, Wish, noField, wanted}
 use Rattle.programmer.specs.Steps.{stillThere, requestsFor, inAll, answered, answeredAt}
 use Rattle.programmer.specs.Reading.{FoundField, RequestsCounted}
 use Rattle.programmer.specs.Running.{progressOf, canStand, isPossible}

@@ -1,16 +1,16 @@
 -- Laws of the programmer's entry points: what is asked, and what a verdict leads to. Assumes nothing.
-use Prim.Native.Nat.{ℕ, _+_, _≤_, max}
-use mathlib.Core.Path.{_≡_, refl, sym, ap, _∙_}
-use mathlib.Core.Bool.{Bool, true, false, not, false≢true}
+use Prim.Native.Nat.{ℕ, _≤_, max}
+use mathlib.Core.Path.{_≡_, refl, ap, _∙_}
+use mathlib.Core.Bool.{Bool, true, false}
 use mathlib.Core.List.{List, [], _∷_}
 use native.Mathlib.Omega.{arith}
-use lib.Dec.{T, ltb}
+use lib.Dec.{ltb}
 use lib.ListN.{length, take, drop, length-append}
 use lib.Seq.{take-append-seam}
-use borrow.Author.Tests.{le-ltb, eqb-false}
+use borrow.Author.Tests.{eqb-false}
 use types.Run.{OneOf, miss}
 use denote.Enum.Declared.{tagOf}
-use Rattle.meaning.specs.Bytes.{pick, both, put}
+use Rattle.meaning.specs.Bytes.{both, put}
 use Rattle.meaning.specs.Commands.{commandOf}
 use Rattle.meaning.specs.Bench as meaning
 use Rattle.meaning.specs.Bench.{addressOk, addressFor, allowed, request, writes, judge, refusal, done, failed}

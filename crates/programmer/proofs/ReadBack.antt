@@ -1,5 +1,5 @@
 -- Done is reached only over bytes that were read back as wanted; a deletion comes after its status, a lock after its bytes. Assumes nothing.
-use Prim.Native.Nat.{ℕ, zero, suc, _+_, _-_, _≤_, _<_}
+use Prim.Native.Nat.{ℕ, suc, _+_, _-_, _≤_, _<_}
 use mathlib.Core.Path.{_≡_, refl, sym, ap, _∙_, subst}
 use mathlib.Core.Logic.{_⊎_, inl, inr}
 use mathlib.Core.Bool.{Bool, true, false, not}
@@ -9,7 +9,7 @@ use native.Mathlib.Nat.{not-suc-le-zero}
 use native.Mathlib.Decide.{decLt}
 use lib.Dec.{T, eqb, ltb, eqb→eq, nltb→le}
 use lib.ListN.{length, drop}
-use Rattle.meaning.specs.Bytes.{pick, both, arg, same}
+use Rattle.meaning.specs.Bytes.{pick, arg, same}
 use Rattle.meaning.specs.Fields.{writable}
 use Rattle.meaning.specs.Bench.{Verdict, refusal, done, failed, judge}
 use Rattle.meaning.proofs.Steps.{both-0, both-1}

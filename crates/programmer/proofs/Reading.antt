@@ -1,17 +1,17 @@
 -- Laws of the label tape's readers. Assumes nothing.
 use Prim.Native.Nat.{ℕ, zero, suc, _+_, _-_, _*_, _%_, _≤_, _<_}
 use mathlib.Core.Path.{_≡_, refl, sym, ap, _∙_}
-use mathlib.Core.Bool.{Bool, true, false, not}
+use mathlib.Core.Bool.{Bool, true, false}
 use mathlib.Core.List.{List, [], _∷_}
 use native.Mathlib.Omega.{arith}
 use native.Mathlib.Decide.{decLt}
-use lib.Dec.{T, eqb, leb, ltb}
-use lib.ListN.{length, getD, take, drop, length-drop, drop-of-length-le, List·getD-eq-default}
+use lib.Dec.{eqb, leb, ltb}
+use lib.ListN.{length, getD, take, drop, length-drop, drop-of-length-le}
 use lib.Seq.{drop-drop, drop-cons, getD-drop, take-nil}
 use borrow.Author.Tests.{ltb-true, eqb-true, ne-eqb, le-leb, lt-leb}
 use Rattle.meaning.specs.Bytes.{pick, both, arg, part, little}
 use Rattle.meaning.specs.Fields.{bytesOf, blocks, exists}
-use Rattle.records.specs.Records.{whole, cut, lengthAt, wholeLength, recordAt}
+use Rattle.records.specs.Records.{cut, lengthAt, wholeLength, recordAt}
 use Rattle.records.specs.Reader.{readAt}
 use Rattle.records.specs.declared.record.Cursor.{Cursor}
 use Rattle.records.specs.declared.record.Read.{Read}

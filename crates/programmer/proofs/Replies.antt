@@ -1,11 +1,10 @@
 -- Whatever is answered, the run stays possible, counts its replies and ends. Assumes nothing.
 use Prim.Native.Nat.{ℕ, zero, suc, _+_, _-_, _*_, _≤_, _<_, max}
-use mathlib.Core.Path.{_≡_, refl, sym, ap, _∙_, subst}
+use mathlib.Core.Path.{_≡_, refl}
 use mathlib.Core.Bool.{Bool, true, false, not, false≢true}
 use mathlib.Core.List.{List, [], _∷_}
 use native.Mathlib.Omega.{arith}
-use native.Mathlib.Nat.{not-suc-le-zero, le-of-suc-le-suc}
-use lib.Dec.{T, eqb, leb, ltb, eqb·suc-zero, eqb→eq, ltb→lt, leb→le, nltb→le, lt→ltb, le→leb}
+use lib.Dec.{T, leb, ltb, eqb·suc-zero, eqb→eq, ltb→lt, lt→ltb, le→leb}
 use lib.ListN.{length, getD, take, drop}
 use lib.Seq.{getD-drop}
 use Rattle.meaning.specs.Bytes.{pick, both, arg, same}
@@ -16,14 +15,14 @@ use Rattle.meaning.specs.Demands.{Grounds}
 use Rattle.meaning.proofs.Fitting.{only-if-fits}
 use Rattle.meaning.proofs.Steps.{both-0, both-1}
 use Rattle.meaning.proofs.Choices.{both-intro}
-use Rattle.programmer.specs.Wishes.{Field, Wish, noField, wanted}
+use Rattle.programmer.specs.Wishes.{Wish, wanted}
 use Rattle.programmer.specs.Steps.{making, clearing, locking, onto, onVerdict, bytesDue, afterReply, stillThere, requestsFor, inAll, answered}
-use Rattle.programmer.specs.Running.{atFirst, hears, reachable, isRead, failsBy, canStand, isPossible}
-use Rattle.programmer.specs.Promises.{afterReplies, hasEnded, AllBytes, StaysPossible, OnTheWay, CountsReplies, EndsAlways, StaysOver}
+use Rattle.programmer.specs.Running.{hears, reachable, canStand, isPossible}
+use Rattle.programmer.specs.Promises.{afterReplies, hasEnded, AllBytes, StaysPossible, CountsReplies, EndsAlways, StaysOver}
 use Rattle.programmer.specs.declared.run.Programmer.{Programmer}
 use Rattle.programmer.specs.declared.step.Step.{Step}
 use Rattle.programmer.specs.declared.step.Step.the-variants.{Count, Look, Remove, Create, Store, Read, Lock}
-use Rattle.programmer.specs.declared.step.Why.the-variants.{Judgement, Error, Differs}
+use Rattle.programmer.specs.declared.step.Why.the-variants.{Differs}
 use Rattle.programmer.specs.declared.step.Standing.{Standing}
 use Rattle.programmer.specs.declared.step.Standing.the-variants.{At, Done, Failed}
 use Rattle.programmer.proofs.Counting.{cost, some-of}

@@ -1,6 +1,6 @@
 -- A good tape is a wish from its first byte to its last. Assumes nothing.
 use Prim.Native.Nat.{ℕ, zero, suc, _+_, _-_, _*_, _≤_, _<_}
-use mathlib.Core.Path.{_≡_, refl, sym, ap, _∙_}
+use mathlib.Core.Path.{_≡_, refl, ap}
 use mathlib.Core.Bool.{Bool, true, false, false≢true}
 use mathlib.Core.List.{List, [], _∷_}
 use native.Mathlib.Omega.{arith}
@@ -13,7 +13,7 @@ use Rattle.meaning.specs.Fields.{bytesOf, blocks, exists}
 use Rattle.meaning.proofs.Choices.{both-right, true-told}
 use Rattle.records.specs.Records.{Found, whole, cut, lengthAt, wholeLength, recordAt}
 use Rattle.records.proofs.Bytes.{length-part}
-use Rattle.programmer.specs.Wishes.{Field, Wish, fieldIn, bodyOf, isCodes, isField, ofItsSize, firstWrong, checkedFrom, checkedTape, fieldsFrom, wishOf}
+use Rattle.programmer.specs.Wishes.{fieldIn, bodyOf, isCodes, isField, ofItsSize, firstWrong, checkedFrom, checkedTape, fieldsFrom, wishOf}
 use Rattle.programmer.specs.Promises.{FieldsFit, spanOf, WholeTape, GoodIsWhole}
 use Rattle.programmer.specs.declared.wish.Checked.{Checked}
 use Rattle.programmer.specs.declared.wish.Checked.the-variants.{Good, BadRecord, WrongSize}

@@ -1,11 +1,9 @@
 // The request that is due at a step (02, Req 04).
 ghost use mathlib.Core.Path.{_≡_};
 ghost use mathlib.Core.List.{_∷_, []};
-ghost use Rattle.meaning.specs.Fields.{codeNo};
 ghost use Rattle.meaning.specs.Bench.{writes};
 ghost use Rattle.bench.specs.Outcomes.{writtenOf};
 ghost use Rattle.programmer.specs.Wishes.{codeFor, wishOf};
-ghost use Rattle.programmer.specs.Wishes as specs;
 ghost use Rattle.programmer.specs.Steps.{due};
 ghost use Rattle.programmer.specs.Steps as steps;
 ghost use Rattle.programmer.specs.Reading.{Wants};

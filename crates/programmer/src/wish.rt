@@ -1,9 +1,8 @@
 // The label tape, checked and read (02, Req 04).
 ghost use mathlib.Core.Path.{_≡_};
-ghost use mathlib.Core.Bool.{true};
 ghost use Prim.Native.Nat.{_+_, _≤_};
 ghost use lib.ListN.{length, drop};
-ghost use Rattle.meaning.specs.Bytes.{part, arg};
+ghost use Rattle.meaning.specs.Bytes.{part};
 ghost use Rattle.meaning.specs.Fields.{bytesOf, blocks};
 ghost use Rattle.records.specs.Records.{recordAt};
 ghost use Rattle.programmer.specs.Wishes.{isCodes, ofItsSize, checkedFrom, checkedTape, wishOf};

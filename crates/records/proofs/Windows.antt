@@ -11,7 +11,6 @@ use Rattle.meaning.specs.Bytes.{pick, both, part, little}
 use Rattle.records.specs.Records.{lengthAt, wholeLength, whole, cut, recordAt}
 use Rattle.records.specs.Reader.{readAt}
 use Rattle.records.specs.declared.record.Cursor.{Cursor}
-use Rattle.records.specs.declared.record.Read.{Read}
 use Rattle.records.specs.declared.record.Read.the-variants.{Record, More, Bad}
 use Rattle.records.proofs.Bytes.{part-drop}
 

@@ -1,14 +1,14 @@
 -- What the board answers to the programmer's requests, its memory being laid. Assumes nothing.
-use Prim.Native.Nat.{ℕ, zero, suc, _+_, _-_, _*_, _%_, _≤_, _<_}
-use mathlib.Core.Path.{_≡_, refl, sym, ap, _∙_}
+use Prim.Native.Nat.{ℕ, suc, _+_, _-_, _*_, _≤_, _<_}
+use mathlib.Core.Path.{_≡_, sym}
 use mathlib.Core.Bool.{Bool, true, false, not}
-use mathlib.Core.List.{List, [], _∷_, _++_}
+use mathlib.Core.List.{List, [], _∷_}
 use native.Mathlib.Omega.{arith}
-use lib.Dec.{T, eqb, leb, ltb, not-T, eqb→eq, leb→le, ltb→lt, le→leb, lt→ltb}
-use lib.ListN.{length, getD, take, drop}
-use Rattle.meaning.specs.Bytes.{pick, both, either, differ, part, put}
+use lib.Dec.{T, eqb, leb, ltb, not-T, eqb→eq, leb→le, ltb→lt, lt→ltb}
+use lib.ListN.{length, getD, take}
+use Rattle.meaning.specs.Bytes.{both, either, differ, part, put}
 use Rattle.meaning.specs.State.{Plate, State, code}
-use Rattle.meaning.specs.Fields.{bytesOf, blocks, coded, codeNo, writable, exists, attributes, table, fieldCount, used, sound, freeBlocks, statusAt, survey, clear, putStatus}
+use Rattle.meaning.specs.Fields.{blocks, coded, codeNo, writable, exists, attributes, table, fieldCount, used, sound, freeBlocks, statusAt, survey, clear, putStatus}
 use Rattle.meaning.specs.Commands.{c4A, c4B, c4C, c4D, c4E, Answer, accept, error, choose, wrongCode, onField, readField, storeField, fieldStatus, create, resize, modify, delete, shapeField, freeByte, memoryStatus, worked}
 use Rattle.meaning.proofs.Cases.{eq→eqb}
 use Rattle.meaning.proofs.Tables.{blocks-pos}

@@ -1,21 +1,19 @@
 -- The run over the host's calls is the run over requests. Assumes nothing.
-use Prim.Native.Nat.{ℕ, suc, _+_, _-_, _%_, _^_, _≤_, _<_}
+use Prim.Native.Nat.{ℕ, suc, _+_, _-_, _%_, _^_, _<_}
 use mathlib.Core.Path.{_≡_, refl, sym, ap, _∙_, subst}
-use mathlib.Core.Bool.{Bool, true, false, not}
+use mathlib.Core.Bool.{Bool, not}
 use mathlib.Core.List.{List, [], _∷_}
 use native.Mathlib.Omega.{arith}
 use lib.ListN.{length}
-use lib.Dec.{T, eqb}
-use Rattle.meaning.specs.Bytes.{pick, both, either}
+use lib.Dec.{T}
 use Rattle.meaning.specs.State as board
-use Rattle.meaning.specs.State.{noted, withMeasured, withQueue, withLock, withLine, queued, locks, ownByte, plateOk, lastAddress}
-use Rattle.meaning.specs.Characters.{over, taken, fullPause}
-use Rattle.meaning.specs.Commands.{Command, c4A, c4B, c4C, c4D, c4E, commandOf, Answer, refuse, accept, quiet, error, onField, readField, storeField, fieldStatus, create, modify, delete, shapeField, memoryStatus, worked}
-use Rattle.meaning.specs.Frames.{Outcome, outcome, still, resting, close, upTo}
-use Rattle.meaning.specs.Run.{Call, character, poll, measured, fault, power-on, step, runFrom, closes}
-use Rattle.meaning.specs.Bench.{addressOk, addressFor, request}
-use Rattle.meaning.specs.Demands.{calm, unbroken, meant, Told, atClose}
-use Rattle.meaning.proofs.Steps.{both-0, both-1}
+use Rattle.meaning.specs.State.{withLine, ownByte, plateOk}
+use Rattle.meaning.specs.Characters.{fullPause}
+use Rattle.meaning.specs.Commands.{c4A, c4B, c4C, c4D, c4E, commandOf, Answer, refuse, accept, quiet, error, onField, readField, storeField, fieldStatus, create, modify, delete, shapeField, memoryStatus, worked}
+use Rattle.meaning.specs.Frames.{outcome, resting, close}
+use Rattle.meaning.specs.Run.{closes}
+use Rattle.meaning.specs.Bench.{addressFor, request}
+use Rattle.meaning.specs.Demands.{meant, atClose}
 use Rattle.meaning.proofs.Choices.{through, choose-by, told-true}
 use Rattle.meaning.proofs.Lines.{poll-works, stays-put}
 use Rattle.meaning.proofs.Plates.{longest-pause, whole-label}

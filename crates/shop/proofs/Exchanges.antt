@@ -7,10 +7,10 @@ use native.Mathlib.Omega.{arith}
 use lib.Dec.{T, eqb}
 use lib.ListN.{length, take, drop}
 use lib.Seq.{take-append-seam}
-use Rattle.meaning.specs.Bytes.{pick, either, put}
+use Rattle.meaning.specs.Bytes.{either, put}
 use Rattle.meaning.specs.State as board
 use Rattle.meaning.specs.State.{ownByte, withLine, plateOk, lastAddress}
-use Rattle.meaning.specs.Frames.{Outcome, still, resting}
+use Rattle.meaning.specs.Frames.{Outcome, resting}
 use Rattle.meaning.specs.Bench.{addressFor}
 use Rattle.meaning.specs.Demands.{meant}
 use Rattle.meaning.proofs.Choices.{told-true}

@@ -1,21 +1,21 @@
 -- The fields that are made already, with their bytes; and the status with bit 6 set. Assumes nothing.
-use Prim.Native.Nat.{ℕ, zero, suc, _+_, _-_, _*_, _/_, _%_, _≤_, _<_}
+use Prim.Native.Nat.{ℕ, zero, suc, _+_, _*_, _/_, _%_, _≤_, _<_}
 use mathlib.Core.Path.{_≡_, refl, sym, ap, _∙_}
 use mathlib.Core.Bool.{Bool, true, false, not}
 use mathlib.Core.List.{List, [], _∷_, _++_}
 use native.Mathlib.Omega.{arith}
-use native.Mathlib.Nat.{not-suc-le-zero, le-of-suc-le-suc}
+use native.Mathlib.Nat.{not-suc-le-zero}
 use native.Mathlib.Decide.{decLt}
-use lib.Dec.{T, eqb, leb, eqb→eq, leb→le, le→leb}
-use lib.ListN.{length, getD, take, drop, length-append, length-take, length-drop, List·getD-append, List·getD-eq-default}
-use lib.Seq.{take-length, take-append-le, take-at, getD-append-seam, getD-take, getD-drop, length-take-le, ext-getD}
-use Rattle.meaning.specs.Bytes.{pick, part, zeros}
-use Rattle.meaning.specs.Fields.{memoryLength, blocks, codeNo, writable, exists, table, used, statusAt, start}
+use lib.Dec.{T, eqb, leb, leb→le, le→leb}
+use lib.ListN.{length, getD, take, length-append, List·getD-append}
+use lib.Seq.{take-length, take-append-le, take-at, getD-append-seam}
+use Rattle.meaning.specs.Bytes.{pick}
+use Rattle.meaning.specs.Fields.{blocks, codeNo, writable, exists, used}
 use Rattle.meaning.proofs.Cases.{eq→eqb, neqb→neq}
-use Rattle.meaning.proofs.Tables.{Existing, used-nil, used-cons, used-before}
+use Rattle.meaning.proofs.Tables.{used-before}
 use Rattle.programmer.specs.Wishes.{Field, noField}
 use Rattle.programmer.specs.Steps.{enabled}
-use Rattle.shop.proofs.Laid.{Laid, laid-count, laid-status, laid-first, laid-few}
+use Rattle.shop.proofs.Laid.{Laid}
 
 abbrev pub statuses : List Field → List ℕ
 statuses [] = []

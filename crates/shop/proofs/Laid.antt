@@ -1,5 +1,5 @@
 -- A memory whose table is some statuses and then 00h: what the programmer's requests make of it. Assumes nothing.
-use Prim.Native.Nat.{ℕ, zero, suc, _+_, _-_, _*_, _≤_, _<_, min, max}
+use Prim.Native.Nat.{ℕ, suc, _+_, _-_, _*_, _≤_, _<_, min, max}
 use mathlib.Core.Path.{_≡_, refl, sym, ap, _∙_}
 use mathlib.Core.Bool.{Bool, true, false}
 use mathlib.Core.List.{List, [], _∷_, _++_}
@@ -7,7 +7,7 @@ use native.Mathlib.Omega.{arith}
 use lib.Dec.{T, eqb, leb, eqb→eq, leb→le}
 use lib.ListN.{length, getD, take, drop, set, length-append, length-set, length-drop, take-append-drop, List·getD-append}
 use lib.Seq.{length-take-le, take-length, take-append-le}
-use Rattle.meaning.specs.Bytes.{pick, both, blank, put, zeros}
+use Rattle.meaning.specs.Bytes.{pick, blank, put, zeros}
 use Rattle.meaning.specs.Fields.{memoryLength, blocks, exists, table, fieldCount, used, sound, statusAt, clear, putStatus}
 use Rattle.meaning.specs.Commands.{resize}
 use Rattle.meaning.proofs.Steps.{both-0, both-1}

@@ -1,27 +1,24 @@
 -- Against our board the programmer reaches done, and the board then holds the tape's fields. Assumes nothing.
-use Prim.Native.Nat.{ℕ, zero, suc, _+_, _-_, _*_, _%_, _≤_, _<_}
+use Prim.Native.Nat.{ℕ, zero, suc, _+_, _-_, _*_, _≤_, _<_}
 use mathlib.Core.Path.{_≡_, refl, sym, ap, _∙_, subst}
-use mathlib.Core.Bool.{Bool, true, false, not}
+use mathlib.Core.Bool.{Bool, true, false}
 use mathlib.Core.List.{List, [], _∷_, _++_, append-nil}
 use native.Mathlib.Omega.{arith}
-use native.Mathlib.Nat.{not-suc-le-zero, le-of-suc-le-suc}
-use native.Mathlib.Decide.{decLt}
-use lib.Dec.{T, eqb, leb, eqb·suc-zero, le→leb}
-use lib.ListN.{length, getD, take, drop, set, length-append, length-take, length-drop, List·getD-eq-default}
+use lib.Dec.{T, eqb·suc-zero}
+use lib.ListN.{length, getD, take, drop, length-append, length-drop}
 use lib.Seq.{take-length, take-append-seam, getD-append-seam, set-append-seam, length-take-le, getD-take, getD-drop, ext-getD, append-snoc}
 use borrow.Author.Tests.{lt-ltb, le-ltb, eq-eqb}
-use Rattle.meaning.specs.Bytes.{pick, both, either, part, put, same, zeros}
+use Rattle.meaning.specs.Bytes.{pick, part, put, same, zeros}
 use Rattle.meaning.specs.State as board
 use Rattle.meaning.specs.State.{labelLength}
-use Rattle.meaning.specs.Fields.{bytesOf, memoryLength, blocks, codeNo, writable, exists, attributes, table, fieldCount, used, sound, statusAt, start, clear, putStatus}
-use Rattle.meaning.specs.Commands.{c4A, c4B, commandOf, row, lengthFits, asked, worked, accept, resize}
+use Rattle.meaning.specs.Fields.{memoryLength, blocks, codeNo, writable, exists, attributes, table, fieldCount, used, statusAt, start, clear, putStatus}
+use Rattle.meaning.specs.Commands.{commandOf, row, lengthFits, asked, worked, accept, resize}
 use Rattle.meaning.specs.Bench.{inRange, allowed, addressOk, addressFor, request, judge}
 use Rattle.meaning.specs.Frames.{outcome}
 use Rattle.meaning.specs.Demands.{meant, concluded}
-use Rattle.meaning.proofs.Choices.{told-true, both-intro}
-use Rattle.meaning.proofs.Cases.{eq→eqb}
+use Rattle.meaning.proofs.Choices.{told-true}
 use Rattle.meaning.proofs.Wire.{verdict-follows}
-use Rattle.meaning.proofs.Puts.{put-else, put-in, part-put, getD-zeros}
+use Rattle.meaning.proofs.Puts.{put-in, part-put, getD-zeros}
 use Rattle.meaning.proofs.Tables.{used-nil, used-before, used-snoc, count-le, blocks-pos}
 use Rattle.programmer.specs.Wishes.{Field, Wish, noField, wanted, codeFor}
 use Rattle.programmer.specs.Steps.{due, enabled, making, clearing, locking, onto, onVerdict, bytesDue, afterReply, requestsFor, inAll}
@@ -30,9 +27,9 @@ use Rattle.shop.specs.Promises.{talked, talkedOn, Met, InForce, blocksOf
 use Rattle.programmer.specs.declared.step.Step.{Step}
 use Rattle.programmer.specs.declared.step.Step.the-variants.{Count, Look, Remove, Create, Store, Read, Lock}
 use Rattle.programmer.specs.declared.step.Standing.{Standing}
-use Rattle.programmer.specs.declared.step.Standing.the-variants.{At, Done, Failed}
+use Rattle.programmer.specs.declared.step.Standing.the-variants.{At, Done}
 use Rattle.programmer.proofs.Allowed.{fits-at, may-store, may-read}
-use Rattle.shop.proofs.Laid.{Laid, laid-count, laid-used, laid-status, laid-first, laid-sound, laid-few, laid-of, laid-gone, laid-made, made-low, laid-stored, stored-low, laid-set, relaid-data}
+use Rattle.shop.proofs.Laid.{Laid, laid-count, laid-first, laid-sound, laid-of, laid-gone, laid-made, made-low, laid-stored, stored-low, laid-set, relaid-data}
 use Rattle.shop.proofs.Answers.{told-count, told-status, deleted, made, changed, stored, brought, blocks-few}
 use Rattle.shop.proofs.Kept.{statuses, statuses-length, statuses-at, statuses-snoc, enabled-exists, enabled-blocks, enabled-code, enabled-writable, Kept, kept-none, kept-more}
 

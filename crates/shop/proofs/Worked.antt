@@ -16,7 +16,7 @@ use Rattle.programmer.specs.Steps.{enabled, due, making, clearing, locking, ont
 use Rattle.programmer.specs.declared.step.Step.the-variants.{Count}
 use Rattle.programmer.specs.declared.step.Standing.the-variants.{At, Done}
 use Rattle.programmer.proofs.Worked.{codes, sixteen, field}
-use Rattle.shop.specs.Promises.{Talk, talked, talkedOn}
+use Rattle.shop.specs.Promises.{talked, talkedOn}
 
 abbrev plate : Plate
 plate = record { total = 8; bits = 24; address = 0; ticks = 4; pause = 55; label = zeros 41 }

@@ -1,7 +1,7 @@
 -- `programmer::wish::find` meets its contract. Assumes nothing.
 use native.Mathlib.Omega.{arith}
-use Prim.Native.Nat.{ℕ, _-_, _≤_, _<_}
-use mathlib.Core.Path.{_≡_, sym, _∙_}
+use Prim.Native.Nat.{_-_, _≤_}
+use mathlib.Core.Path.{sym, _∙_}
 use borrow.Author.Tests.{not-true, not-false}
 use Rattle.programmer.proofs.Reading.{Walked, walk-start, walk-none, walk-unsized, walk-found, walk-more, walk-end, other}
 use borrow.Author.Needs.{needs}

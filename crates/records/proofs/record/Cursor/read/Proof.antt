@@ -1,5 +1,4 @@
 -- `records::record::Cursor::read` meets its contract. Assumes nothing.
-use Prim.Native.Nat.{_-_}
 use native.Mathlib.Omega.{arith}
 use Rattle.records.proofs.Windows.{few-left, no-kind, too-long, wants-more, all-there}
 -- `records::record::Cursor::read` meets its contract. Assumes nothing.
