@@ -1,15 +1,13 @@
 -- Laws of the bench's checks: what a request may have, an error reply and another. Assumes nothing.
 use mathlib.Core.Path.{_≡_, refl, sym, ap, _∙_}
 use mathlib.Core.Bool.{Bool, true, false}
-use mathlib.Core.List.{List, [], _∷_}
-use Prim.Native.Nat.{ℕ, suc, _+_, _-_, _%_, _≤_, _<_}
-use native.Mathlib.Numerals.{add-one}
+use mathlib.Core.List.{List, _∷_}
+use Prim.Native.Nat.{ℕ, _+_, _-_, _%_, _≤_, _<_}
 use native.Mathlib.Omega.{arith}
 use borrow.Author.Tests.{eq-eqb, ne-eqb, le-leb, lt-leb, lt-ltb, le-ltb, leb-true}
 use lib.Dec.{eqb, leb}
-use lib.ListN.{length, getD, take, drop, length-take, length-drop, drop-of-length-le}
-use lib.Seq.{drop-cons}
-use Rattle.meaning.specs.Bytes.{both, either, arg, put, xorAll, same}
+use lib.ListN.{length, take, length-take, length-drop}
+use Rattle.meaning.specs.Bytes.{either, arg, put, xorAll, same}
 use Rattle.meaning.specs.State.{between}
 use Rattle.meaning.specs.Commands.{Command, c42, c43, c46, c47, c49, c4A, c4B, c4C, c4D, c4E, c4F, c50, c52, c53, c55, c56, unknown, commandOf, row, lengthFits, asked}
 use Rattle.meaning.specs.Commands as meaning
@@ -21,7 +19,7 @@ use Rattle.wire.specs.Table.{lengthOf, rowOf}
 use Rattle.wire.specs.declared.table.Row.{Row}
 use Rattle.bench.specs.Outcomes.{writtenOf}
 use Rattle.bench.specs.declared.request.Written.the-variants.{Request, R4, R5}
-use Rattle.meaning.proofs.Choices.{both-left, both-false}
+use Rattle.meaning.proofs.Choices.{both-left}
 
 either-cases : (a b : Bool) → either a b ≡ true → b ≡ false → a ≡ true
 either-cases true b e n = refl

@@ -9,8 +9,8 @@ use lib.ListN.{length, take, drop, length-append, length-drop}
 use lib.Seq.{take-append-le, drop-append-le, drop-drop}
 use lib.Dec.{ltb, leb, eqb}
 use borrow.Author.Tests.{ltb-true, ltb-false, leb-true, leb-false, ne-eqb}
-use Rattle.meaning.specs.Bytes.{pick, both, part, little}
-use Rattle.records.specs.Records.{lengthAt, wholeLength, whole, cut, recordAt}
+use Rattle.meaning.specs.Bytes.{pick, part, little}
+use Rattle.records.specs.Records.{lengthAt, wholeLength, cut, recordAt}
 use Rattle.tape.specs.Kinds.{Said, unfit, sized, callOf, saidBy}
 use Rattle.tape.specs.Text.{firstLine}
 use Rattle.tape.specs.Answers.{Stage, opening, running, ended, badRecord, turn, answersFrom, answersOf}
