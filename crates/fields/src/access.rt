@@ -10,7 +10,6 @@ use crate::find::Found;
 use crate::find::open_field;
 use crate::reply::repeat_three;
 use crate::seen::Survey;
-use crate::status::is_writable;
 use wire::Answer;
 use wire::codes::MOST_COUNT;
 use wire::codes::READ_ONLY;
@@ -94,7 +93,7 @@ pub fn store_field(
     let Found::Field { from, to, status } = found else {
         return Answer::Refuse(found.code());
     };
-    if !is_writable(status) {
+    if !wire::is_writable(status) {
         return Answer::Refuse(READ_ONLY);
     }
     store_own(&mut memory[from..to], request, room)

@@ -10,7 +10,6 @@ ghost use Rattle.fields.specs.Shape.{Chargeable, Settable, storedAs};
 use crate::sizes::bytes_of;
 use crate::sizes::least;
 use crate::sizes::most;
-use crate::status::has_field;
 
 // The run of blocks to be cleared: the first of them, and the one past the last.
 pub struct Change {
@@ -55,7 +54,7 @@ fn clear(part: &mut [u8])
 fn stored_as(asked: u8) -> u8
     ensures { λ r. ⌜ r ≡ storedAs asked ⌝ }
 {
-    if has_field(asked) {
+    if wire::has_field(asked) {
         return asked;
     }
     0

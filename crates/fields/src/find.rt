@@ -8,7 +8,6 @@ ghost use Rattle.fields.specs.Memory.{surveyOf};
 ghost use Rattle.fields.specs.Found.{FoundIn, OpenTo, codeIn};
 use crate::seen::Survey;
 use crate::sizes::bytes_of;
-use crate::status::blocks_in;
 use crate::status::is_barred;
 use wire::codes::TABLE_DESTROYED;
 use wire::codes::WRONG_CODE;
@@ -49,7 +48,7 @@ pub(crate) fn find_field(seen: Survey, field: u8) -> Found
         return Found::Refused(WRONG_FIELD);
     }
     let from = bytes_of(seen.first);
-    let to = from + bytes_of(blocks_in(seen.status) as usize);
+    let to = from + bytes_of(wire::blocks_in(seen.status) as usize);
     Found::Field {
         from,
         to,

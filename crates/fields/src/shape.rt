@@ -18,9 +18,6 @@ use crate::change::change_at;
 use crate::change::lacks_room;
 use crate::reply::reply_two;
 use crate::seen::Survey;
-use crate::status::attributes_in;
-use crate::status::blocks_in;
-use crate::status::has_field;
 use crate::status::is_wrong_code;
 use wire::Answer;
 use wire::codes::FIXED_SIZE;
@@ -66,7 +63,7 @@ fn judge_create(seen: Survey, codes: &[u8], new: u8, code: u8) -> Grant
     if is_wrong_code(codes, new, code) {
         return Grant::Refused(WRONG_CODE);
     }
-    let blocks = blocks_in(new);
+    let blocks = wire::blocks_in(new);
     if lacks_room(seen.free, blocks, 0) {
         return Grant::Refused(FIXED_SIZE);
     }
@@ -83,8 +80,8 @@ fn judge_modify(seen: Survey, codes: &[u8], field: u8, new: u8, code: u8) -> Gra
     if is_wrong_code(codes, stored, code) {
         return Grant::Refused(WRONG_CODE);
     }
-    let blocks = blocks_in(new);
-    let old = blocks_in(stored);
+    let blocks = wire::blocks_in(new);
+    let old = wire::blocks_in(stored);
     if is_held(seen, field, blocks, old) {
         return Grant::Refused(FIXED_SIZE);
     }
@@ -103,13 +100,13 @@ fn judge_delete(seen: Survey, codes: &[u8], field: u8, gone: u8, code: u8) -> Gr
     if is_wrong_code(codes, seen.status, code) {
         return Grant::Refused(WRONG_CODE);
     }
-    if attributes_in(gone) != attributes_in(seen.status) {
+    if wire::attributes_in(gone) != wire::attributes_in(seen.status) {
         return Grant::Refused(WRONG_ARGUMENT);
     }
     if field as usize + 1 != seen.fields {
         return Grant::Refused(FIXED_SIZE);
     }
-    Grant::Granted(change_at(seen.first, blocks_in(seen.status), 0))
+    Grant::Granted(change_at(seen.first, wire::blocks_in(seen.status), 0))
 }
 
 // 03h; then create, modify or delete, otherwise 12h.
@@ -124,7 +121,7 @@ fn judge_shape(seen: Survey, codes: &[u8], request: &[u8]) -> Grant
     if !seen.sound {
         return Grant::Refused(TABLE_DESTROYED);
     }
-    if has_field(status) {
+    if wire::has_field(status) {
         if number == seen.fields {
             return judge_create(seen, codes, status, code);
         }

@@ -9,8 +9,6 @@ ghost use Rattle.fields.specs.Memory.{Counted, CountedOn, Saw, Sized, St
 use crate::seen::Survey;
 use crate::sizes::bytes_of;
 use crate::sizes::less;
-use crate::status::blocks_in;
-use crate::status::has_field;
 
 // How many fields stand at the front, and their blocks.
 pub struct Tally {
@@ -27,10 +25,10 @@ fn count_on(statuses: &[u8], from: Tally) -> Tally
     let mut blocks = from.blocks;
     while fields < statuses.len() {
         let status = statuses[fields];
-        if !has_field(status) {
+        if !wire::has_field(status) {
             return Tally { fields, blocks };
         }
-        blocks += blocks_in(status) as usize;
+        blocks += wire::blocks_in(status) as usize;
         fields += 1;
     }
     Tally { fields, blocks }

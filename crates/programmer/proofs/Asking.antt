@@ -1,12 +1,12 @@
 -- Laws of the wanted fields as the code finds them, and of the requests that it writes. Assumes nothing.
-use Prim.Native.Nat.{ℕ, suc, _+_, _-_, _/_, _%_, _≤_}
-use mathlib.Core.Path.{_≡_, sym, ap, _∙_}
+use Prim.Native.Nat.{ℕ, zero, suc, _+_, _-_, _/_, _%_, _≤_, _<_}
+use mathlib.Core.Path.{_≡_, refl, sym, ap, _∙_}
 use mathlib.Core.Bool.{true, false}
 use mathlib.Core.List.{List, [], _∷_, _++_, append-nil}
 use native.Mathlib.Omega.{arith}
 use lib.ListN.{length, take, drop, List·getD-eq-default}
 use lib.Seq.{take-at}
-use borrow.Author.Tests.{lt-ltb, le-ltb, eq-eqb, ne-eqb}
+use borrow.Author.Tests.{lt-ltb, le-ltb, ne-eqb, eqb-false}
 use Rattle.meaning.specs.Bytes.{arg, part, put, same}
 use Rattle.meaning.specs.Fields.{codeNo, writable, attributes}
 use Rattle.meaning.specs.Bench as meaning
@@ -22,9 +22,9 @@ use Rattle.programmer.specs.declared.request.Piece.{Piece}
 use Rattle.programmer.specs.declared.step.Standing.{Standing}
 use Rattle.programmer.specs.declared.step.Standing.the-variants.{At, Done, Failed}
 
-pub code-is : (s : List ℕ) (st : ℕ) → arg s (4 + st / 16 % 4) ≡ codeFor (wishOf s) st
-unfolding wishOf codeNo
-code-is s st = sym (part-byte s 4 4 (st / 16 % 4) (omega arith))
+pub code-is : (s : List ℕ) (st k : ℕ) → k ≡ codeNo st → k < 4 → arg s (4 + k) ≡ codeFor (wishOf s) st
+unfolding wishOf
+code-is s st k e h = sym (part-byte s 4 4 k h) ∙ rw e
 
 pub wants-found : (l : Wish) (s : List ℕ) (i status start n : ℕ) → FoundField l s i status start n → Wants l s i (record { status = status; start = start; count = n })
 wants-found l s i status start n h = record {
@@ -45,13 +45,23 @@ wants-none l s i h =
       few = omega arith;
     }
 
-pub enabled-yes : (st : ℕ) → st / 64 % 2 ≡ 1 → st ≡ enabled st
-unfolding enabled writable
-enabled-yes st e = rw (eq-eqb (st / 64 % 2) 1 e)
+pub enabled-yes : (st : ℕ) → writable st ≡ true → st ≡ enabled st
+unfolding enabled
+enabled-yes st e = rw e
 
-pub enabled-no : (st : ℕ) → (st / 64 % 2 ≡ 1 → ⊥) → st + 64 ≡ enabled st
-unfolding enabled writable
-enabled-no st e = rw (ne-eqb (st / 64 % 2) 1 e)
+pub enabled-no : (st : ℕ) → writable st ≡ false → st + 64 ≡ enabled st
+unfolding enabled
+enabled-no st e = rw e
+
+-- without bit 6 there is room for it
+pub clear-bit : (st : ℕ) → writable st ≡ false → st / 64 % 2 ≡ 0
+unfolding writable
+clear-bit st e = go (st / 64 % 2) (omega arith) (eqb-false (st / 64 % 2) 1 e)
+  where
+    go : (n : ℕ) → n < 2 → (n ≡ 1 → ⊥) → n ≡ 0
+    go zero h d = refl
+    go (suc zero) h d = absurd (d refl)
+    go (suc (suc n)) h d = absurd (omega arith)
 
 pub making-found : (l : Wish) (s : List ℕ) (i status start n : ℕ) → FoundField l s i status start n → At (Create (i % 256)) ≡ making l i
 unfolding making
@@ -95,13 +105,13 @@ unfolding clearing
 clearing-some l n e = rw (ne-eqb n 0 e)
 
 module _ (l : Wish) (s : List ℕ) (i : ℕ) (r : Piece) (W : Wants l s i r) where
-  pub locking-enabled : r .status / 64 % 2 ≡ 1 → making l (i + 1) ≡ locking l i
-  unfolding locking writable
-  locking-enabled e = rw (W .status-is, eq-eqb (r .status / 64 % 2) 1 e)
+  pub locking-enabled : writable (r .status) ≡ true → making l (i + 1) ≡ locking l i
+  unfolding locking
+  locking-enabled e = rw (W .status-is, e)
 
-  pub locking-locked : (r .status / 64 % 2 ≡ 1 → ⊥) → At (Lock i) ≡ locking l i
-  unfolding locking writable
-  locking-locked e = rw (W .status-is, ne-eqb (r .status / 64 % 2) 1 e)
+  pub locking-locked : writable (r .status) ≡ false → At (Lock i) ≡ locking l i
+  unfolding locking
+  locking-locked e = rw (W .status-is, e)
 
   module _ (d : List ℕ) where
     bytes : part s (r .start) (r .start + r .count - r .start) ≡ (wanted l i) .bytes
@@ -120,9 +130,9 @@ pub writes-due : (n : ℕ) (l : Wish) (x st : Step) (c : ℕ) (d buffer : List �
     → c ≡ (due l st) .command → d ≡ (due l st) .body → w ≡ meaning.writes n ((due l x) .command) ((due l x) .body) buffer
 writes-due n l x st c d buffer w e h p q = rw e (h ∙ rw (p, q))
 
-pub remove-body : (l : Wish) (k st c : ℕ) → c ≡ codeFor l st → k ∷ st % 128 ∷ c ∷ [] ≡ (due l (Remove k st)) .body
-unfolding due attributes
-remove-body l k st c e = rw e
+pub remove-body : (l : Wish) (k st a c : ℕ) → a ≡ attributes st → c ≡ codeFor l st → k ∷ a ∷ c ∷ [] ≡ (due l (Remove k st)) .body
+unfolding due
+remove-body l k st a c h e = rw (h, e)
 
 pub create-body : (l : Wish) (s : List ℕ) (i : ℕ) (r : Piece) (o c : ℕ) → Wants l s i r → o ≡ enabled (r .status) → c ≡ codeFor l (r .status) → i ∷ o ∷ c ∷ [] ≡ (due l (Create i)) .body
 unfolding due

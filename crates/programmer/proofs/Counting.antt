@@ -30,13 +30,11 @@ use Rattle.programmer.proofs.step.Standing.{the-type}
 
 -- ---- the requests for one wanted field more
 
-pub cost-open : (st : ℕ) → st / 64 % 2 ≡ 1 → 3 ≡ 3 + pick (writable st) 0 1
-unfolding writable
-cost-open st e = rw (eq-eqb (st / 64 % 2) 1 e)
+pub cost-open : (st : ℕ) → writable st ≡ true → 3 ≡ 3 + pick (writable st) 0 1
+cost-open st e = rw e
 
-pub cost-locked : (st : ℕ) → (st / 64 % 2 ≡ 1 → ⊥) → 4 ≡ 3 + pick (writable st) 0 1
-unfolding writable
-cost-locked st e = rw (ne-eqb (st / 64 % 2) 1 e)
+pub cost-locked : (st : ℕ) → writable st ≡ false → 4 ≡ 3 + pick (writable st) 0 1
+cost-locked st e = rw e
 
 pub cost-few : (q : Bool) → 3 + pick q 0 1 ≤ 4
 cost-few true = omega arith
@@ -124,10 +122,9 @@ module _ (l : Wish) (s : List ℕ) (i : ℕ) where
   pub wanted-none : length (l .fields) ≤ i → false ≡ ltb i (length (l .fields))
   wanted-none h = sym (le-ltb i (length (l .fields)) h)
 
-  pub locked-found : (status start n : ℕ) → FoundField l s i status start n
-      → not (eqb (status / 64 % 2) 1) ≡ both (ltb i (length (l .fields))) (not (writable ((wanted l i) .status)))
-  unfolding writable
-  locked-found status start n h = rw (lt-ltb i (length (l .fields)) (h .there), h .is)
+  pub locked-found : (status start n : ℕ) → FoundField l s i status start n → (q : Bool) → q ≡ writable status
+      → not q ≡ both (ltb i (length (l .fields))) (not (writable ((wanted l i) .status)))
+  locked-found status start n h q e = rw (lt-ltb i (length (l .fields)) (h .there), h .is, e)
 
   pub locked-none : length (l .fields) ≤ i → false ≡ both (ltb i (length (l .fields))) (not (writable ((wanted l i) .status)))
   locked-none h = rw (le-ltb i (length (l .fields)) h)

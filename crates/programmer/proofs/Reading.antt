@@ -79,9 +79,13 @@ pub no-head : (s : List ℕ) → recordAt s ≡ cut → isCodes (recordAt s) ≡
 unfolding isCodes
 no-head s e = rw e
 
+some : (k : ℕ) → (k ≡ 0 → ⊥) → 1 ≤ k
+some zero w = absurd (w refl)
+some (suc k) w = omega arith
+
 module _ (s : List ℕ) (at kind start n next : ℕ) (h : RecordLies s at kind start n next) where
-  field-is : isField (recordAt (drop at s)) ≡ both (eqb kind 0x21) (leb 128 (arg (part s start n) 0))
-  unfolding isField exists
+  field-is : isField (recordAt (drop at s)) ≡ both (eqb kind 0x21) (exists (arg (part s start n) 0))
+  unfolding isField
   field-is = rw (h .record-is)
 
   first-byte : 1 ≤ n → arg (part s start n) 0 ≡ getD s start 0
@@ -91,32 +95,24 @@ module _ (s : List ℕ) (at kind start n next : ℕ) (h : RecordLies s at kind s
   other-kind e = field-is ∙ rw (ne-eqb kind 0x21 e)
 
   pub no-body : kind ≡ 0x21 → n ≡ 0 → isField (recordAt (drop at s)) ≡ false
-  unfolding part
+  unfolding part exists
   no-body e z = field-is ∙ rw (e, z)
 
-  pub no-bit : kind ≡ 0x21 → (n ≡ 0 → ⊥) → getD s start 0 < 128 → isField (recordAt (drop at s)) ≡ false
-  no-bit e z l = field-is ∙ rw (e, first-byte (omega (arith, some n z)), lt-leb 128 (getD s start 0) l)
-    where
-      some : (k : ℕ) → (k ≡ 0 → ⊥) → 1 ≤ k
-      some zero w = absurd (w refl)
-      some (suc k) w = omega arith
+  pub no-bit : kind ≡ 0x21 → (n ≡ 0 → ⊥) → exists (getD s start 0) ≡ false → isField (recordAt (drop at s)) ≡ false
+  no-bit e z x = field-is ∙ rw (e, first-byte (some n z), x)
 
-  pub lies-field : kind ≡ 0x21 → (n ≡ 0 → ⊥) → 128 ≤ getD s start 0 → FieldLies s at start n next
+  pub lies-field : kind ≡ 0x21 → (n ≡ 0 → ⊥) → exists (getD s start 0) ≡ true → FieldLies s at start n next
   unfolding bodyOf
-  lies-field e z l =
+  lies-field e z x =
       let o : 1 ≤ n = some n z in
       record {
-        is = field-is ∙ rw (e, first-byte o, le-leb 128 (getD s start 0) l);
+        is = field-is ∙ rw (e, first-byte o, x);
         body = rw (h .record-is);
         some = o;
         inside = h .inside;
         past = h .past;
         onward = h .onward;
       }
-    where
-      some : (k : ℕ) → (k ≡ 0 → ⊥) → 1 ≤ k
-      some zero w = absurd (w refl)
-      some (suc k) w = omega arith
 
 pub cut-field : (s : List ℕ) (at : ℕ) → recordAt (drop at s) ≡ cut → isField (recordAt (drop at s)) ≡ false
 unfolding isField

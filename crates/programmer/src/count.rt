@@ -33,7 +33,7 @@ pub struct Counts {
 fn cost(status: u8) -> usize
     ensures { λ r. ⌜ (r ≡ 3 + pick (writable status) 0 1) × (r ≤ 4) ⌝ }
 {
-    if status / 64 % 2 == 1 {
+    if wire::is_writable(status) {
         return 3;
     }
     4

@@ -36,7 +36,7 @@ fn is_read_only(tape: &[u8], field: u8) -> bool
             status,
             start: _,
             count: _,
-        } => status / 64 % 2 != 1,
+        } => !wire::is_writable(status),
         Wanted::Nothing => false,
     }
 }

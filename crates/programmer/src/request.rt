@@ -44,14 +44,14 @@ pub fn wanted(tape: &[u8], field: u8) -> Piece
 fn code_for(tape: &[u8], status: u8) -> u8
     ensures { λ r. ⌜ r ≡ codeFor (wishOf (now (tape .entry))) status ⌝ }
 {
-    wire::byte_at(tape, 4 + status as usize / 16 % 4)
+    wire::byte_at(tape, 4 + wire::code_number(status) as usize)
 }
 
 // "Read-only fields are created write-enabled".
 fn enabled(status: u8) -> u8
     ensures { λ r. ⌜ r ≡ steps.enabled status ⌝ }
 {
-    if status / 64 % 2 == 1 {
+    if wire::is_writable(status) {
         return status;
     }
     status + 64
@@ -108,7 +108,13 @@ pub fn ask(address: u32, tape: &[u8], step: Step, buffer: &mut [u8]) -> Written
         Step::Count => bench::write_request(address, 0x4E, &tape[..0], buffer),
         Step::Look { field } => look(address, field, buffer),
         Step::Remove { field, status } => {
-            shape(address, field, status % 128, code_for(tape, status), buffer)
+            shape(
+                address,
+                field,
+                wire::attributes_in(status),
+                code_for(tape, status),
+                buffer,
+            )
         }
         Step::Create { field } => {
             let status = wanted(tape, field).status;

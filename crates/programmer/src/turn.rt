@@ -45,7 +45,7 @@ fn locking(tape: &[u8], field: u8) -> Standing
     ensures { λ r. ⌜ r ≡ steps.locking (wishOf (now (tape .entry))) field ⌝ }
 {
     let piece = wanted(tape, field);
-    if piece.status / 64 % 2 == 1 {
+    if wire::is_writable(piece.status) {
         return making(tape, field as usize + 1);
     }
     Standing::At(Step::Lock { field })

@@ -105,7 +105,7 @@ pub(crate) fn field_here(tape: &[u8], at: usize) -> Here
     if length == 0 {
         return Here::Nothing;
     }
-    if tape[start] < 128 {
+    if !wire::has_field(tape[start]) {
         return Here::Nothing;
     }
     Here::Field {
@@ -118,7 +118,7 @@ pub(crate) fn field_here(tape: &[u8], at: usize) -> Here
 fn size_of(status: u8) -> usize
     ensures { λ r. ⌜ r ≡ bytesOf (blocks status) ⌝ }
 {
-    16 * (status as usize % 8 + 1)
+    16 * (wire::blocks_in(status) as usize)
 }
 
 // ".. then exactly its bytes)".

@@ -1,10 +1,11 @@
-// What board and bench share of the wire: the frame of 000, 2.3.3, its bytes and numbers, the error codes, the table of the commands, and what a command comes to.
+// What board and bench share of the wire: the frame of 000, 2.3.3, its bytes and numbers, the error codes, the status byte, the table of the commands, and what a command comes to.
 mod address;
 mod answer;
 mod bytes;
 pub mod codes;
 mod framing;
 mod number;
+mod status;
 mod sum;
 mod table;
 
@@ -20,6 +21,11 @@ pub use framing::seal;
 pub use framing::write;
 pub use number::bytes_of;
 pub use number::number_at;
+pub use status::attributes_in;
+pub use status::blocks_in;
+pub use status::code_number;
+pub use status::has_field;
+pub use status::is_writable;
 pub use sum::xor_of;
 pub use table::Length;
 pub use table::Row;

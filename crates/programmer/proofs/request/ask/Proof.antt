@@ -10,12 +10,13 @@ use Rattle.programmer.proofs.request.ask.Reads as reads
 use Rattle.programmer.proofs.request.ask.Lts as lts
 use Rattle.bench.proofs.write_request.Reads as write-request-reads
 use Rattle.programmer.proofs.request.code_for.Reads as code-for-reads
+use Rattle.programmer.proofs.request.enabled.Reads as enabled-reads
 use Rattle.programmer.proofs.request.fetch.Reads as fetch-reads
 use Rattle.programmer.proofs.request.look.Reads as look-reads
-use Rattle.programmer.proofs.request.enabled.Reads as enabled-reads
 use Rattle.programmer.proofs.request.shape.Reads as shape-reads
 use Rattle.programmer.proofs.request.store.Reads as store-reads
 use Rattle.programmer.proofs.request.wanted.Reads as wanted-reads
+use Rattle.wire.proofs.attributes_in.Reads as attributes-in-reads
 
 enum-told : tie.Need-enum-told
 enum-told c = search needs
@@ -34,6 +35,9 @@ look-requires c κs = search needs
 
 enum-known-step-2 : tie.Need-enum-known-step-2
 enum-known-step-2 c = search needs
+
+attributes-in-requires : tie.Need-attributes-in-requires
+attributes-in-requires c κs = search needs
 
 code-for-requires : tie.Need-code-for-requires
 code-for-requires c κs = search needs
@@ -100,8 +104,10 @@ same-length-3 c = search needs
 returns-3 : tie.Need-returns-3
 unfolding due
 returns-3 c =
-    let a = c .before .before .before .before .before .before .before .before .before .before .args in
-    writes-due _ _ _ _ _ _ _ _ (c .before .before .before .before .before .before .step2 .given .1) (c .before .before .shape .ensures) refl (remove-body (wishOf (a .tape .now)) _ _ _ (c .before .before .before .before .code-for .ensures))
+    let a = c .before .before .before .before .before .before .before .before .before .before .before .args in
+    let coded = c .before .before .before .before in
+    writes-due _ _ _ _ _ _ _ _ (coded .before .before .before .step2 .given .1) (c .before .before .shape .ensures) refl
+    (remove-body (wishOf (a .tape .now)) _ _ _ _ (coded .before .attributes-in .ensures) (coded .code-for .ensures))
 
 same-length-4 : tie.Need-same-length-4
 same-length-4 c = search needs
@@ -145,6 +151,7 @@ ask-spec =
     enum-known-step
     look-requires
     enum-known-step-2
+    attributes-in-requires
     code-for-requires
     shape-requires
     enum-known-step-3

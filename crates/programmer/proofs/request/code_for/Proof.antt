@@ -7,6 +7,13 @@ use Rattle.programmer.proofs.request.code_for.Tie as tie
 use Rattle.programmer.proofs.request.code_for.Reads as reads
 use Rattle.programmer.proofs.request.code_for.Lts as lts
 use Rattle.wire.proofs.byte_at.Reads as byte-at-reads
+use Rattle.wire.proofs.code_number.Reads as code-number-reads
+
+code-number-requires : tie.Need-code-number-requires
+code-number-requires c κs = search needs
+
+cast-byte-at : tie.Need-cast-byte-at
+cast-byte-at c = search needs
 
 add-byte-at : tie.Need-add-byte-at
 add-byte-at c = search needs
@@ -15,7 +22,8 @@ byte-at-requires : tie.Need-byte-at-requires
 byte-at-requires c κs = search needs
 
 returns : tie.Need-returns
-returns c = c .byte-at .ensures ∙ code-is (c .before .before .args .tape .now) (c .before .before .args .status)
+returns c = c .byte-at .ensures ∙ code-is _ _ _ (c .before .code-number .ensures .0) (c .before .code-number .ensures .1)
 
 pub code-for-spec : {M : Type 1} → statement M
-code-for-spec = tie.close (tie.spec add-byte-at byte-at-requires returns)
+code-for-spec =
+    tie.close (tie.spec code-number-requires cast-byte-at add-byte-at byte-at-requires returns)

@@ -1,8 +1,8 @@
--- `fields::status::blocks_in` meets its contract. Assumes nothing.
+-- `wire::status::blocks_in` meets its contract. Assumes nothing.
 use borrow.Author.Needs.{needs}
 use Rattle.meaning.specs.Fields.{blocks}
-use Rattle.fields.proofs.status.blocks_in.Statement.{statement}
-use Rattle.fields.proofs.status.blocks_in.Tie as tie
+use Rattle.wire.proofs.status.blocks_in.Statement.{statement}
+use Rattle.wire.proofs.status.blocks_in.Tie as tie
 
 add-result : tie.Need-add-result
 add-result c = search needs

@@ -1,8 +1,8 @@
--- `fields::status::is_writable` meets its contract. Assumes nothing.
+-- `wire::status::is_writable` meets its contract. Assumes nothing.
 use borrow.Author.Needs.{needs}
 use Rattle.meaning.specs.Fields.{writable}
-use Rattle.fields.proofs.status.is_writable.Statement.{statement}
-use Rattle.fields.proofs.status.is_writable.Tie as tie
+use Rattle.wire.proofs.status.is_writable.Statement.{statement}
+use Rattle.wire.proofs.status.is_writable.Tie as tie
 
 returns : tie.Need-returns
 unfolding writable

@@ -1,8 +1,8 @@
--- `fields::status::attributes_in` meets its contract. Assumes nothing.
+-- `wire::status::attributes_in` meets its contract. Assumes nothing.
 use borrow.Author.Needs.{needs}
 use Rattle.meaning.specs.Fields.{attributes}
-use Rattle.fields.proofs.status.attributes_in.Statement.{statement}
-use Rattle.fields.proofs.status.attributes_in.Tie as tie
+use Rattle.wire.proofs.status.attributes_in.Statement.{statement}
+use Rattle.wire.proofs.status.attributes_in.Tie as tie
 
 returns : tie.Need-returns
 unfolding attributes

@@ -1,8 +1,8 @@
--- `fields::status::has_field` meets its contract. Assumes nothing.
+-- `wire::status::has_field` meets its contract. Assumes nothing.
 use borrow.Author.Needs.{needs}
 use Rattle.meaning.specs.Fields.{exists}
-use Rattle.fields.proofs.status.has_field.Statement.{statement}
-use Rattle.fields.proofs.status.has_field.Tie as tie
+use Rattle.wire.proofs.status.has_field.Statement.{statement}
+use Rattle.wire.proofs.status.has_field.Tie as tie
 
 returns : tie.Need-returns
 unfolding exists
