@@ -5,10 +5,10 @@ use mathlib.Core.Bool.{Bool, true, false}
 use mathlib.Core.List.{List, [], _∷_}
 use native.Mathlib.Omega.{arith}
 use native.Mathlib.Decide.{decLt}
-use lib.Dec.{eqb, leb, ltb}
+use lib.Dec.{eqb, ltb}
 use lib.ListN.{length, getD, take, drop, length-drop, drop-of-length-le}
 use lib.Seq.{drop-drop, drop-cons, getD-drop, take-nil}
-use borrow.Author.Tests.{ltb-true, eqb-true, ne-eqb, le-leb, lt-leb}
+use borrow.Author.Tests.{ltb-true, eqb-true, ne-eqb}
 use Rattle.meaning.specs.Bytes.{pick, both, arg, part, little}
 use Rattle.meaning.specs.Fields.{bytesOf, blocks, exists}
 use Rattle.records.specs.Records.{cut, lengthAt, wholeLength, recordAt}
