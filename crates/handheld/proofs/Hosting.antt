@@ -29,6 +29,7 @@ use Rattle.programmer.specs.declared.step.Standing.the-variants.{At, Done, Fail
 use Rattle.programmer.specs.declared.wish.Checked.the-variants.{Good, BadRecord, WrongSize}
 use Rattle.programmer.proofs.Allowed.{due-allowed}
 use Rattle.programmer.proofs.Counting.{few-present, progress-few}
+use Rattle.programmer.proofs.Leading.{making-by, clearing-by, locking-by}
 use Rattle.programmer.proofs.Replies.{data-byte, Few, few-checks, stands-after, stays-possible}
 use Rattle.programmer.proofs.Whole.{good-is-whole}
 use Rattle.handheld.specs.Numbers.{fieldPart, statusPart, numberPart, standingBytes, runNumber, runIn}
@@ -45,28 +46,10 @@ Told (Failed st w) = (statusPart st < 256) × (numberPart w < 256)
 
 module _ (l : Wish) where
   making-told : (i : ℕ) → Told (making l i)
-  unfolding making
-  making-told i = go (ltb i (length (l .fields)))
-    where
-      go : (q : Bool) → Told (pick q (At (Create i)) Done)
-      go true = omega arith
-      go false = tt
+  making-told = making-by l Told (λ i. omega arith) tt
 
   clearing-told : (k : ℕ) → Told (clearing l k)
-  unfolding clearing
-  clearing-told k = go (eqb k 0)
-    where
-      go : (q : Bool) → Told (pick q (making l 0) (At (Look (k - 1))))
-      go true = making-told 0
-      go false = omega arith
-
-  locking-told : (i : ℕ) → Told (locking l i)
-  unfolding locking
-  locking-told i = go (writable ((wanted l i) .status))
-    where
-      go : (q : Bool) → Told (pick q (making l (i + 1)) (At (Lock i)))
-      go true = making-told (i + 1)
-      go false = omega arith
+  clearing-told = clearing-by l Told (λ i. omega arith) tt (λ k. omega arith)
 
   onto-told : (st : Step) (d : List ℕ) → arg d 1 < 256 → Told (onto l st d)
   unfolding onto
@@ -78,7 +61,7 @@ module _ (l : Wish) where
   onto-told (Read i) d h = go (same (drop 3 d) ((wanted l i) .bytes))
     where
       go : (q : Bool) → Told (pick q (locking l i) (Failed (Read i) Differs))
-      go true = locking-told i
+      go true = locking-by l Told (λ j. omega arith) tt i (omega arith)
       go false = (omega arith, omega arith)
   onto-told (Lock i) d h = making-told (i + 1)
 

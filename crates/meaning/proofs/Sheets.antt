@@ -16,7 +16,7 @@ use Rattle.meaning.proofs.Computed.{sheet-holds}
 use Rattle.meaning.proofs.Lines.{heard-whole, rests-same}
 use Rattle.meaning.proofs.Rests.{work-rests}
 
-same-eq : (x y : List ℕ) → T (same x y) → x ≡ y
+pub same-eq : (x y : List ℕ) → T (same x y) → x ≡ y
 unfolding same
 same-eq [] [] h = refl
 same-eq [] (b ∷ y) h = absurd h

@@ -5,6 +5,7 @@ pub mod Hearing
 pub mod Counting
 pub mod Whole
 pub mod Replies
+pub mod Leading
 pub mod ReadBack
 pub mod Allowed
 pub mod Worked

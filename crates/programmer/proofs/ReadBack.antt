@@ -1,18 +1,18 @@
 -- Done is reached only over bytes that were read back as wanted; a deletion comes after its status, a lock after its bytes. Assumes nothing.
 use Prim.Native.Nat.{ℕ, suc, _+_, _-_, _≤_, _<_}
-use mathlib.Core.Path.{_≡_, refl, sym, ap, _∙_, subst}
+use mathlib.Core.Path.{_≡_, refl, sym, subst}
 use mathlib.Core.Logic.{_⊎_, inl, inr}
 use mathlib.Core.Bool.{Bool, true, false, not}
 use mathlib.Core.List.{List, [], _∷_}
 use native.Mathlib.Omega.{arith}
 use native.Mathlib.Nat.{not-suc-le-zero}
 use native.Mathlib.Decide.{decLt}
-use lib.Dec.{T, eqb, ltb, eqb→eq, nltb→le}
+use lib.Dec.{T, eqb, ltb, nltb→le}
 use lib.ListN.{length, drop}
 use Rattle.meaning.specs.Bytes.{pick, arg, same}
 use Rattle.meaning.specs.Fields.{writable}
 use Rattle.meaning.specs.Bench.{Verdict, refusal, done, failed, judge}
-use Rattle.meaning.proofs.Steps.{both-0, both-1}
+use Rattle.meaning.proofs.Sheets.{same-eq}
 use Rattle.programmer.specs.Wishes.{Wish, wanted}
 use Rattle.programmer.specs.Steps.{making, clearing, locking, onto, onVerdict, bytesDue, afterReply}
 use Rattle.programmer.specs.Promises.{afterReplies, Brings, Brought, DoneReadBack, TellsStatus, ReadBeforeDeleted, ReadBeforeLocked}
@@ -21,15 +21,8 @@ use Rattle.programmer.specs.declared.step.Step.the-variants.{Count, Look
 use Rattle.programmer.specs.declared.step.Why.the-variants.{Differs}
 use Rattle.programmer.specs.declared.step.Standing.{Standing}
 use Rattle.programmer.specs.declared.step.Standing.the-variants.{At, Done, Failed}
+use Rattle.programmer.proofs.Leading.{making-by, clearing-by, locking-by}
 use Rattle.programmer.proofs.Replies.{stands-after}
-
-same-is : (xs ys : List ℕ) → T (same xs ys) → xs ≡ ys
-unfolding same
-same-is [] [] h = refl
-same-is [] (y ∷ ys) h = absurd h
-same-is (x ∷ xs) [] h = absurd h
-same-is (x ∷ xs) (y ∷ ys) h =
-    ap (λ (z : ℕ). z ∷ xs) (eqb→eq x y (both-0 (eqb x y) (same xs ys) h)) ∙ ap (λ (zs : List ℕ). y ∷ zs) (same-is xs ys (both-1 (eqb x y) (same xs ys) h))
 
 module _ (n : ℕ) (l : Wish) where
   abbrev now : List (List ℕ) → Standing
@@ -84,7 +77,7 @@ module _ (n : ℕ) (l : Wish) where
     good (Remove k st) d w e v i h = absurd (omega (arith, clearing-passed k))
     good (Create j) d w e v i h = inr h
     good (Store j) d w e v i h = inr h
-    good (Read j) d w e v i h = go (same (drop 3 d) ((wanted l j) .bytes)) (same-is (drop 3 d) ((wanted l j) .bytes)) h
+    good (Read j) d w e v i h = go (same (drop 3 d) ((wanted l j) .bytes)) (same-eq (drop 3 d) ((wanted l j) .bytes)) h
       where
         here : drop 3 d ≡ (wanted l j) .bytes → i ≡ j → Brings n l rs r i
         here s k = subst (λ (x : ℕ). Brings n l rs r x) (sym k) (brings j d w e v s)
@@ -124,28 +117,10 @@ module _ (n : ℕ) (l : Wish) where
     Says (Failed st w) = Unit
 
     making-says : (i : ℕ) → Says (making l i)
-    unfolding making
-    making-says i = go (ltb i (length (l .fields)))
-      where
-        go : (q : Bool) → Says (pick q (At (Create i)) Done)
-        go true = tt
-        go false = tt
+    making-says = making-by l Says (λ i. tt) tt
 
     clearing-says : (k : ℕ) → Says (clearing l k)
-    unfolding clearing
-    clearing-says k = go (eqb k 0)
-      where
-        go : (q : Bool) → Says (pick q (making l 0) (At (Look (k - 1))))
-        go true = making-says 0
-        go false = tt
-
-    locking-says : (i : ℕ) → Brings n l rs r i → Says (locking l i)
-    unfolding locking
-    locking-says i b = go (writable ((wanted l i) .status))
-      where
-        go : (q : Bool) → Says (pick q (making l (i + 1)) (At (Lock i)))
-        go true = making-says (i + 1)
-        go false = b
+    clearing-says = clearing-by l Says (λ i. tt) tt (λ k. tt)
 
     onto-says : (st : Step) (w : Bool) (d : List ℕ) → now rs ≡ At st → judge (bytesDue n l (At st)) r ≡ done w d → Says (onto l st d)
     unfolding onto
@@ -154,10 +129,10 @@ module _ (n : ℕ) (l : Wish) where
     onto-says (Remove k st) w d e v = clearing-says k
     onto-says (Create i) w d e v = tt
     onto-says (Store i) w d e v = tt
-    onto-says (Read i) w d e v = go (same (drop 3 d) ((wanted l i) .bytes)) (same-is (drop 3 d) ((wanted l i) .bytes))
+    onto-says (Read i) w d e v = go (same (drop 3 d) ((wanted l i) .bytes)) (same-eq (drop 3 d) ((wanted l i) .bytes))
       where
         go : (q : Bool) → (T q → drop 3 d ≡ (wanted l i) .bytes) → Says (pick q (locking l i) (Failed (Read i) Differs))
-        go true s = locking-says i (brings i d w e v (s tt))
+        go true s = locking-by l Says (λ j. tt) tt i (brings i d w e v (s tt))
         go false s = tt
     onto-says (Lock i) w d e v = making-says (i + 1)
 

@@ -98,6 +98,6 @@ canStand l n (At st) = reachable l n st
 canStand l n Done = true
 canStand l n (Failed st w) = both (failsBy st w) (reachable l n st)
 
--- R1: a programmer that some run of this wish could have left
+-- R1: a programmer that can stand so in a run of this wish, each of B0 to B6 being taken for a reason why it ended
 unfoldable pub isPossible : Wish → Programmer → Bool
 isPossible l x = both (addressOk (x .address)) (both (leb (x .present) 255) (canStand l (x .present) (x .standing)))

@@ -1,6 +1,6 @@
 -- What the board answers to the programmer's requests, its memory being laid. Assumes nothing.
 use Prim.Native.Nat.{ℕ, suc, _+_, _-_, _*_, _≤_, _<_}
-use mathlib.Core.Path.{_≡_, sym}
+use mathlib.Core.Path.{_≡_, sym, _∙_}
 use mathlib.Core.Bool.{Bool, true, false, not}
 use mathlib.Core.List.{List, [], _∷_}
 use native.Mathlib.Omega.{arith}
@@ -11,38 +11,24 @@ use Rattle.meaning.specs.State.{Plate, State, code}
 use Rattle.meaning.specs.Fields.{blocks, coded, codeNo, writable, exists, attributes, table, fieldCount, used, sound, freeBlocks, statusAt, survey, clear, putStatus}
 use Rattle.meaning.specs.Commands.{c4A, c4B, c4C, c4D, c4E, Answer, accept, error, choose, wrongCode, onField, readField, storeField, fieldStatus, create, resize, modify, delete, shapeField, freeByte, memoryStatus, worked}
 use Rattle.meaning.proofs.Cases.{eq→eqb}
+use Rattle.meaning.proofs.Room.{pass, take-yes, take-no, yes-not, no-differ}
 use Rattle.meaning.proofs.Tables.{blocks-pos}
+use Rattle.meaning.proofs.Wire.{not-below}
 use Rattle.shop.proofs.Laid.{Laid, laid-count, laid-used, laid-status, laid-first, laid-sound}
 
--- a chain of checks, passed one by one
-pub pass : (e : ℕ) (q : Bool) (a b : Answer) → T (not q) → a ≡ b → error e q a ≡ b
-unfolding error
-pass e true a b h k = absurd h
-pass e false a b h k = k
+-- a chain of checks, passed one by one (meaning, `pass`, `take-yes`, `take-no`)
+pub passing : (e : ℕ) (q : Bool) (a b : Answer) → T (not q) → a ≡ b → error e q a ≡ b
+passing e q a b h k = pass e q a h ∙ k
 
 pub choose-yes : (q : Bool) (a b c : Answer) → T q → a ≡ c → choose q a b ≡ c
-unfolding choose
-choose-yes true a b c h k = k
-choose-yes false a b c h k = absurd h
+choose-yes q a b c h k = take-yes q a b h ∙ k
 
 pub choose-no : (q : Bool) (a b c : Answer) → T (not q) → b ≡ c → choose q a b ≡ c
-unfolding choose
-choose-no true a b c h k = absurd h
-choose-no false a b c h k = k
+choose-no q a b c h k = take-no q a b h ∙ k
 
 -- tests from facts
-not-not : (q : Bool) → T q → T (not (not q))
-not-not true h = tt
-not-not false h = h
-
-agree : (a b : ℕ) → a ≡ b → T (not (differ a b))
-agree a b e = not-not (eqb a b) (eq→eqb a b e)
-
 not-le : (a b : ℕ) → b < a → T (not (leb a b))
 not-le a b h = not-T (leb a b) (λ k. absurd (omega (arith, leb→le a b k, h)))
-
-not-lt : (a b : ℕ) → b ≤ a → T (not (ltb a b))
-not-lt a b h = not-T (ltb a b) (λ k. absurd (omega (arith, ltb→lt a b k, h)))
 
 not-eq : (a b : ℕ) → a < b → T (not (eqb a b))
 not-eq a b h = not-T (eqb a b) (λ k. absurd (omega (arith, eqb→eq a b k, h)))
@@ -68,23 +54,23 @@ module _ (p : Plate) (s : State) (m sts : List ℕ) (I : Laid (p .total) m sts) 
   t = p .total
 
   trusts : T (not (not (sound t (table t m))))
-  trusts = not-not (sound t (table t m)) (laid-sound t m sts I)
+  trusts = yes-not (sound t (table t m)) (laid-sound t m sts I)
 
   -- 4Eh
   pub told-count : worked c4E p s m [] ≡ accept ((t - used sts) ∷ length sts ∷ []) s m
   unfolding worked memoryStatus survey freeBlocks freeByte
-  told-count = pass _ _ _ _ trusts (rw (laid-used t m sts I, laid-count t m sts I))
+  told-count = passing _ _ _ _ trusts (rw (laid-used t m sts I, laid-count t m sts I))
 
   -- 4Ch of a field present
   pub told-status : (k : ℕ) → k < length sts → worked c4C p s m (k ∷ []) ≡ accept (k ∷ getD sts k 0 ∷ []) s m
   unfolding worked fieldStatus onField survey
-  told-status k l = pass _ _ _ _ trusts
-      (pass _ _ _ _ (not-le (fieldCount (table t m)) k (rw (laid-count t m sts I) l)) (rw (laid-status t m sts I k l)))
+  told-status k l = passing _ _ _ _ trusts
+      (passing _ _ _ _ (not-le (fieldCount (table t m)) k (rw (laid-count t m sts I) l)) (rw (laid-status t m sts I k l)))
 
   module _ (c : ℕ) where
     right-code : (st : ℕ) → c ≡ getD (s .codes) (codeNo st) 0 → T (not (wrongCode s st c))
     unfolding wrongCode code
-    right-code st e = agree c (getD (s .codes) (codeNo st) 0) e
+    right-code st e = no-differ c (getD (s .codes) (codeNo st) 0) e
 
     -- 4Dh that deletes the last field
     pub deleted : (k : ℕ) → suc k ≡ length sts → c ≡ getD (s .codes) (codeNo (getD sts k 0)) 0
@@ -92,11 +78,11 @@ module _ (p : Plate) (s : State) (m sts : List ℕ) (I : Laid (p .total) m sts) 
     unfolding worked shapeField delete survey exists attributes
     deleted k last e =
         let st : statusAt (table t m) k ≡ getD sts k 0 = laid-status t m sts I k (omega arith) in
-        pass _ _ _ _ trusts (choose-no _ _ _ _ (not-le 128 (attributes (getD sts k 0)) (omega arith))
+        passing _ _ _ _ trusts (choose-no _ _ _ _ (not-le 128 (attributes (getD sts k 0)) (omega arith))
         (choose-yes _ _ _ _ (lt→ltb k (fieldCount (table t m)) (rw (laid-count t m sts I) (omega arith)))
-        (pass _ _ _ _ (right-code (statusAt (table t m) k) (rw st e))
-        (pass _ _ _ _ (agree (attributes (attributes (getD sts k 0))) (attributes (statusAt (table t m) k)) (rw st (omega arith)))
-        (pass _ _ _ _ (agree (k + 1) (fieldCount (table t m)) (rw (laid-count t m sts I) (omega arith)))
+        (passing _ _ _ _ (right-code (statusAt (table t m) k) (rw st e))
+        (passing _ _ _ _ (no-differ (attributes (attributes (getD sts k 0))) (attributes (statusAt (table t m) k)) (rw st (omega arith)))
+        (passing _ _ _ _ (no-differ (k + 1) (fieldCount (table t m)) (rw (laid-count t m sts I) (omega arith)))
         (rw (st, laid-first t m sts I k (omega arith))))))))
 
     -- 4Dh that creates the next
@@ -105,10 +91,10 @@ module _ (p : Plate) (s : State) (m sts : List ℕ) (I : Laid (p .total) m sts) 
     unfolding worked shapeField create survey freeBlocks
     made st ex room e =
         let u : t - (t - used (table t m)) ≡ used sts = rw (laid-used t m sts I) (omega (arith, I .fit)) in
-        pass _ _ _ _ trusts (choose-yes _ _ _ _ ex
+        passing _ _ _ _ trusts (choose-yes _ _ _ _ ex
         (choose-yes _ _ _ _ (eq→eqb (length sts) (fieldCount (table t m)) (sym (laid-count t m sts I)))
-        (pass _ _ _ _ (right-code st e)
-        (pass _ _ _ _ (not-lt (t - used (table t m)) (blocks st) (rw (laid-used t m sts I) (omega arith)))
+        (passing _ _ _ _ (right-code st e)
+        (passing _ _ _ _ (not-below (t - used (table t m)) (blocks st) (rw (laid-used t m sts I) (omega arith)))
         (rw u)))))
 
     -- 4Dh that changes a status, the size staying
@@ -117,12 +103,12 @@ module _ (p : Plate) (s : State) (m sts : List ℕ) (I : Laid (p .total) m sts) 
     unfolding worked shapeField modify survey freeBlocks
     changed f st l ex same e =
         let old : statusAt (table t m) f ≡ getD sts f 0 = laid-status t m sts I f l in
-        pass _ _ _ _ trusts (choose-yes _ _ _ _ ex
+        passing _ _ _ _ trusts (choose-yes _ _ _ _ ex
         (choose-no _ _ _ _ (not-eq f (fieldCount (table t m)) (rw (laid-count t m sts I) l))
         (choose-yes _ _ _ _ (lt→ltb f (fieldCount (table t m)) (rw (laid-count t m sts I) l))
-        (pass _ _ _ _ (right-code (statusAt (table t m) f) (rw old e))
-        (pass _ _ _ _ (not-both-0 (differ (blocks st) (blocks (statusAt (table t m) f))) (differ (f + 1) (fieldCount (table t m))) (agree (blocks st) (blocks (statusAt (table t m) f)) (rw old same)))
-        (pass _ _ _ _ (not-lt (blocks (statusAt (table t m) f) + (t - used (table t m))) (blocks st) (rw old (omega arith)))
+        (passing _ _ _ _ (right-code (statusAt (table t m) f) (rw old e))
+        (passing _ _ _ _ (not-both-0 (differ (blocks st) (blocks (statusAt (table t m) f))) (differ (f + 1) (fieldCount (table t m))) (no-differ (blocks st) (blocks (statusAt (table t m) f)) (rw old same)))
+        (passing _ _ _ _ (not-below (blocks (statusAt (table t m) f) + (t - used (table t m))) (blocks st) (rw old (omega arith)))
         (rw (old, laid-first t m sts I f (omega arith)))))))))
 
     module _ (f : ℕ) (l : f < length sts) (e : c ≡ getD (s .codes) (codeNo (getD sts f 0)) 0) (bs : List ℕ) (whole : length bs ≡ 16 * blocks (getD sts f 0)) where
@@ -136,25 +122,25 @@ module _ (p : Plate) (s : State) (m sts : List ℕ) (I : Laid (p .total) m sts) 
       may = not-both (coded (statusAt (table t m) f)) (wrongCode s (statusAt (table t m) f) c) (right-code (statusAt (table t m) f) (rw old e))
 
       within : T (not (ltb (16 * blocks (statusAt (table t m) f)) (0 + length bs)))
-      within = not-lt (16 * blocks (statusAt (table t m) f)) (0 + length bs) (rw old (omega arith))
+      within = not-below (16 * blocks (statusAt (table t m) f)) (0 + length bs) (rw old (omega arith))
 
       -- 4Bh of the whole field
       pub stored : T (writable (getD sts f 0)) → worked c4B p s m (f ∷ 0 ∷ length bs ∷ c ∷ bs) ≡ accept (f ∷ 0 ∷ length bs ∷ []) s (put m (16 * used (take f sts)) bs)
       unfolding worked storeField onField survey
       stored w =
           let a : 16 * used (take f (table t m)) + 0 ≡ 16 * used (take f sts) = rw (laid-first t m sts I f (omega arith)) (omega arith) in
-          pass _ _ _ _ trusts (pass _ _ _ _ there (pass _ _ _ _ may
-          (pass _ _ _ _ (not-not (writable (statusAt (table t m) f)) (rw old w))
-          (pass _ _ _ _ within (rw a)))))
+          passing _ _ _ _ trusts (passing _ _ _ _ there (passing _ _ _ _ may
+          (passing _ _ _ _ (yes-not (writable (statusAt (table t m) f)) (rw old w))
+          (passing _ _ _ _ within (rw a)))))
 
       -- 4Ah of the whole field
       pub brought : worked c4A p s m (f ∷ 0 ∷ length bs ∷ c ∷ []) ≡ accept (f ∷ 0 ∷ length bs ∷ part m (16 * used (take f sts)) (length bs)) s m
       unfolding worked readField onField survey
       brought =
           let a : 16 * used (take f (table t m)) + 0 ≡ 16 * used (take f sts) = rw (laid-first t m sts I f (omega arith)) (omega arith) in
-          pass _ _ _ _ trusts (pass _ _ _ _ there (pass _ _ _ _ may
-          (pass _ _ _ _ (neither (eqb (length bs) 0) (ltb 128 (length bs)) (nonzero (length bs) some) (not-lt 128 (length bs) few))
-          (pass _ _ _ _ within (rw a)))))
+          passing _ _ _ _ trusts (passing _ _ _ _ there (passing _ _ _ _ may
+          (passing _ _ _ _ (neither (eqb (length bs) 0) (ltb 128 (length bs)) (nonzero (length bs) some) (not-below 128 (length bs) few))
+          (passing _ _ _ _ within (rw a)))))
         where
           some : 0 < length bs
           some = omega (arith, blocks-pos (getD sts f 0))

@@ -17,7 +17,7 @@ use Rattle.meaning.specs.Bench.{inRange, allowed, addressOk, addressFor, reques
 use Rattle.meaning.specs.Frames.{outcome}
 use Rattle.meaning.specs.Demands.{meant, concluded}
 use Rattle.meaning.proofs.Choices.{told-true}
-use Rattle.meaning.proofs.Wire.{verdict-follows}
+use Rattle.meaning.proofs.Wire.{verdict-follows, same-refl}
 use Rattle.meaning.proofs.Puts.{put-in, part-put, getD-zeros}
 use Rattle.meaning.proofs.Tables.{used-nil, used-before, used-snoc, count-le, blocks-pos}
 use Rattle.programmer.specs.Wishes.{Field, Wish, noField, wanted, codeFor}
@@ -32,11 +32,6 @@ use Rattle.programmer.proofs.Allowed.{fits-at, may-store, may-read}
 use Rattle.shop.proofs.Laid.{Laid, laid-count, laid-first, laid-sound, laid-of, laid-gone, laid-made, made-low, laid-stored, stored-low, laid-set, relaid-data}
 use Rattle.shop.proofs.Answers.{told-count, told-status, deleted, made, changed, stored, brought, blocks-few}
 use Rattle.shop.proofs.Kept.{statuses, statuses-length, statuses-at, statuses-snoc, enabled-exists, enabled-blocks, enabled-code, enabled-writable, Kept, kept-none, kept-more}
-
-same-self : (l : List ℕ) → same l l ≡ true
-unfolding same
-same-self [] = refl
-same-self (x ∷ l) = rw (eq-eqb x x refl) (same-self l)
 
 past-end : (sts : List ℕ) (k g : ℕ) → getD (sts ++ zeros k) g 0 ≡ getD sts g 0
 past-end [] k g = getD-zeros k g
@@ -191,7 +186,7 @@ module _ (p : board.Plate) (home : length (p .label) ≡ labelLength) (n : ℕ) 
     reads s e =
         accepted s e (Read i) m₂ (i ∷ 0 ∷ length (f .bytes) ∷ f .bytes) m₂ (I₂ .size) (rw is (may-read i (codeFor l st) (length (f .bytes)) some few))
         (rw is (rw (before, back) at (brought p s m₂ sts₁ I₂ (codeFor l st) i there (code₁ s e) (f .bytes) long₁)))
-        ∙ rw (is, same-self (f .bytes))
+        ∙ rw (is, told-true (same (f .bytes) (f .bytes)) (same-refl (f .bytes)))
 
     low₂ : (j : ℕ) → j < 16 * used sts → getD m₂ j 0 ≡ getD m j 0
     low₂ j h = stored-low t m₁ sts₁ I₁ (16 * used sts) (f .bytes) inside j h ∙ made-low t m sts I (enabled st) (enabled-exists st ex) room₁ j h
