@@ -1,0 +1,374 @@
+/* bench: one request to a board over a serial port, its answer in words; or a survey of all that a board tells. Requests are written and replies judged by the
+ * proved bench of libquicksetter.a. */
+#define _XOPEN_SOURCE 700
+#include "master.h"
+#include "words.h"
+
+#include <inttypes.h>
+#include <stdio.h>
+#include <string.h>
+
+const char *const tool_name = "bench";
+
+static const char HELP[] =
+    "bench PORT [OPTION ..] REQUEST   one request to a board, and its answer in words\n"
+    "bench PORT [OPTION ..] survey    all that a board tells; reads its waiting faults,\n"
+    "                                 which removes them\n"
+    "  read-position              read-counter             memory-status\n"
+    "  set-position N             increment-counter        read-encoder-status\n"
+    "  read-type-label            reset-counter            encoder-reset\n"
+    "  read-version               set-encoder-address N    set-access-code N OLD NEW\n"
+    "  read-field FIELD OFFSET COUNT          or read-data\n"
+    "  store-field FIELD OFFSET BYTES ..      or store-data; bytes in hex, or --text\n"
+    "  field-status FIELD                     or data-field-status\n"
+    "  create-field FIELD STATUS              or create-data-field; changes and deletes too\n"
+    "Codes, statuses and bytes are hex, other numbers decimal or 0x..\n"
+    "  --address N     0 to 31, or all; left out 0\n"
+    "  --code CODE     the access code; left out 55\n"
+    "  --codes CODES   the four for a survey, `55 55 55 55`; left out these\n"
+    "  --text TEXT     the bytes of store-field\n"
+    "  --raw           request and reply as bytes\n"
+    "  --rate BAUD     600 to 38400; left out 9600    --pause N   22 or 55; left out 55\n"
+    "  --patience MS   the adapter delivers up to so late; left out 0\n"
+    "  --echo on|off   it hears what it sends; left out by time, on a pseudo terminal off\n"
+    "  --rs485         the kernel switches the driver\n"
+    "Exit status: 0 done, 1 the board answered with an error code, 2 bad command line,\n"
+    "3 the reply was refused, 4 silence, 5 port fault. A survey: 0 if all was answered\n";
+
+/* ---- options -------------------------------------------------------------------------------------------------------------------------------------------- */
+
+enum { NUMBER_OF_CODES = 4 };
+
+static struct {
+    uint32_t address;
+    uint8_t code;
+    uint8_t codes[NUMBER_OF_CODES];
+    const char *text;
+    bool raw;
+} given = {.code = 0x55, .codes = {0x55, 0x55, 0x55, 0x55}};
+
+static bool take_address(const char *value) {
+    if (strcmp(value, "all") == 0) {
+        given.address = QS_BROADCAST;
+        return true;
+    }
+    return number_in(value, "--address", 0, 31, &given.address);
+}
+
+static bool take_code(const char *value) {
+    return hex_byte_in(value, "--code", &given.code);
+}
+
+static bool take_codes(const char *value) {
+    uint64_t number = 0;
+    if (!hex_bytes_in(value, "--codes", given.codes, NUMBER_OF_CODES, &number))
+        return false;
+    return number == NUMBER_OF_CODES || complain("--codes are four, not '%s'", value);
+}
+
+static bool take_text(const char *value) {
+    given.text = value;
+    return true;
+}
+
+static bool take_raw(const char *value) {
+    (void)value;
+    given.raw = true;
+    return true;
+}
+
+static const struct option OPTIONS[] = {
+    LINE_OPTIONS,
+    {"--address", true, take_address},
+    {"--code", true, take_code},
+    {"--codes", true, take_codes},
+    {"--text", true, take_text},
+    {"--raw", false, take_raw},
+};
+
+/* ---- a request from words ------------------------------------------------------------------------------------------------------------------------------- */
+
+enum { MOST_DATA = QS_REQUEST_BUFFER - 3 };
+
+struct data {
+    uint8_t bytes[MOST_DATA];
+    uint64_t length;
+};
+
+/* The words of a request, taken one by one. */
+struct reading {
+    const struct words *words;
+    unsigned next;
+};
+
+static const char *next_word(struct reading *reading) {
+    return reading->next < reading->words->number ? reading->words->word[reading->next++] : NULL;
+}
+
+static bool add_number(struct data *data, const char *word, const char *what, uint32_t most, unsigned size) {
+    uint32_t number;
+    if (word == NULL)
+        return complain("%s is missing", what);
+    if (!number_in(word, what, 0, most, &number))
+        return false;
+    for (unsigned i = size; i-- > 0;)
+        data->bytes[data->length++] = (uint8_t)(number >> 8 * i);
+    return true;
+}
+
+static bool add_hex(struct data *data, const char *word, const char *what) {
+    if (word == NULL)
+        return complain("%s is missing", what);
+    return hex_byte_in(word, what, &data->bytes[data->length++]);
+}
+
+/* The board has the address byte, people its number. */
+static bool add_address(struct data *data, const char *word) {
+    if (!add_number(data, word, "the new address", 31, 1))
+        return false;
+    data->bytes[data->length - 1] += 0x40;
+    return true;
+}
+
+/* All words that are left, or --text. */
+static bool add_data(struct data *data, struct reading *reading) {
+    const char *word;
+    uint64_t start = data->length;
+    if (given.text != NULL && strlen(given.text) > sizeof data->bytes - start)
+        return complain("--text has at most %u bytes", (unsigned)(sizeof data->bytes - start));
+    if (given.text != NULL) {
+        memcpy(data->bytes + start, given.text, strlen(given.text));
+        data->length += strlen(given.text);
+        return true;
+    }
+    while ((word = next_word(reading)) != NULL)
+        if (!hex_bytes_in(word, "what is stored", data->bytes, sizeof data->bytes, &data->length))
+            return false;
+    return true;
+}
+
+static bool add_part(struct data *data, char part, struct reading *reading) {
+    switch (part) {
+    case PART_FIELD: return add_number(data, next_word(reading), "the field", 255, 1);
+    case PART_OFFSET: return add_number(data, next_word(reading), "the offset", 255, 1);
+    case PART_COUNT: return add_number(data, next_word(reading), "the count", 255, 1);
+    case PART_STATUS: return add_hex(data, next_word(reading), "the status");
+    case PART_POSITION: return add_number(data, next_word(reading), "the position", UINT32_MAX, 4);
+    case PART_CODE_NUMBER: return add_number(data, next_word(reading), "the code number", 255, 1);
+    case PART_OLD_CODE: return add_hex(data, next_word(reading), "the old code");
+    case PART_NEW_CODE: return add_hex(data, next_word(reading), "the new code");
+    case PART_ADDRESS: return add_address(data, next_word(reading));
+    case PART_DATA: return add_data(data, reading);
+    default: data->bytes[data->length++] = given.code; return true;
+    }
+}
+
+/* A request that stores has its count by its bytes. */
+static bool data_in(const struct command *command, struct reading *reading, struct data *data) {
+    const char *count = strchr(command->parts, PART_DATA) == NULL ? NULL : strchr(command->parts, PART_COUNT);
+    data->length = 0;
+    for (const char *part = command->parts; *part != '\0'; part++) {
+        if (part == count)
+            data->bytes[data->length++] = 0;
+        else if (!add_part(data, *part, reading))
+            return false;
+    }
+    if (count != NULL)
+        data->bytes[count - command->parts] = (uint8_t)(data->length - strlen(command->parts) + 1);
+    const char *word = next_word(reading);
+    if (word != NULL)
+        return complain("%s takes no more than that: '%s'", command->name, word);
+    return given.text == NULL || count != NULL || complain("--text is for store-field");
+}
+
+/* ---- one request ---------------------------------------------------------------------------------------------------------------------------------------- */
+
+static struct exchange exchange;
+
+static bool is_done(uint32_t verdict) {
+    return verdict <= QS_VERDICT_DONE_WITH_WARNING;
+}
+
+static void tell_bytes(void) {
+    printf("> ");
+    print_hex(exchange.request, exchange.request_length);
+    printf("\n");
+    if (exchange.reply_length == 0)
+        return;
+    printf("< ");
+    print_hex(exchange.reply, exchange.reply_length);
+    printf("\n");
+}
+
+static void tell_warning(uint32_t verdict) {
+    if (QS_VERDICT_WARNS(verdict))
+        printf("warning: a fault code waits on the board\n");
+}
+
+static void tell_answer(const struct command *command, uint32_t verdict) {
+    uint64_t length;
+    const uint8_t *data = master_data(&exchange, &length);
+    if (is_done(verdict))
+        print_data(command->byte, data, length);
+    else
+        print_failure(&exchange, verdict);
+    printf("\n");
+    tell_warning(verdict);
+}
+
+static enum status ask(const struct command *command, const struct data *data) {
+    uint32_t verdict = master_ask(&exchange, given.address, command->byte, data->bytes, data->length);
+    enum status status = master_status(&exchange, verdict);
+    if (status == ENDED_PORT)
+        return status;
+    if (given.raw)
+        tell_bytes();
+    /* 53h is followed by silence: that is all that can be told of it. */
+    else if (command->byte == QS_RESET && status == ENDED_SILENCE)
+        printf("sent; 53h has no reply\n");
+    else
+        tell_answer(command, verdict);
+    return command->byte == QS_RESET && status == ENDED_SILENCE ? ENDED_DONE : status;
+}
+
+/* ---- the survey ----------------------------------------------------------------------------------------------------------------------------------------- */
+
+/* One request of the survey, its answer told behind a title. Returns ENDED_DONE also for an error code, which is an answer. */
+static enum status surveyed(const char *title, uint8_t command, const uint8_t *data, uint64_t length, uint32_t *verdict) {
+    uint64_t replied;
+    *verdict = master_ask(&exchange, given.address, command, data, length);
+    enum status status = master_status(&exchange, *verdict);
+    if (status == ENDED_PORT)
+        return status;
+    printf("%-12s", title);
+    const uint8_t *told = master_data(&exchange, &replied);
+    if (is_done(*verdict))
+        print_data(command, told, replied);
+    else
+        print_failure(&exchange, *verdict);
+    printf("\n");
+    return status == ENDED_ERROR_CODE ? ENDED_DONE : status;
+}
+
+/* A field's bytes, with the code that its status names. */
+static enum status survey_bytes(uint8_t field, uint8_t status) {
+    uint32_t verdict;
+    uint64_t length;
+    unsigned code = (status & QS_STATUS_CODE_NUMBER) >> 4;
+    const uint8_t whole[] = {field, 0, (uint8_t)(blocks_of(status) * QS_BLOCK), given.codes[code]};
+    verdict = master_ask(&exchange, given.address, QS_READ_DATA, whole, sizeof whole);
+    enum status ended = master_status(&exchange, verdict);
+    if (ended == ENDED_PORT)
+        return ended;
+    const uint8_t *data = master_data(&exchange, &length);
+    if (is_done(verdict))
+        print_bytes(data + 3, length - 3, 0);
+    else {
+        printf("\n    ");
+        print_failure(&exchange, verdict);
+    }
+    printf("\n");
+    return ended == ENDED_ERROR_CODE ? ENDED_DONE : ended;
+}
+
+static enum status survey_field(uint8_t field) {
+    char title[16];
+    uint32_t verdict;
+    uint64_t length;
+    snprintf(title, sizeof title, "field %u", field);
+    verdict = master_ask(&exchange, given.address, QS_FIELD_STATUS, &field, 1);
+    enum status ended = master_status(&exchange, verdict);
+    if (ended == ENDED_PORT)
+        return ended;
+    printf("%-12s", title);
+    const uint8_t *data = master_data(&exchange, &length);
+    if (is_done(verdict)) {
+        print_status(data[1]);
+        return survey_bytes(field, data[1]);
+    }
+    print_failure(&exchange, verdict);
+    printf("\n");
+    return ended == ENDED_ERROR_CODE ? ENDED_DONE : ended;
+}
+
+static enum status survey_memory(void) {
+    uint32_t verdict;
+    uint64_t length;
+    enum status status = surveyed("memory", QS_MEMORY_STATUS, NULL, 0, &verdict);
+    if (status != ENDED_DONE || !is_done(verdict))
+        return status;
+    uint8_t fields = master_data(&exchange, &length)[1];
+    for (unsigned field = 0; field < fields && status == ENDED_DONE; field++)
+        status = survey_field((uint8_t)field);
+    return status;
+}
+
+/* The waiting codes, oldest first: each reading removes one, and the warning says whether more wait. A board keeps four; one that never stops is given up. */
+static enum status survey_faults(void) {
+    enum { MOST_FAULTS = 16 };
+    uint32_t verdict = QS_VERDICT_DONE_WITH_WARNING;
+    enum status status = ENDED_DONE;
+    for (unsigned i = 0; i < MOST_FAULTS && status == ENDED_DONE && verdict == QS_VERDICT_DONE_WITH_WARNING; i++)
+        status = surveyed("faults", QS_READ_STATUS, NULL, 0, &verdict);
+    return status;
+}
+
+static enum status survey(void) {
+    static const struct {
+        const char *title;
+        uint8_t command;
+    } first[] = {{"type label", QS_READ_TYPE_LABEL}, {"version", QS_READ_VERSION}, {"position", QS_READ_POSITION}, {"counter", QS_READ_COUNTER}};
+    uint32_t verdict;
+    enum status status = ENDED_DONE;
+    for (unsigned i = 0; i < PLACES(first) && status == ENDED_DONE; i++)
+        status = surveyed(first[i].title, first[i].command, NULL, 0, &verdict);
+    if (status == ENDED_DONE)
+        status = survey_memory();
+    return status == ENDED_DONE ? survey_faults() : status;
+}
+
+/* ---- the program ---------------------------------------------------------------------------------------------------------------------------------------- */
+
+/* What the bench would not write is told before the port is opened. */
+static bool is_written(const struct command *command, const struct data *data) {
+    uint64_t length = qs_request(given.address, command->byte, data->bytes, data->length, exchange.request, sizeof exchange.request);
+    return !QS_IS_REFUSED(length) || complain("%s: no such request: a count is 1 to 128, a code number 0 to 3", command->name);
+}
+
+static enum status run(const struct words *words) {
+    struct data data = {.length = 0};
+    struct reading reading = {.words = words, .next = 2};
+    bool is_survey = strcmp(words->word[1], "survey") == 0;
+    const struct command *command = command_named(words->word[1]);
+    if (command == NULL && !is_survey) {
+        complain("there is no request '%s'; --help lists them", words->word[1]);
+        return ENDED_COMMAND_LINE;
+    }
+    if (is_survey && (words->number > 2 || given.raw || given.text != NULL)) {
+        complain("a survey takes no arguments, no --raw and no --text");
+        return ENDED_COMMAND_LINE;
+    }
+    if (!is_survey && (!data_in(command, &reading, &data) || !is_written(command, &data)))
+        return ENDED_COMMAND_LINE;
+    if (!master_open(words->word[0]))
+        return ENDED_PORT;
+    enum status status = is_survey ? survey() : ask(command, &data);
+    master_close();
+    return status;
+}
+
+int main(int argc, char **argv) {
+    struct words words;
+    hold_standard_descriptors();
+    if (asks_for_help(argc, argv)) {
+        fputs(HELP, stdout);
+        return ended(ENDED_DONE);
+    }
+    if (!command_line_in(argc, argv, OPTIONS, PLACES(OPTIONS), &words))
+        return ENDED_COMMAND_LINE;
+    if (words.number < 2) {
+        complain("wants a port and a request; --help lists them");
+        return ENDED_COMMAND_LINE;
+    }
+    return ended(run(&words));
+}

@@ -1,0 +1,143 @@
+/* The master's side of a line: see master.h. */
+#define _XOPEN_SOURCE 700
+#include "master.h"
+
+#include "words.h"
+
+#include <inttypes.h>
+#include <stdio.h>
+
+static struct port port;
+static uint64_t free_from; /* the tick from which on the line may be used */
+
+/* What the systems at both ends may need beside 000's times: to wake up, and to write a file. */
+enum { GRACE_MILLISECONDS = 50, AFTER_RESET_MILLISECONDS = 100 };
+
+/* ---- times ---------------------------------------------------------------------------------------------------------------------------------------------- */
+
+static uint64_t bits(uint64_t number) {
+    return number * line.ticks;
+}
+
+/* For how long the line must be still before a request: the pause, that boards see the frames before as closed, and a character more, so that it is not on the
+ * edge (000: at least the length of the timeout). */
+static uint64_t stillness(void) {
+    return bits(line.pause + CHARACTER_BITS) + line.patience;
+}
+
+/* Until when the first character of the reply must be here, counted from the sending. */
+static uint64_t reply_due(const struct exchange *exchange) {
+    const struct command *command = command_of(exchange->request[1]);
+    uint32_t milliseconds = (command == NULL ? 0 : command->due) + GRACE_MILLISECONDS;
+    return bits((exchange->request_length + 1) * CHARACTER_BITS + line.pause) + ticks_of_milliseconds(milliseconds) + line.patience;
+}
+
+/* Until when the next one must be here, counted from the one before. */
+static uint64_t next_due(void) {
+    return bits(line.pause + CHARACTER_BITS) + ticks_of_milliseconds(GRACE_MILLISECONDS) + line.patience;
+}
+
+/* ---- sending and hearing -------------------------------------------------------------------------------------------------------------------------------- */
+
+bool master_open(const char *name) {
+    if (!port_open(&port, name))
+        return false;
+    free_from = ticks_now() + stillness();
+    return true;
+}
+
+void master_close(void) {
+    port_close(&port);
+}
+
+static void gone(struct exchange *exchange) {
+    port_gone(&port);
+    exchange->heard = HEARD_GONE;
+}
+
+/* Whether the reply is whole, by the bench; a reply that none begins so ends when the line is still. */
+static bool is_whole(const struct exchange *exchange) {
+    uint64_t length = qs_reply_length(exchange->request, exchange->request_length, exchange->reply, exchange->reply_length);
+    return exchange->reply_length == REPLY_BUFFER || (length >= 3 && length <= QS_REPLY_ROOM && exchange->reply_length >= length);
+}
+
+/* The characters of a reply, as far as it goes: what stands behind its end is nobody's. */
+static void take(struct exchange *exchange, const struct character *characters, int number) {
+    for (int i = 0; i < number && !is_whole(exchange); i++) {
+        exchange->reply[exchange->reply_length++] = characters[i].value;
+        exchange->heard = characters[i].parity_fault || exchange->heard == HEARD_FAULT ? HEARD_FAULT : HEARD_REPLY;
+    }
+}
+
+static void hear(struct exchange *exchange, uint64_t due) {
+    struct character characters[MOST_AT_ONCE];
+    while (!is_whole(exchange) && ticks_now() < due) {
+        if (!wait_for(port.fd, -1, due, NULL).first)
+            continue;
+        int number = port_receive(&port, characters);
+        if (number < 0) {
+            gone(exchange);
+            return;
+        }
+        take(exchange, characters, number);
+        if (number > 0)
+            due = ticks_now() + next_due();
+    }
+}
+
+void master_exchange(struct exchange *exchange) {
+    exchange->reply_length = 0;
+    exchange->heard = HEARD_SILENCE;
+    while (ticks_now() < free_from)
+        (void)wait_for(-1, -1, free_from, NULL);
+    port_forget(&port);
+    uint64_t due = ticks_now() + reply_due(exchange);
+    if (!port_send(&port, exchange->request, exchange->request_length))
+        gone(exchange);
+    else
+        hear(exchange, due);
+    if (exchange->heard != HEARD_REPLY)
+        exchange->reply_length = 0;
+    bool reset = exchange->request[1] == QS_RESET;
+    free_from = ticks_now() + stillness() + (reset ? ticks_of_milliseconds(AFTER_RESET_MILLISECONDS) : 0);
+}
+
+/* ---- asking --------------------------------------------------------------------------------------------------------------------------------------------- */
+
+uint32_t master_ask(struct exchange *exchange, uint32_t address, uint8_t command, const uint8_t *data, uint64_t data_length) {
+    static const uint8_t nothing[1]; /* no pointer is null, also where its length is 0 */
+    uint64_t length = qs_request(address, command, data == NULL ? nothing : data, data_length, exchange->request, sizeof exchange->request);
+    if (QS_IS_REFUSED(length))
+        return QS_B0;
+    exchange->request_length = length;
+    master_exchange(exchange);
+    return qs_judge(exchange->request, exchange->request_length, exchange->reply, exchange->reply_length);
+}
+
+const uint8_t *master_data(const struct exchange *exchange, uint64_t *length) {
+    uint64_t part = qs_data_part(exchange->request, exchange->request_length, exchange->reply, exchange->reply_length);
+    *length = QS_DATA_LENGTH(part);
+    return exchange->reply + QS_DATA_PLACE(part);
+}
+
+enum status master_status(const struct exchange *exchange, uint32_t verdict) {
+    if (exchange->heard == HEARD_GONE)
+        return ENDED_PORT;
+    if (exchange->heard == HEARD_SILENCE)
+        return ENDED_SILENCE;
+    if (QS_VERDICT_IS_ERROR(verdict))
+        return ENDED_ERROR_CODE;
+    return verdict >= QS_VERDICT_REFUSED ? ENDED_REFUSED : ENDED_DONE;
+}
+
+void print_failure(const struct exchange *exchange, uint32_t verdict) {
+    if (exchange->heard == HEARD_SILENCE)
+        printf("silence: no reply came");
+    else if (exchange->heard == HEARD_FAULT)
+        printf("refused: a character of the reply had a parity fault");
+    else if (QS_VERDICT_IS_ERROR(verdict)) {
+        printf("error ");
+        print_error(QS_VERDICT_CODE(verdict), exchange->request[1]);
+    } else
+        printf("refused B%" PRIu32 ": %s", verdict - QS_VERDICT_REFUSED, refusal_words(verdict - QS_VERDICT_REFUSED));
+}

@@ -1,0 +1,159 @@
+/* Command lines, numbers and complaints: see tool.h. */
+#define _XOPEN_SOURCE 700
+#include "tool.h"
+
+#include <errno.h>
+#include <fcntl.h>
+#include <stdarg.h>
+#include <stdio.h>
+#include <string.h>
+#include <unistd.h>
+
+bool complain(const char *form, ...) {
+    va_list arguments;
+    va_start(arguments, form);
+    fprintf(stderr, "%s: ", tool_name);
+    vfprintf(stderr, form, arguments);
+    fprintf(stderr, "\n");
+    va_end(arguments);
+    return false;
+}
+
+enum status ended(enum status status) {
+    if (fflush(stdout) == 0 && !ferror(stdout))
+        return status;
+    complain("standard output: %s", strerror(errno));
+    return ENDED_FILE;
+}
+
+void hold_standard_descriptors(void) {
+    int fd;
+    do
+        fd = open("/dev/null", O_RDWR);
+    while (fd >= 0 && fd <= STDERR_FILENO);
+    if (fd > STDERR_FILENO)
+        (void)close(fd);
+}
+
+/* ---- as people write them ------------------------------------------------------------------------------------------------------------------------------- */
+
+static int digit_value(char digit) {
+    const char *const digits = "0123456789abcdef";
+    char small = digit >= 'A' && digit <= 'F' ? (char)(digit - 'A' + 'a') : digit;
+    const char *found = digit == '\0' ? NULL : strchr(digits, small);
+    return found == NULL ? -1 : (int)(found - digits);
+}
+
+/* The number that digits of this base say; UINT64_MAX if one is none, or if it is beyond 32 bits. */
+static uint64_t number_of(const char *digits, int base) {
+    uint64_t number = 0;
+    if (*digits == '\0')
+        return UINT64_MAX;
+    for (; *digits != '\0'; digits++) {
+        int value = digit_value(*digits);
+        if (value < 0 || value >= base)
+            return UINT64_MAX;
+        number = number * (uint64_t)base + (uint64_t)value;
+        if (number > UINT32_MAX)
+            return UINT64_MAX;
+    }
+    return number;
+}
+
+static bool has_hex_mark(const char *text) {
+    return text[0] == '0' && (text[1] == 'x' || text[1] == 'X');
+}
+
+bool number_in(const char *text, const char *what, uint32_t least, uint32_t most, uint32_t *number) {
+    uint64_t value = has_hex_mark(text) ? number_of(text + 2, 16) : number_of(text, 10);
+    if (value < least || value > most)
+        return complain("%s is %lu to %lu, not '%s'", what, (unsigned long)least, (unsigned long)most, text);
+    *number = (uint32_t)value;
+    return true;
+}
+
+bool hex_byte_in(const char *text, const char *what, uint8_t *byte) {
+    char digits[3] = {0};
+    const char *start = has_hex_mark(text) ? text + 2 : text;
+    size_t length = strlen(start);
+    if (start == text && length > 1 && (text[length - 1] == 'h' || text[length - 1] == 'H'))
+        length--;
+    if (length == 0 || length > 2)
+        return complain("%s is a byte in hex, not '%s'", what, text);
+    memcpy(digits, start, length);
+    uint64_t value = number_of(digits, 16);
+    if (value > UINT8_MAX)
+        return complain("%s is a byte in hex, not '%s'", what, text);
+    *byte = (uint8_t)value;
+    return true;
+}
+
+bool hex_bytes_in(const char *text, const char *what, uint8_t *bytes, uint64_t room, uint64_t *length) {
+    const char *at = text;
+    while (*at != '\0') {
+        if (*at == ' ') {
+            at++;
+            continue;
+        }
+        int high = digit_value(at[0]);
+        int low = high < 0 ? -1 : digit_value(at[1]);
+        if (low < 0)
+            return complain("%s is pairs of hex digits, not '%s'", what, text);
+        if (*length == room)
+            return complain("%s has at most %lu bytes", what, (unsigned long)room);
+        bytes[(*length)++] = (uint8_t)(high * 16 + low);
+        at += 2;
+    }
+    return true;
+}
+
+void print_hex(const uint8_t *bytes, uint64_t length) {
+    for (uint64_t i = 0; i < length; i++)
+        printf("%s%02X", i == 0 ? "" : " ", bytes[i]);
+}
+
+/* ---- options -------------------------------------------------------------------------------------------------------------------------------------------- */
+
+static const struct option *option_named(const char *name, const struct option *options, unsigned number) {
+    for (unsigned i = 0; i < number; i++)
+        if (strcmp(options[i].name, name) == 0)
+            return &options[i];
+    return NULL;
+}
+
+/* Whether an option of this name stands in the words before; the value of another option may look like one. */
+static bool stands_before(char **argv, int place, const struct option *options, unsigned number) {
+    for (int i = 1; i < place; i++) {
+        const struct option *option = option_named(argv[i], options, number);
+        if (option != NULL && strcmp(argv[i], argv[place]) == 0)
+            return true;
+        i += option != NULL && option->has_value;
+    }
+    return false;
+}
+
+bool command_line_in(int argc, char **argv, const struct option *options, unsigned number_of_options, struct words *words) {
+    words->number = 0;
+    for (int i = 1; i < argc; i++) {
+        const struct option *option = option_named(argv[i], options, number_of_options);
+        if (option == NULL && strncmp(argv[i], "--", 2) == 0)
+            return complain("there is no option %s; --help lists them", argv[i]);
+        if (option == NULL && words->number == MOST_WORDS)
+            return complain("too many words");
+        if (option == NULL) {
+            words->word[words->number++] = argv[i];
+            continue;
+        }
+        if (stands_before(argv, i, options, number_of_options))
+            return complain("%s stands twice", option->name);
+        if (option->has_value && i + 1 == argc)
+            return complain("%s wants a value; --help has it", option->name);
+        if (!option->take(option->has_value ? argv[++i] : NULL))
+            return false;
+    }
+    return true;
+}
+
+bool asks_for_help(int argc, char **argv) {
+    return argc == 2 && (strcmp(argv[1], "--help") == 0 || strcmp(argv[1], "-h") == 0 || strcmp(argv[1], "help") == 0);
+}
