@@ -93,6 +93,8 @@ class Encoder:
         pipe = subprocess.PIPE
         self.process = subprocess.Popen(command, stdin=pipe, stdout=pipe, stderr=pipe, text=True, bufsize=1, env=environment, **more)
         self.port = port or self.process.stdout.readline().strip()
+        if port:
+            self.command("power-on")  # it answers when it is ready; a pty's name tells the same
 
     def __enter__(self) -> "Encoder":
         return self
@@ -161,8 +163,7 @@ def hear(fd: int, number: int, seconds: float) -> bytes:
     heard = b""
     end = time.monotonic() + seconds
     while len(heard) < number:
-        left = end - time.monotonic()
-        if left <= 0 or not select.select([fd], [], [], left)[0]:
+        if not select.select([fd], [], [], max(0.0, end - time.monotonic()))[0]:
             break
         try:
             heard += os.read(fd, number - len(heard))

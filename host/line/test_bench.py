@@ -263,7 +263,7 @@ def check_echo(tools: Tools, checks: Checks):
         bench.says("increment-counter --echo on", "silence: no reply came\n", SILENCE)
         board.join()
         board = answering(line, 3, request[:2] + b"\x50\x0a" + bytes([0x40 ^ 0x50 ^ 0x0A]))
-        bench.says("increment-counter --echo on", "refused B1: no reply came, or a scrap of one\n", REFUSED)
+        bench.says("increment-counter --echo on", "refused B2: the reply's checksum is wrong\n", REFUSED)
         board.join()
 
 
