@@ -1,16 +1,18 @@
 # What a person calls by name; the gate itself is .ci/run.
-.PHONY: help demo lib test bench clean always
+.PHONY: help demo lib line test bench clean always
 
 ANSWER = target/here/answer
 ARCHIVE = target/here/libquicksetter.a
 HANDHELD = target/here/libhandheld.a
 SHARED = target/libquicksetter.so
 LIB = target/lib
+LINE = target/line
 
 help:
 	@echo 'make demo    a first session at the bench: the pallet night, run and told in words'
 	@echo 'make test    the whole gate: layout, proofs, must-fail edits, programs, tapes, C and Rust hosts, tools'
 	@echo 'make lib     the libraries for a C host, board and programmer, with headers and examples, in $(LIB)'
+	@echo 'make line    encoder, bench and program for a serial port, in $(LINE)'
 	@echo 'make bench   measures, and writes docs/PERFORMANCE.md'
 	@echo 'make clean   removes target/'
 	@echo 'make $(ANSWER)'
@@ -48,6 +50,10 @@ lib: $(ARCHIVE) $(HANDHELD)
 	@echo 'gcc -std=c11 -O2 -I include program.c -L . -lhandheld -lquicksetter -o program' >>$(LIB)/README
 	@echo 'In $(LIB), of the board: include/quicksetter.h, libquicksetter.a, example.c;'
 	@echo 'of the handheld programmer: include/programmer.h, libhandheld.a, program.c. README has the line that compiles each example.'
+
+line: $(ARCHIVE) $(HANDHELD)
+	@bash host/line/build.sh target/here $(LINE)
+	@echo 'In $(LINE): encoder, bench and program. Each tells its use with --help; README.md has a first hour with them.'
 
 test:
 	bash .ci/run

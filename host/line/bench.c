@@ -12,28 +12,28 @@ const char *const tool_name = "bench";
 
 static const char HELP[] =
     "bench PORT [OPTION ..] REQUEST   one request to a board, and its answer in words\n"
-    "bench PORT [OPTION ..] survey    all that a board tells; reads its waiting faults,\n"
+    "bench PORT [OPTION ..] survey    all that a board tells; its faults are read,\n"
     "                                 which removes them\n"
     "  read-position              read-counter             memory-status\n"
     "  set-position N             increment-counter        read-encoder-status\n"
     "  read-type-label            reset-counter            encoder-reset\n"
     "  read-version               set-encoder-address N    set-access-code N OLD NEW\n"
-    "  read-field FIELD OFFSET COUNT          or read-data\n"
-    "  store-field FIELD OFFSET BYTES ..      or store-data; bytes in hex, or --text\n"
-    "  field-status FIELD                     or data-field-status\n"
-    "  create-field FIELD STATUS              or create-data-field; changes and deletes too\n"
+    "  read-field FIELD OFFSET COUNT      or read-data\n"
+    "  store-field FIELD OFFSET BYTES ..  or store-data; bytes in hex, or by --text\n"
+    "  field-status FIELD                 or data-field-status\n"
+    "  create-field FIELD STATUS          or create-data-field; changes, deletes too\n"
     "Codes, statuses and bytes are hex, other numbers decimal or 0x..\n"
     "  --address N     0 to 31, or all; left out 0\n"
     "  --code CODE     the access code; left out 55\n"
     "  --codes CODES   the four for a survey, `55 55 55 55`; left out these\n"
     "  --text TEXT     the bytes of store-field\n"
     "  --raw           request and reply as bytes\n"
-    "  --rate BAUD     600 to 38400; left out 9600    --pause N   22 or 55; left out 55\n"
+    "  --rate BAUD     600 to 38400; left out 9600   --pause N  22 or 55; left out 55\n"
     "  --patience MS   the adapter delivers up to so late; left out 0\n"
-    "  --echo on|off   it hears what it sends; left out by time, on a pseudo terminal off\n"
+    "  --echo on|off   it hears itself; left out: told by the time, off on a pty\n"
     "  --rs485         the kernel switches the driver\n"
-    "Exit status: 0 done, 1 the board answered with an error code, 2 bad command line,\n"
-    "3 the reply was refused, 4 silence, 5 port fault. A survey: 0 if all was answered\n";
+    "Exit status: 0 done, 1 the board answered with an error code, 2 bad command\n"
+    "line, 3 reply refused, 4 silence, 5 port fault. A survey: 0 if all was answered\n";
 
 /* ---- options -------------------------------------------------------------------------------------------------------------------------------------------- */
 
@@ -233,68 +233,52 @@ static enum status ask(const struct command *command, const struct data *data) {
 
 /* ---- the survey ----------------------------------------------------------------------------------------------------------------------------------------- */
 
-/* One request of the survey, its answer told behind a title. Returns ENDED_DONE also for an error code, which is an answer. */
-static enum status surveyed(const char *title, uint8_t command, const uint8_t *data, uint64_t length, uint32_t *verdict) {
+/* One request of the survey, its answer told without a line's end: the data in words, or what was asked and why there is none. Returns ENDED_DONE also for an
+ * error code, which is an answer. */
+static enum status surveyed(const char *what, uint8_t command, const uint8_t *data, uint64_t length, uint32_t *verdict) {
     uint64_t replied;
     *verdict = master_ask(&exchange, given.address, command, data, length);
     enum status status = master_status(&exchange, *verdict);
     if (status == ENDED_PORT)
         return status;
-    printf("%-12s", title);
     const uint8_t *told = master_data(&exchange, &replied);
-    if (is_done(*verdict))
-        print_data(command, told, replied);
-    else
+    if (!is_done(*verdict)) {
+        printf("%s: ", what);
         print_failure(&exchange, *verdict);
-    printf("\n");
+    } else if (command == QS_READ_DATA)
+        print_bytes(told + 3, replied - 3, told[1]);
+    else
+        print_data(command, told, replied);
     return status == ENDED_ERROR_CODE ? ENDED_DONE : status;
 }
 
-/* A field's bytes, with the code that its status names. */
-static enum status survey_bytes(uint8_t field, uint8_t status) {
-    uint32_t verdict;
-    uint64_t length;
-    unsigned code = (status & QS_STATUS_CODE_NUMBER) >> 4;
-    const uint8_t whole[] = {field, 0, (uint8_t)(blocks_of(status) * QS_BLOCK), given.codes[code]};
-    verdict = master_ask(&exchange, given.address, QS_READ_DATA, whole, sizeof whole);
-    enum status ended = master_status(&exchange, verdict);
-    if (ended == ENDED_PORT)
-        return ended;
-    const uint8_t *data = master_data(&exchange, &length);
-    if (is_done(verdict))
-        print_bytes(data + 3, length - 3, 0);
-    else {
-        printf("\n    ");
-        print_failure(&exchange, verdict);
-    }
-    printf("\n");
-    return ended == ENDED_ERROR_CODE ? ENDED_DONE : ended;
+static enum status surveyed_line(const char *what, uint8_t command, uint32_t *verdict) {
+    enum status status = surveyed(what, command, NULL, 0, verdict);
+    if (status != ENDED_PORT)
+        printf("\n");
+    return status;
 }
 
+/* A field's status, and its bytes with the code that the status names. */
 static enum status survey_field(uint8_t field) {
-    char title[16];
+    char what[16];
     uint32_t verdict;
     uint64_t length;
-    snprintf(title, sizeof title, "field %u", field);
-    verdict = master_ask(&exchange, given.address, QS_FIELD_STATUS, &field, 1);
-    enum status ended = master_status(&exchange, verdict);
-    if (ended == ENDED_PORT)
-        return ended;
-    printf("%-12s", title);
-    const uint8_t *data = master_data(&exchange, &length);
-    if (is_done(verdict)) {
-        print_status(data[1]);
-        return survey_bytes(field, data[1]);
+    snprintf(what, sizeof what, "field %u", field);
+    enum status status = surveyed(what, QS_FIELD_STATUS, &field, 1, &verdict);
+    if (status == ENDED_DONE && is_done(verdict)) {
+        uint8_t stored = master_data(&exchange, &length)[1];
+        const uint8_t whole[] = {field, 0, (uint8_t)(blocks_of(stored) * QS_BLOCK), given.codes[(stored & QS_STATUS_CODE_NUMBER) >> 4]};
+        status = surveyed("\n    bytes", QS_READ_DATA, whole, sizeof whole, &verdict);
     }
-    print_failure(&exchange, verdict);
     printf("\n");
-    return ended == ENDED_ERROR_CODE ? ENDED_DONE : ended;
+    return status;
 }
 
 static enum status survey_memory(void) {
     uint32_t verdict;
     uint64_t length;
-    enum status status = surveyed("memory", QS_MEMORY_STATUS, NULL, 0, &verdict);
+    enum status status = surveyed_line("memory", QS_MEMORY_STATUS, &verdict);
     if (status != ENDED_DONE || !is_done(verdict))
         return status;
     uint8_t fields = master_data(&exchange, &length)[1];
@@ -309,19 +293,19 @@ static enum status survey_faults(void) {
     uint32_t verdict = QS_VERDICT_DONE_WITH_WARNING;
     enum status status = ENDED_DONE;
     for (unsigned i = 0; i < MOST_FAULTS && status == ENDED_DONE && verdict == QS_VERDICT_DONE_WITH_WARNING; i++)
-        status = surveyed("faults", QS_READ_STATUS, NULL, 0, &verdict);
+        status = surveyed_line("faults", QS_READ_STATUS, &verdict);
     return status;
 }
 
 static enum status survey(void) {
     static const struct {
-        const char *title;
+        const char *what;
         uint8_t command;
     } first[] = {{"type label", QS_READ_TYPE_LABEL}, {"version", QS_READ_VERSION}, {"position", QS_READ_POSITION}, {"counter", QS_READ_COUNTER}};
     uint32_t verdict;
     enum status status = ENDED_DONE;
     for (unsigned i = 0; i < PLACES(first) && status == ENDED_DONE; i++)
-        status = surveyed(first[i].title, first[i].command, NULL, 0, &verdict);
+        status = surveyed_line(first[i].what, first[i].command, &verdict);
     if (status == ENDED_DONE)
         status = survey_memory();
     return status == ENDED_DONE ? survey_faults() : status;
@@ -362,7 +346,7 @@ int main(int argc, char **argv) {
     hold_standard_descriptors();
     if (asks_for_help(argc, argv)) {
         fputs(HELP, stdout);
-        return ended(ENDED_DONE);
+        return finish(ENDED_DONE);
     }
     if (!command_line_in(argc, argv, OPTIONS, PLACES(OPTIONS), &words))
         return ENDED_COMMAND_LINE;
@@ -370,5 +354,5 @@ int main(int argc, char **argv) {
         complain("wants a port and a request; --help lists them");
         return ENDED_COMMAND_LINE;
     }
-    return ended(run(&words));
+    return finish(run(&words));
 }

@@ -17,9 +17,9 @@ const char *const tool_name = "encoder";
 
 static const char HELP[] =
     "encoder PORT FILE [OPTION ..]    our board on a serial port\n"
-    "encoder --pty FILE [OPTION ..]   our board on a pseudo terminal, whose name is printed\n"
-    "FILE keeps memory and what else must last; one that is not there is made, for a\n"
-    "new board. It is on the disk before a reply that acknowledges a change is sent.\n"
+    "encoder --pty FILE [OPTION ..]   on a pseudo terminal, whose name is printed\n"
+    "FILE keeps memory and what else must last; one that is not there is made, for\n"
+    "a new board. It is on the disk before a reply that tells of a change is sent\n"
     "  --total N       blocks of a new board, 1 to 112; left out 112\n"
     "  --bits N        position bits of a new board, 1 to 32; left out 24\n"
     "  --address N     of a new board, 0 to 31; left out 0\n"
@@ -28,15 +28,15 @@ static const char HELP[] =
     "  --pause N       bit times that close a frame, 22 or 55; left out 55\n"
     "  --position N    the measured position at the start; left out 0\n"
     "  --patience MS   the adapter delivers up to so late; left out 0\n"
-    "  --echo on|off   it hears what it sends; left out by time, on a pseudo terminal off\n"
+    "  --echo on|off   it hears itself; left out: told by the time, off on a pty\n"
     "  --rs485         the kernel switches the driver\n"
-    "  --log FILE      adds both directions to this file, as explain.py --log reads them\n"
+    "  --log FILE      adds both directions to it, as explain.py --log reads them\n"
     "Lines on standard input, each told when it is done:\n"
     "  position N      the measured position\n"
     "  fault CODE      notes a fault code, in hex\n"
     "  power-on        the supply came back\n"
-    "It ends on SIGINT, SIGTERM or SIGHUP. Exit status: 0 ended so, 2 bad command line,\n"
-    "5 the port cannot be used or went away, 6 a file cannot be used\n";
+    "It ends on SIGINT, SIGTERM or SIGHUP. Exit status: 0 ended so, 2 bad command\n"
+    "line, 5 the port cannot be used or went away, 6 a file cannot be used\n";
 
 /* ---- the board ------------------------------------------------------------------------------------------------------------------------------------------ */
 
@@ -46,7 +46,8 @@ static struct {
     struct kept kept; /* memory, and the lasting bytes as they are on the disk */
     bool is_new;      /* there is no file yet */
     uint64_t memory_length;
-    uint64_t called; /* the tick of the last character, as it was handed in */
+    uint64_t last;   /* the tick of the last character that was handed in */
+    uint64_t called; /* that of the last character or poll */
     uint64_t lag;    /* by how much the open frame's ticks are behind the clock */
     uint32_t sleep;  /* what the board told, or QS_NO_FRAME_OPEN */
 } board;
@@ -141,6 +142,12 @@ static void log_frame_ends(void) {
     fputs(logged.frame_faulty ? "  # with a parity fault\n" : "\n", logged.file);
     logged.frame_open = false;
     log_to_file();
+}
+
+static void log_close(void) {
+    log_frame_ends();
+    if (logged.file != NULL)
+        (void)fclose(logged.file);
 }
 
 static void log_time(uint64_t tick, char direction) {
@@ -282,13 +289,14 @@ static void take_characters(const struct character *characters, int number, uint
     if (!frame_is_open())
         board.lag = 0;
     else {
-        uint64_t gap = less(less(now, board.lag + span), board.called);
+        uint64_t gap = less(less(now, board.lag + span), board.last);
         board.lag += gap < line.patience ? gap : line.patience;
     }
     for (int i = 0; i < number && !ended_by_file; i++) {
         uint64_t tick = less(now, board.lag + span - spacing * (uint64_t)i);
-        if (tick < board.called)
-            tick = board.called;
+        if (tick < board.last)
+            tick = board.last;
+        board.last = tick;
         if (closes(tick))
             log_frame_ends();
         log_character(tick, characters[i]);
@@ -483,7 +491,7 @@ static enum status run(const struct words *words) {
         return ENDED_FILE;
     tell_pty();
     serve(open_signals);
-    log_frame_ends();
+    log_close();
     port_close(&port);
     return ended_by_port ? ENDED_PORT : ended_by_file ? ENDED_FILE : ENDED_DONE;
 }
@@ -493,7 +501,7 @@ int main(int argc, char **argv) {
     hold_standard_descriptors();
     if (asks_for_help(argc, argv)) {
         fputs(HELP, stdout);
-        return ended(ENDED_DONE);
+        return finish(ENDED_DONE);
     }
     if (!command_line_in(argc, argv, OPTIONS, PLACES(OPTIONS), &words))
         return ENDED_COMMAND_LINE;

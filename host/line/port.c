@@ -9,7 +9,6 @@
 #include <string.h>
 #include <sys/select.h>
 #include <termios.h>
-#include <time.h>
 #include <unistd.h>
 
 #ifdef __linux__
@@ -22,10 +21,23 @@
 enum { NANOSECONDS = 1000000000 };
 
 /* 38400 ticks are 10^9 nanoseconds, so 3 are 78125: a second has a whole number of ticks, and nothing is lost over the years. */
-uint64_t ticks_now(void) {
+uint64_t tick_of(struct timespec time) {
+    return (uint64_t)time.tv_sec * TICKS_A_SECOND + (uint64_t)time.tv_nsec * 3 / 78125;
+}
+
+struct timespec start_of(uint64_t tick) {
+    uint64_t rest = tick % TICKS_A_SECOND;
+    return (struct timespec){(time_t)(tick / TICKS_A_SECOND), (long)((rest * 78125 + 2) / 3)};
+}
+
+static struct timespec time_now(void) {
     struct timespec now;
     (void)clock_gettime(CLOCK_MONOTONIC, &now);
-    return (uint64_t)now.tv_sec * TICKS_A_SECOND + (uint64_t)now.tv_nsec * 3 / 78125;
+    return now;
+}
+
+uint64_t ticks_now(void) {
+    return tick_of(time_now());
 }
 
 uint64_t ticks_of_milliseconds(uint32_t milliseconds) {
@@ -34,10 +46,9 @@ uint64_t ticks_of_milliseconds(uint32_t milliseconds) {
 
 /* The time until the clock first shows this tick; none if it does already. */
 static struct timespec time_until(uint64_t tick) {
-    struct timespec now;
-    (void)clock_gettime(CLOCK_MONOTONIC, &now);
-    int64_t seconds = (int64_t)(tick / TICKS_A_SECOND) - now.tv_sec;
-    int64_t nanoseconds = (int64_t)((tick % TICKS_A_SECOND * 78125 + 2) / 3) - now.tv_nsec;
+    struct timespec now = time_now(), start = start_of(tick);
+    int64_t seconds = (int64_t)start.tv_sec - now.tv_sec;
+    int64_t nanoseconds = (int64_t)start.tv_nsec - now.tv_nsec;
     if (nanoseconds < 0) {
         nanoseconds += NANOSECONDS;
         seconds--;

@@ -7,6 +7,7 @@
 #include <signal.h>
 #include <stdbool.h>
 #include <stdint.h>
+#include <time.h>
 
 /* ---- the clock ------------------------------------------------------------------------------------------------------------------------------------------ */
 
@@ -14,6 +15,10 @@ enum { TICKS_A_SECOND = 38400, CHARACTER_BITS = 11 };
 
 /* Ticks of 1/38400 s by the monotonic clock; 64 bits, of which the board takes the low 32, so that its count wraps around at exactly 2^32. */
 uint64_t ticks_now(void);
+
+/* The tick that a time falls into, and the first nanosecond of a tick. */
+uint64_t tick_of(struct timespec time);
+struct timespec start_of(uint64_t tick);
 
 /* So many milliseconds in ticks, rounded up. */
 uint64_t ticks_of_milliseconds(uint32_t milliseconds);

@@ -17,21 +17,21 @@ const char *const tool_name = "program";
 
 static const char HELP[] =
     "program PORT LABEL [OPTION ..]   puts a label onto a board\n"
-    "program --check LABEL            looks whether a label is good; no port is needed\n"
-    "LABEL is a text as tools/label.py takes it, or a label tape. The board's old fields\n"
-    "are deleted, the label's created, stored, read back and, where read-only, locked.\n"
-    "Before that the old fields are saved as a label tape, which can be put back.\n"
+    "program --check LABEL            tests a label; no port is needed\n"
+    "LABEL is a text as tools/label.py takes it, or a label tape. The board's old\n"
+    "fields are deleted, the label's created, stored, read back and locked where\n"
+    "read-only. Before that the old ones are saved as a label tape, to be put back\n"
     "  --save FILE     where to; left out LABEL.before-YYYYMMDD-HHMMSS\n"
     "  --no-save       they are not saved\n"
     "  --address N     0 to 31, or all; left out 0\n"
     "  --rate BAUD     600, 1200, 2400, 4800, 9600, 19200 or 38400; left out 9600\n"
     "  --pause N       bit times that close a frame, 22 or 55; left out 55\n"
     "  --patience MS   the adapter delivers up to so late; left out 0\n"
-    "  --echo on|off   it hears what it sends; left out by time, on a pseudo terminal off\n"
+    "  --echo on|off   it hears itself; left out: told by the time, off on a pty\n"
     "  --rs485         the kernel switches the driver\n"
-    "Exit status: 0 done, 1 the board answered with an error code, 2 bad command line,\n"
-    "3 a reply was refused, or other bytes were read back, 4 silence, 5 port fault,\n"
-    "6 a file cannot be used. A run that failed is repaired by a new one\n";
+    "Exit status: 0 done, 1 the board answered with an error code, 2 bad command\n"
+    "line, 3 a reply was refused, or other bytes were read back, 4 silence, 5 port\n"
+    "fault, 6 a file cannot be used. A run that failed is repaired by a new one\n";
 
 /* ---- options -------------------------------------------------------------------------------------------------------------------------------------------- */
 
@@ -281,7 +281,7 @@ int main(int argc, char **argv) {
     hold_standard_descriptors();
     if (asks_for_help(argc, argv)) {
         fputs(HELP, stdout);
-        return ended(ENDED_DONE);
+        return finish(ENDED_DONE);
     }
     if (!command_line_in(argc, argv, OPTIONS, PLACES(OPTIONS), &words))
         return ENDED_COMMAND_LINE;
@@ -293,5 +293,5 @@ int main(int argc, char **argv) {
         complain("--save and --no-save exclude each other");
         return ENDED_COMMAND_LINE;
     }
-    return ended(run(&words));
+    return finish(run(&words));
 }

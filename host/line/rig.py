@@ -22,12 +22,6 @@ from records import hex_of, xor_of  # noqa: E402
 
 DONE, ERROR_CODE, COMMAND_LINE, REFUSED, SILENCE, PORT_FAULT, FILE_FAULT = range(7)
 TIMEOUT = 60
-SOURCES = {
-    "encoder": (("encoder", "keep", "port", "tool"), ("quicksetter",)),
-    "bench": (("bench", "master", "words", "port", "tool"), ("quicksetter",)),
-    "program": (("program", "label", "master", "words", "port", "tool"), ("handheld", "quicksetter")),
-}
-FLAGS = ("-std=c11", "-O2", "-Wall", "-Wextra", "-Werror", "-pedantic")
 
 
 def sealed(*front: int) -> bytes:
@@ -65,12 +59,7 @@ class Tools:
 
     def __init__(self, folder: pathlib.Path, library: str):
         self.folder = folder
-        self.library = library
-        for name, (sources, libraries) in SOURCES.items():
-            files = [str(HERE / f"{source}.c") for source in sources]
-            linked = [f"-l{library}" for library in libraries]
-            command = ["gcc", *FLAGS, "-I", str(HOST), *files, "-L", library, *linked, "-o", str(folder / name)]
-            subprocess.run(command, check=True)
+        subprocess.run(["bash", str(HERE / "build.sh"), library, str(folder)], check=True)
 
     def path(self, name: str) -> str:
         return str(self.folder / name)

@@ -74,18 +74,18 @@ SESSION = (
     ("memory-status", "free blocks 5, fields 2\n"),
 )
 
-SURVEY = f"""type label  interface E4h (9600 baud, 8 data bits, even parity, timeout 55 bit times, standard slave), encoder type 07h, memory size 24 blocks (384 bytes), option code 00h
-version     serial number "QS4711", version "encoder VERSION", date "16.11.26"
-position    position 9
-counter     counter 1
-memory      free blocks 5, fields 2
-field 0     {C1}
+SURVEY = f"""interface E4h (9600 baud, 8 data bits, even parity, timeout 55 bit times, standard slave), encoder type 07h, memory size 24 blocks (384 bytes), option code 00h
+serial number "QS4711", version "encoder VERSION", date "16.11.26"
+position 9
+counter 1
+free blocks 5, fields 2
+field 0, {C1}
       0  53 4E 20 34 37 31 31 00 00 00 00 00 00 00 00 00  SN 4711.........
      16  00 00 00 00 00 00 00 00 00 00 00 00 00 00 00 00  ................
-field 1     {D8}
-    error 0Fh wrong access code (not the code that is wanted)
-faults      oldest waiting code 06h internal checksum error
-faults      oldest waiting code 1Eh temperature critical
+field 1, {D8}
+    bytes: error 0Fh wrong access code (not the code that is wanted)
+oldest waiting code 06h internal checksum error
+oldest waiting code 1Eh temperature critical
 """
 
 # What a board answers that is wrong, to a request for the status of field 0 (40 4C 00 0C): how bench tells it.
@@ -191,8 +191,10 @@ def check_survey(tools: Tools, checks: Checks, version: str):
         encoder.command("fault 06")
         encoder.command("fault 1E")
         bench.says("survey", expected, DONE)
-        opened = expected.replace("    error 0Fh wrong access code (not the code that is wanted)", "      0" + "  00" + " 00" * 15 + "  " + "." * 16)
-        opened = opened[: opened.index("faults")] + "faults      no code waits\n"
+        opened = expected.replace("    bytes: error 0Fh wrong access code (not the code that is wanted)", "      0" + "  00" + " 00" * 15 + "  " + "." * 16)
+        opened = opened[: opened.index("oldest")] + "no code waits\n"
+        encoder.command("fault 22")
+        opened = opened.replace("position 9\n", "position: " + LOCKED)
         bench.says("survey --codes", opened, DONE, "55 66 55 55")
     ran = tools.run("bench", encoder.port, "survey")
     checks.check(ran.status == PORT_FAULT and ran.out == "" and ran.err.count("\n") == 1, f"a survey without a board: {ran}")
@@ -248,7 +250,7 @@ def check_wrong_replies(tools: Tools, checks: Checks):
         board = answering(line, 3, sealed(0x40, 0x50, 0xEE))
         bench.says("memory-status", "error EEh, a code without a name\n", ERROR_CODE)
         board.join()
-        bench.says("survey", "type label  silence: no reply came\n", SILENCE)
+        bench.says("survey", "type label: silence: no reply came\n", SILENCE)
 
 
 def check_echo(tools: Tools, checks: Checks):

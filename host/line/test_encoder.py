@@ -140,6 +140,19 @@ def check_delivery(tools: Tools, checks: Checks):
             check_gaps(checks, line, 22 / 38400 + 0.12, rows, "38400 baud, patience 120 ms")
 
 
+def check_stamps(tools: Tools, checks: Checks):
+    """Characters that come in one go are eleven bits apart: by the log, from the first one to the reply it is as long as on a line, though all came at once."""
+    bit, pause = 64, 55
+    log = tools.folder / "stamps.log"
+    with Line() as line, Encoder(tools, tools.folder / "stamps.board", "--rate", "600", "--log", str(log), port=line.name):
+        for length in (3, 5, 9, 3):
+            time.sleep(0.2)  # as long as the longest of these would have been on the line
+            line.ask(sealed(0x40, 0x4E, *bytes(length - 3)), 5 if length == 3 else 4)
+            request, reply = [int(text.split()[0]) for text in log.read_text().splitlines()[-2:]]
+            least = ((length - 1) * 11 + pause) * bit
+            checks.check(least <= reply - request <= least + 4000, f"{length} characters at once: {reply - request} ticks, not {least}")
+
+
 def check_frames(tools: Tools, checks: Checks):
     """Frames that bench never writes, FFh among them, which the kernel doubles; frames of every length up to and beyond what is kept."""
     error = {code: sealed(0x40, 0x50, code) for code in (0x0A, 0x0B, 0x0C, 0x0D)}
@@ -336,7 +349,7 @@ COMMANDS = (
 
 def check_commands(tools: Tools, checks: Checks):
     with Line() as line:
-        with Encoder(tools, tools.folder / "commands.board", port=line.name) as encoder:
+        with Encoder(tools, tools.folder / "told.board", port=line.name) as encoder:
             encoder.process.stdin.write("".join(command + "\n" for command, _, _ in COMMANDS) + "fault 05")
             encoder.process.stdin.close()
             encoder.process.stdin = None
@@ -439,6 +452,7 @@ def test(tools: Tools, checks: Checks):
     shim = shim_of(tools)
     check_tapes(tools, checks)
     check_delivery(tools, checks)
+    check_stamps(tools, checks)
     check_frames(tools, checks)
     check_faulty(tools, checks, shim)
     check_file(tools, checks)

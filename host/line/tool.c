@@ -19,7 +19,7 @@ bool complain(const char *form, ...) {
     return false;
 }
 
-enum status ended(enum status status) {
+enum status finish(enum status status) {
     if (fflush(stdout) == 0 && !ferror(stdout))
         return status;
     complain("standard output: %s", strerror(errno));

@@ -17,7 +17,7 @@ enum status {
 };
 
 /* The end of a program: what it printed is written out. Returns the status, or ENDED_FILE, with a complaint, where it could not be. */
-enum status ended(enum status status);
+enum status finish(enum status status);
 
 #define PLACES(table) (sizeof(table) / sizeof *(table))
 
