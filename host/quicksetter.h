@@ -92,7 +92,7 @@
 extern "C" {
 #endif
 
-#define QS_VERSION "0.6.0" /* CHANGELOG.md tells what a host must change from one to the next */
+#define QS_VERSION "0.7.0" /* CHANGELOG.md tells what a host must change from one to the next */
 
 /* ---- sizes ---------------------------------------------------------------------------------------------------------------------------------------------- */
 

@@ -95,6 +95,8 @@ class Encoder:
         """A line on its standard input; returns what it tells."""
         self.process.stdin.write(line + "\n")
         self.process.stdin.flush()
+        if not select.select([self.process.stdout], [], [], TIMEOUT)[0]:
+            raise TimeoutError(f"the encoder does not tell of {line!r}")
         return self.process.stdout.readline().strip()
 
     def end(self, by: int = signal.SIGTERM) -> Ran:
