@@ -426,41 +426,59 @@ static void read_commands(void) {
 
 /* ---- the loop ------------------------------------------------------------------------------------------------------------------------------------------- */
 
+static const int ENDING[] = {SIGINT, SIGTERM, SIGHUP};
+
 static volatile sig_atomic_t stopped;
+static sigset_t held; /* those of them that are not ignored */
 
 static void stop(int signal_number) {
     (void)signal_number;
     stopped = 1;
 }
 
-/* The signals that end it are let in only while it waits, so that none falls between the look at `stopped` and the wait. */
+/* The signals that end it are let in only while it waits, so that none falls between the look at them and the wait. One that is ignored, as nohup and & leave it,
+ * stays so. Returns the signals as they are while it waits. */
 static sigset_t signals_begin(void) {
-    static const int ending[] = {SIGINT, SIGTERM, SIGHUP};
-    struct sigaction action = {.sa_handler = stop}, ignored = {.sa_handler = SIG_IGN};
-    sigset_t held, before;
+    struct sigaction action = {.sa_handler = stop}, ignored = {.sa_handler = SIG_IGN}, before_it;
+    sigset_t waiting;
     sigemptyset(&held);
-    for (unsigned i = 0; i < PLACES(ending); i++) {
-        struct sigaction before_it;
-        if (sigaction(ending[i], NULL, &before_it) == 0 && before_it.sa_handler == SIG_IGN)
-            continue; /* as nohup and & leave it */
-        (void)sigaction(ending[i], &action, NULL);
-        sigaddset(&held, ending[i]);
+    for (unsigned i = 0; i < PLACES(ENDING); i++) {
+        if (sigaction(ENDING[i], NULL, &before_it) == 0 && before_it.sa_handler == SIG_IGN)
+            continue;
+        (void)sigaction(ENDING[i], &action, NULL);
+        sigaddset(&held, ENDING[i]);
     }
     (void)sigaction(SIGPIPE, &ignored, NULL);
     (void)sigaction(SIGTTIN, &ignored, NULL); /* in the background its commands are at an end */
-    (void)sigprocmask(SIG_BLOCK, &held, &before);
-    for (unsigned i = 0; i < PLACES(ending); i++)
-        sigdelset(&before, ending[i]);
-    return before;
+    (void)sigprocmask(SIG_BLOCK, &held, &waiting);
+    for (unsigned i = 0; i < PLACES(ENDING); i++)
+        sigdelset(&waiting, ENDING[i]);
+    return waiting;
+}
+
+/* Where there is always something to read, a wait lets no signal in. */
+static bool is_stopped(void) {
+    sigset_t pending;
+    bool found = stopped != 0;
+    if (sigpending(&pending) != 0)
+        return found;
+    for (unsigned i = 0; i < PLACES(ENDING); i++)
+        found = found || (sigismember(&held, ENDING[i]) == 1 && sigismember(&pending, ENDING[i]) == 1);
+    return found;
+}
+
+/* Whether the open frame's pause is over. The clock is read before the port: a character that ended in time is found there, and is no poll's. */
+static bool pause_is_over(void) {
+    return ticks_now() >= due() && !wait_for(port.fd, -1, 0, NULL).first;
 }
 
 /* Sleeps until a character, a command, a signal, or the tick that the board told. */
 static void serve(sigset_t open_signals) {
-    while (!stopped && !ended_by_port && !ended_by_file) {
+    while (!is_stopped() && !ended_by_port && !ended_by_file) {
         struct woken woken = wait_for(port.fd, commands.fd, due(), &open_signals);
         if (woken.first)
             receive();
-        else if (!woken.by_signal && ticks_now() >= due())
+        else if (pause_is_over())
             poll_board();
         if (woken.second)
             read_commands();

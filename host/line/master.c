@@ -10,8 +10,8 @@
 static struct port port;
 static uint64_t free_from; /* the tick from which on the line may be used */
 
-/* What the systems at both ends may need beside 000's times: to wake up, and to write a file. */
-enum { GRACE_MILLISECONDS = 50, AFTER_RESET_MILLISECONDS = 100 };
+/* What the systems at both ends may need beside 000's times, to wake up and to write a file; 000's time after a reset; for how long a line may be noisy. */
+enum { GRACE_MILLISECONDS = 50, AFTER_RESET_MILLISECONDS = 100, LONGEST_NOISE_MILLISECONDS = 2000 };
 
 /* ---- times ---------------------------------------------------------------------------------------------------------------------------------------------- */
 
@@ -85,17 +85,42 @@ static void hear(struct exchange *exchange, uint64_t due) {
     }
 }
 
+/* Waits until nobody has spoken for as long as it takes; what somebody says meanwhile, as a board that answers too late, is lost. False, and told, if the port is
+ * gone or the line never still. */
+static bool line_is_still(void) {
+    struct character lost[MOST_AT_ONCE];
+    uint64_t until = ticks_now() + stillness() + ticks_of_milliseconds(LONGEST_NOISE_MILLISECONDS);
+    while (ticks_now() < free_from) {
+        if (!wait_for(port.fd, -1, free_from, NULL).first)
+            continue;
+        int number = port_receive(&port, lost);
+        if (number < 0)
+            return port_gone(&port);
+        if (number > 0)
+            free_from = ticks_now() + stillness();
+        if (free_from > until)
+            return complain("%s: somebody else speaks on the line all the time", port.name);
+    }
+    return true;
+}
+
+static void send_and_hear(struct exchange *exchange) {
+    if (!line_is_still()) {
+        exchange->heard = HEARD_GONE;
+        return;
+    }
+    port_forget(&port);
+    uint64_t due = ticks_now() + reply_due(exchange);
+    if (port_send(&port, exchange->request, exchange->request_length))
+        hear(exchange, due);
+    else
+        gone(exchange);
+}
+
 void master_exchange(struct exchange *exchange) {
     exchange->reply_length = 0;
     exchange->heard = HEARD_SILENCE;
-    while (ticks_now() < free_from)
-        (void)wait_for(-1, -1, free_from, NULL);
-    port_forget(&port);
-    uint64_t due = ticks_now() + reply_due(exchange);
-    if (!port_send(&port, exchange->request, exchange->request_length))
-        gone(exchange);
-    else
-        hear(exchange, due);
+    send_and_hear(exchange);
     if (exchange->heard != HEARD_REPLY)
         exchange->reply_length = 0;
     bool reset = exchange->request[1] == QS_RESET;

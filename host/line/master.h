@@ -12,7 +12,7 @@ enum heard {
     HEARD_REPLY,   /* some bytes came; whether they fit is the bench's to judge */
     HEARD_SILENCE, /* none came in the time that 000 gives the command */
     HEARD_FAULT,   /* a character of the reply had a parity fault */
-    HEARD_GONE,    /* the port is gone, and that was told */
+    HEARD_GONE,    /* the port is gone, or the line never still, and that was told */
 };
 
 struct exchange {

@@ -69,7 +69,7 @@ struct woken wait_for(int first, int second, uint64_t due, const sigset_t *open_
     int highest = first > second ? first : second;
     int ready = pselect(highest + 1, &readable, NULL, NULL, due == NEVER ? NULL : &wait, open_signals);
     if (ready <= 0)
-        return (struct woken){.by_signal = ready < 0};
+        return (struct woken){false, false};
     return (struct woken){.first = first >= 0 && FD_ISSET(first, &readable), .second = second >= 0 && FD_ISSET(second, &readable)};
 }
 
@@ -186,17 +186,18 @@ static bool settled(struct port *port) {
     return true;
 }
 
-/* Beyond what select can wait for. */
-static bool is_too_high(int fd) {
-    return fd >= FD_SETSIZE;
+/* Whether select can wait for it. */
+static bool is_low(int fd) {
+    errno = EMFILE;
+    return fd < FD_SETSIZE;
 }
 
 bool port_open(struct port *port, const char *name) {
     *port = (struct port){.name = name, .fd = -1, .other_end = -1, .has_marks = true};
     port->fd = open(name, O_RDWR | O_NOCTTY | O_NONBLOCK);
-    if (port->fd < 0)
+    if (port->fd < 0 || !is_low(port->fd))
         return complain("%s: %s", name, strerror(errno));
-    if (!is_too_high(port->fd) && settled(port))
+    if (settled(port))
         return true;
     port_close(port);
     return false;
@@ -205,7 +206,7 @@ bool port_open(struct port *port, const char *name) {
 /* The other end is opened and set here too, so that a master finds a line on which every byte is as it is, and its going is no hang-up. */
 static bool opened_pty(struct port *port, char *name, uint64_t name_room) {
     port->fd = posix_openpt(O_RDWR | O_NOCTTY);
-    if (port->fd < 0 || is_too_high(port->fd) || grantpt(port->fd) != 0 || unlockpt(port->fd) != 0)
+    if (port->fd < 0 || !is_low(port->fd) || grantpt(port->fd) != 0 || unlockpt(port->fd) != 0)
         return false;
     const char *made = ptsname(port->fd);
     if (made == NULL || strlen(made) >= name_room)

@@ -29,7 +29,6 @@ uint64_t ticks_of_milliseconds(uint32_t milliseconds);
  * signals leaves them as they are. */
 struct woken {
     bool first, second; /* the descriptors that can be read */
-    bool by_signal;
 };
 struct woken wait_for(int first, int second, uint64_t due, const sigset_t *open_signals);
 

@@ -20,13 +20,13 @@ from commands import BY_NAME, CODES, COMMANDS, error_words
 VERSION = re.search(r'#define QS_VERSION "(.*?)"', (HOST / "quicksetter.h").read_text(encoding="ascii")).group(1)
 LINES, COLUMNS = 24, 80  # of a screen
 
-# Prints each command's name with its byte, and what each code says as an answer to each command.
+# Prints each command's byte, name and response time, and what each code says as an answer to each command.
 WORDS = """#include "words.h"
 #include <stdio.h>
 const char *const tool_name = "words";
 int main(void) {
     for (unsigned i = 0; i < NUMBER_OF_COMMANDS; i++)
-        printf("%02X %s\\n", COMMANDS[i].byte, COMMANDS[i].name);
+        printf("%02X %s %u\\n", COMMANDS[i].byte, COMMANDS[i].name, COMMANDS[i].due);
     for (unsigned i = 0; i < NUMBER_OF_COMMANDS; i++)
         for (unsigned code = 0; code < 256; code++) {
             print_error((uint8_t)code, COMMANDS[i].byte);
@@ -47,14 +47,22 @@ def check_port(tools: Tools, checks: Checks):
     checks.check(ran.returncode == 0, "test_port.c")
 
 
+def response_times():
+    """The milliseconds beside each command in quicksetter.h; 53h has none, and is given the shortest, for an error reply."""
+    header = (HOST / "quicksetter.h").read_text(encoding="ascii")
+    found = {int(byte, 16): int(time) for byte, time in re.findall(r"#define QS_\w+ 0x([0-9A-F]{2}) +/\*.*?; (\d+) ms", header)}
+    return {0x53: 5, **found}
+
+
 def check_words(tools: Tools, checks: Checks):
-    """Commands and codes have the names that the tools give them."""
+    """Commands and codes have the names that the tools give them, and the times of quicksetter.h."""
     source, made = tools.folder / "said.c", tools.folder / "said"
     source.write_text(WORDS, encoding="ascii")
     files = [str(source), str(HERE / "words.c"), str(HERE / "tool.c")]
     subprocess.run(["gcc", "-std=c11", "-I", str(HOST), "-I", str(HERE), *files, "-o", str(made)], check=True)
     told = subprocess.run([str(made)], stdout=subprocess.PIPE, text=True, check=True).stdout.splitlines()
-    expected = [f"{byte:02X} {name}" for name, byte in BY_NAME.items()]
+    times = response_times()
+    expected = [f"{byte:02X} {name} {times[byte]}" for name, byte in BY_NAME.items()]
     expected += [error_words(code, byte) for byte in COMMANDS for code in range(256)]
     checks.check(told == expected, f"words: {[pair for pair in zip(told, expected) if pair[0] != pair[1]][:3]}")
     checks.check(len(CODES) > 20, "there are codes")

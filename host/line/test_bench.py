@@ -3,6 +3,7 @@ pulled; bad command lines and ports."""
 
 import os
 import threading
+import time
 
 from rig import COMMAND_LINE, DONE, ERROR_CODE, FILE_FAULT, PORT_FAULT, REFUSED, SILENCE, Checks, Encoder, Line, Tools, Wire, hear, sealed
 
@@ -240,8 +241,10 @@ def check_wrong_replies(tools: Tools, checks: Checks):
             board = answering(line, 4, reply)
             bench.says("field-status 0", out, REFUSED)
             board.join()
-        for words in ("field-status 0", "increment-counter", "memory-status --address 31"):
+        for words, least in (("field-status 0", 0.06), ("increment-counter", 0.085), ("store-field 0 0 00", 0.305), ("memory-status --address 31 --patience 200", 0.26)):
+            begun = time.monotonic()
             bench.says(words, "silence: no reply came\n", SILENCE)
+            checks.check(least <= time.monotonic() - begun < least + 1.0, f"{words}: silence after {time.monotonic() - begun:.3f} s")
         bench.says("memory-status --raw", "> 40 4E 0E\n", SILENCE)
         hear(line.fd, 100, 0.1)
         board = answering(line, 3, sealed(0x40, 0x50, 0x0A))
@@ -267,6 +270,31 @@ def check_echo(tools: Tools, checks: Checks):
         board = answering(line, 3, request[:2] + b"\x50\x0a" + bytes([0x40 ^ 0x50 ^ 0x0A]))
         bench.says("increment-counter --echo on", "refused B2: the reply's checksum is wrong\n", REFUSED)
         board.join()
+
+
+def check_noise(tools: Tools, checks: Checks):
+    """A board that answers too late does not spoil the next request; a line on which somebody always speaks is told."""
+    with Line() as line:
+        bench = Bench(tools, checks, line.name)
+        late = threading.Timer(0.03, lambda: line.send(sealed(0x40, 0x4E, 0x01, 0x02)))
+        late.start()
+        board = answering(line, 3, sealed(0x40, 0x4E, 0x70, 0x00))
+        bench.says("memory-status --patience 60", "free blocks 112, fields 0\n", DONE)
+        board.join()
+        late.join()
+        talking = threading.Event()
+
+        def talk():
+            while not talking.wait(0.005):
+                line.send(b"\x41")
+
+        talker = threading.Thread(target=talk)
+        talker.start()
+        ran = tools.run("bench", line.name, "memory-status")
+        talking.set()
+        talker.join()
+        told = f"bench: {line.name}: somebody else speaks on the line all the time\n"
+        checks.check(ran == (PORT_FAULT, "", told), f"a line that is never still: {ran}")
 
 
 def check_two_boards(tools: Tools, checks: Checks, echo: bool):
@@ -333,6 +361,7 @@ def test(tools: Tools, checks: Checks, version: str):
     check_unsound(tools, checks)
     check_wrong_replies(tools, checks)
     check_echo(tools, checks)
+    check_noise(tools, checks)
     check_two_boards(tools, checks, echo=False)
     check_two_boards(tools, checks, echo=True)
     check_pulled(tools, checks)

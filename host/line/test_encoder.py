@@ -11,7 +11,7 @@ import time
 from typing import Iterator, List, NamedTuple, Optional, Tuple, Union
 
 import keeping
-from rig import COMMAND_LINE, DONE, FILE_FAULT, HERE, PORT_FAULT, ROOT, Checks, Encoder, Line, Tools, bytes_told, hear, sealed
+from rig import COMMAND_LINE, DONE, FILE_FAULT, HERE, PORT_FAULT, ROOT, TIMEOUT, Checks, Encoder, Line, Tools, bytes_told, hear, sealed
 from records import Character, Fault, Measured, Plate, Poll, PowerOn, gap, split
 
 FAST = ("--rate", "38400", "--pause", "22")
@@ -361,6 +361,22 @@ def check_commands(tools: Tools, checks: Checks):
         checks.check(ran == (DONE, out, "".join(err for _, _, err in COMMANDS)), f"commands: {ran}")
 
 
+def check_flood(tools: Tools, checks: Checks):
+    """Commands without an end do not keep it from answering."""
+    with Line() as line:
+        flood = subprocess.Popen(["yes", "position 5"], stdout=subprocess.PIPE)
+        command = [tools.path("encoder"), line.name, str(tools.folder / "flood.board")]
+        encoder = subprocess.Popen(command, stdin=flood.stdout, stdout=subprocess.DEVNULL)
+        time.sleep(0.1)
+        reply = line.ask(sealed(0x40, 0x42), 7)
+        checks.check(reply == sealed(0x40, 0x42, 0, 0, 0, 5), f"under a flood of commands: {bytes_told(reply)}")
+        encoder.terminate()
+        checks.check(encoder.wait(TIMEOUT) == DONE, "it ends under a flood of commands")
+        flood.kill()
+        flood.wait()
+        flood.stdout.close()
+
+
 def check_log(tools: Tools, checks: Checks):
     """Both directions, as explain.py reads them; a second run goes on in the same file."""
     log = tools.folder / "line.log"
@@ -462,6 +478,7 @@ def test(tools: Tools, checks: Checks):
     check_sleep(tools, checks)
     check_signals(tools, checks)
     check_commands(tools, checks)
+    check_flood(tools, checks)
     check_log(tools, checks)
     check_pulled(tools, checks)
     check_bad_use(tools, checks)
