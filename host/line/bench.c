@@ -40,20 +40,11 @@ static const char HELP[] =
 enum { NUMBER_OF_CODES = 4 };
 
 static struct {
-    uint32_t address;
     uint8_t code;
     uint8_t codes[NUMBER_OF_CODES];
     const char *text;
     bool raw;
 } given = {.code = 0x55, .codes = {0x55, 0x55, 0x55, 0x55}};
-
-static bool take_address(const char *value) {
-    if (strcmp(value, "all") == 0) {
-        given.address = QS_BROADCAST;
-        return true;
-    }
-    return number_in(value, "--address", 0, 31, &given.address);
-}
 
 static bool take_code(const char *value) {
     return hex_byte_in(value, "--code", &given.code);
@@ -66,24 +57,12 @@ static bool take_codes(const char *value) {
     return number == NUMBER_OF_CODES || complain("--codes are four, not '%s'", value);
 }
 
-static bool take_text(const char *value) {
-    given.text = value;
-    return true;
-}
-
-static bool take_raw(const char *value) {
-    (void)value;
-    given.raw = true;
-    return true;
-}
-
 static const struct option OPTIONS[] = {
-    LINE_OPTIONS,
-    {"--address", true, take_address},
-    {"--code", true, take_code},
-    {"--codes", true, take_codes},
-    {"--text", true, take_text},
-    {"--raw", false, take_raw},
+    MASTER_OPTIONS,
+    {.name = "--code", .take = take_code},
+    {.name = "--codes", .take = take_codes},
+    {.name = "--text", .text = &given.text},
+    {.name = "--raw", .flag = &given.raw},
 };
 
 /* ---- a request from words ------------------------------------------------------------------------------------------------------------------------------- */
@@ -217,7 +196,7 @@ static void tell_answer(const struct command *command, uint32_t verdict) {
 }
 
 static enum status ask(const struct command *command, const struct data *data) {
-    uint32_t verdict = master_ask(&exchange, given.address, command->byte, data->bytes, data->length);
+    uint32_t verdict = master_ask(&exchange, command->byte, data->bytes, data->length);
     enum status status = master_status(&exchange, verdict);
     if (status == ENDED_PORT)
         return status;
@@ -237,7 +216,7 @@ static enum status ask(const struct command *command, const struct data *data) {
  * error code, which is an answer. */
 static enum status surveyed(const char *what, uint8_t command, const uint8_t *data, uint64_t length, uint32_t *verdict) {
     uint64_t replied;
-    *verdict = master_ask(&exchange, given.address, command, data, length);
+    *verdict = master_ask(&exchange, command, data, length);
     enum status status = master_status(&exchange, *verdict);
     if (status == ENDED_PORT)
         return status;
@@ -315,7 +294,7 @@ static enum status survey(void) {
 
 /* What the bench would not write is told before the port is opened. */
 static bool is_written(const struct command *command, const struct data *data) {
-    uint64_t length = qs_request(given.address, command->byte, data->bytes, data->length, exchange.request, sizeof exchange.request);
+    uint64_t length = qs_request(asked_address, command->byte, data->bytes, data->length, exchange.request, sizeof exchange.request);
     return !QS_IS_REFUSED(length) || complain("%s: no such request: a count is 1 to 128, a code number 0 to 3", command->name);
 }
 
@@ -341,18 +320,13 @@ static enum status run(const struct words *words) {
     return status;
 }
 
+static bool is_use(const struct words *words) {
+    return words->number >= 2;
+}
+
+static const struct tool BENCH = {
+    .help = HELP, .options = OPTIONS, .number_of_options = PLACES(OPTIONS), .is_use = is_use, .wants = "wants a port and a request; --help lists them", .run = run};
+
 int main(int argc, char **argv) {
-    struct words words;
-    hold_standard_descriptors();
-    if (asks_for_help(argc, argv)) {
-        fputs(HELP, stdout);
-        return finish(ENDED_DONE);
-    }
-    if (!command_line_in(argc, argv, OPTIONS, PLACES(OPTIONS), &words))
-        return ENDED_COMMAND_LINE;
-    if (words.number < 2) {
-        complain("wants a port and a request; --help lists them");
-        return ENDED_COMMAND_LINE;
-    }
-    return finish(run(&words));
+    return tool_main(argc, argv, &BENCH);
 }

@@ -65,28 +65,6 @@ static bool ended_by_port, ended_by_file;
 
 /* ---- options -------------------------------------------------------------------------------------------------------------------------------------------- */
 
-static bool take_pty(const char *value) {
-    (void)value;
-    given.is_pty = true;
-    return true;
-}
-
-static bool take_total(const char *value) {
-    return number_in(value, "--total", 1, LARGEST_TOTAL, &given.total);
-}
-
-static bool take_bits(const char *value) {
-    return number_in(value, "--bits", 1, LARGEST_BITS, &given.bits);
-}
-
-static bool take_address(const char *value) {
-    return number_in(value, "--address", 0, 31, &given.address);
-}
-
-static bool take_position(const char *value) {
-    return number_in(value, "--position", 0, UINT32_MAX, &given.position);
-}
-
 static bool take_serial(const char *value) {
     if (strlen(value) > QS_LABEL_SERIAL_SIZE)
         return complain("--serial has at most %d letters, not '%s'", QS_LABEL_SERIAL_SIZE, value);
@@ -94,20 +72,15 @@ static bool take_serial(const char *value) {
     return true;
 }
 
-static bool take_log(const char *value) {
-    given.log = value;
-    return true;
-}
-
 static const struct option OPTIONS[] = {
     LINE_OPTIONS,
-    {"--pty", false, take_pty},
-    {"--total", true, take_total},
-    {"--bits", true, take_bits},
-    {"--address", true, take_address},
-    {"--serial", true, take_serial},
-    {"--position", true, take_position},
-    {"--log", true, take_log},
+    {.name = "--pty", .flag = &given.is_pty},
+    {.name = "--total", .number = &given.total, .least = 1, .most = LARGEST_TOTAL},
+    {.name = "--bits", .number = &given.bits, .least = 1, .most = LARGEST_BITS},
+    {.name = "--address", .number = &given.address, .least = 0, .most = 31},
+    {.name = "--serial", .take = take_serial},
+    {.name = "--position", .number = &given.position, .least = 0, .most = UINT32_MAX},
+    {.name = "--log", .text = &given.log},
 };
 
 /* ---- the log -------------------------------------------------------------------------------------------------------------------------------------------- */
@@ -514,18 +487,17 @@ static enum status run(const struct words *words) {
     return ended_by_port ? ENDED_PORT : ended_by_file ? ENDED_FILE : ENDED_DONE;
 }
 
+static bool is_use(const struct words *words) {
+    return words->number == (given.is_pty ? 1 : 2);
+}
+
+static const struct tool ENCODER = {.help = HELP,
+                                    .options = OPTIONS,
+                                    .number_of_options = PLACES(OPTIONS),
+                                    .is_use = is_use,
+                                    .wants = "wants a port, or --pty, and a file; --help has more",
+                                    .run = run};
+
 int main(int argc, char **argv) {
-    struct words words;
-    hold_standard_descriptors();
-    if (asks_for_help(argc, argv)) {
-        fputs(HELP, stdout);
-        return finish(ENDED_DONE);
-    }
-    if (!command_line_in(argc, argv, OPTIONS, PLACES(OPTIONS), &words))
-        return ENDED_COMMAND_LINE;
-    if (words.number != (given.is_pty ? 1u : 2u)) {
-        complain("wants a port, or --pty, and a file; --help has more");
-        return ENDED_COMMAND_LINE;
-    }
-    return run(&words);
+    return tool_main(argc, argv, &ENCODER);
 }

@@ -6,12 +6,22 @@
 
 #include <inttypes.h>
 #include <stdio.h>
+#include <string.h>
+
+uint32_t asked_address;
 
 static struct port port;
 static uint64_t free_from; /* the tick from which on the line may be used */
 
 /* What the systems at both ends may need beside 000's times, to wake up and to write a file; 000's time after a reset; for how long a line may be noisy. */
 enum { GRACE_MILLISECONDS = 50, AFTER_RESET_MILLISECONDS = 100, LONGEST_NOISE_MILLISECONDS = 2000 };
+
+bool take_address(const char *value) {
+    if (strcmp(value, "all") != 0)
+        return number_in(value, "--address", 0, 31, &asked_address);
+    asked_address = QS_BROADCAST;
+    return true;
+}
 
 /* ---- times ---------------------------------------------------------------------------------------------------------------------------------------------- */
 
@@ -129,9 +139,9 @@ void master_exchange(struct exchange *exchange) {
 
 /* ---- asking --------------------------------------------------------------------------------------------------------------------------------------------- */
 
-uint32_t master_ask(struct exchange *exchange, uint32_t address, uint8_t command, const uint8_t *data, uint64_t data_length) {
+uint32_t master_ask(struct exchange *exchange, uint8_t command, const uint8_t *data, uint64_t data_length) {
     static const uint8_t nothing[1]; /* no pointer is null, also where its length is 0 */
-    uint64_t length = qs_request(address, command, data == NULL ? nothing : data, data_length, exchange->request, sizeof exchange->request);
+    uint64_t length = qs_request(asked_address, command, data == NULL ? nothing : data, data_length, exchange->request, sizeof exchange->request);
     if (QS_IS_REFUSED(length))
         return QS_B0;
     exchange->request_length = length;

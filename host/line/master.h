@@ -23,6 +23,11 @@ struct exchange {
     enum heard heard;
 };
 
+/* The address number of the board that is asked, 0 to 31 or QS_BROADCAST, and the options of a master, for a program's own table. */
+extern uint32_t asked_address;
+#define MASTER_OPTIONS LINE_OPTIONS, {.name = "--address", .take = take_address}
+bool take_address(const char *value);
+
 /* Opens the line. Complains and returns false if it cannot be used. */
 bool master_open(const char *name);
 void master_close(void);
@@ -32,7 +37,7 @@ void master_exchange(struct exchange *exchange);
 
 /* Writes the request, exchanges it and judges the reply. Returns the verdict of qs_judge; QS_B0 where the bench does not write such a request, which is then not
  * sent, and QS_B1 for silence, a parity fault and a port that is gone, as exchange->heard says. */
-uint32_t master_ask(struct exchange *exchange, uint32_t address, uint8_t command, const uint8_t *data, uint64_t data_length);
+uint32_t master_ask(struct exchange *exchange, uint8_t command, const uint8_t *data, uint64_t data_length);
 
 /* The data of a reply that was judged good, or the code of an error reply. */
 const uint8_t *master_data(const struct exchange *exchange, uint64_t *length);

@@ -115,12 +115,6 @@ bool take_echo(const char *value) {
     return true;
 }
 
-bool take_rs485(const char *value) {
-    (void)value;
-    line.rs485 = true;
-    return true;
-}
-
 /* ---- opening -------------------------------------------------------------------------------------------------------------------------------------------- */
 
 static speed_t speed_of_line(void) {

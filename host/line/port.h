@@ -51,12 +51,12 @@ extern struct line line; /* 9600 baud, a pause of 55, no patience, until the opt
 
 /* The options of a line, for a program's own table. */
 #define LINE_OPTIONS                                                                                                                                        \
-    {"--rate", true, take_rate}, {"--pause", true, take_pause}, {"--patience", true, take_patience}, {"--echo", true, take_echo}, {"--rs485", false, take_rs485}
+    {.name = "--rate", .take = take_rate}, {.name = "--pause", .take = take_pause}, {.name = "--patience", .take = take_patience},                          \
+        {.name = "--echo", .take = take_echo}, {.name = "--rs485", .flag = &line.rs485}
 bool take_rate(const char *value);
 bool take_pause(const char *value);
 bool take_patience(const char *value);
 bool take_echo(const char *value);
-bool take_rs485(const char *value);
 
 struct character {
     uint8_t value;

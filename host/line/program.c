@@ -38,35 +38,13 @@ static const char HELP[] =
 static struct {
     bool check, no_save;
     const char *save;
-    uint32_t address;
 } given;
 
-static bool take_check(const char *value) {
-    (void)value;
-    given.check = true;
-    return true;
-}
-
-static bool take_no_save(const char *value) {
-    (void)value;
-    given.no_save = true;
-    return true;
-}
-
-static bool take_save(const char *value) {
-    given.save = value;
-    return true;
-}
-
-static bool take_address(const char *value) {
-    if (strcmp(value, "all") != 0)
-        return number_in(value, "--address", 0, 31, &given.address);
-    given.address = QP_BROADCAST;
-    return true;
-}
-
 static const struct option OPTIONS[] = {
-    LINE_OPTIONS, {"--check", false, take_check}, {"--save", true, take_save}, {"--no-save", false, take_no_save}, {"--address", true, take_address},
+    MASTER_OPTIONS,
+    {.name = "--check", .flag = &given.check},
+    {.name = "--save", .text = &given.save},
+    {.name = "--no-save", .flag = &given.no_save},
 };
 
 static struct tape wanted;
@@ -84,7 +62,7 @@ static struct tape before;
 
 /* A request of which only a good answer will do; else it tells why there is none. */
 static enum status asked(const char *what, uint8_t command, const uint8_t *data, uint64_t length) {
-    uint32_t verdict = master_ask(&exchange, given.address, command, data, length);
+    uint32_t verdict = master_ask(&exchange, command, data, length);
     enum status status = master_status(&exchange, verdict);
     if (status == ENDED_DONE || status == ENDED_PORT)
         return status;
@@ -226,7 +204,7 @@ static enum status tell_done(void) {
     uint64_t length;
     printf("done: the board holds ");
     print_summary(&wanted);
-    if (master_status(&exchange, master_ask(&exchange, given.address, QS_MEMORY_STATUS, NULL, 0)) == ENDED_DONE) {
+    if (master_status(&exchange, master_ask(&exchange, QS_MEMORY_STATUS, NULL, 0)) == ENDED_DONE) {
         printf("; ");
         print_counted(master_data(&exchange, &length)[0], "block");
         printf(" free");
@@ -238,7 +216,7 @@ static enum status tell_done(void) {
 /* One request after another until none is due. The tape is good and the run its own, so that no call is refused. */
 static enum status put_onto_board(void) {
     bool is_terminal = isatty(STDOUT_FILENO);
-    uint64_t run = qp_start(given.address, wanted.bytes, wanted.length);
+    uint64_t run = qp_start(asked_address, wanted.bytes, wanted.length);
     while ((exchange.request_length = qp_next(run, wanted.bytes, wanted.length, exchange.request, sizeof exchange.request)) != 0) {
         uint64_t due = run;
         master_exchange(&exchange);
@@ -276,22 +254,17 @@ static enum status run(const struct words *words) {
     return status;
 }
 
+static bool is_use(const struct words *words) {
+    return words->number == (given.check ? 1 : 2) && (given.save == NULL || !given.no_save);
+}
+
+static const struct tool PROGRAM = {.help = HELP,
+                                    .options = OPTIONS,
+                                    .number_of_options = PLACES(OPTIONS),
+                                    .is_use = is_use,
+                                    .wants = "wants a port and a label, or --check and a label, and one of --save and --no-save at most; --help has more",
+                                    .run = run};
+
 int main(int argc, char **argv) {
-    struct words words;
-    hold_standard_descriptors();
-    if (asks_for_help(argc, argv)) {
-        fputs(HELP, stdout);
-        return finish(ENDED_DONE);
-    }
-    if (!command_line_in(argc, argv, OPTIONS, PLACES(OPTIONS), &words))
-        return ENDED_COMMAND_LINE;
-    if (words.number != (given.check ? 1u : 2u)) {
-        complain("wants a port and a label, or --check and a label; --help has more");
-        return ENDED_COMMAND_LINE;
-    }
-    if (given.save != NULL && given.no_save) {
-        complain("--save and --no-save exclude each other");
-        return ENDED_COMMAND_LINE;
-    }
-    return finish(run(&words));
+    return tool_main(argc, argv, &PROGRAM);
 }

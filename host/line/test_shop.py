@@ -283,6 +283,7 @@ def check_tapes_of_texts(tools: Tools, checks: Checks):
             checks.check(ran.status == DONE and keeping.read(file).memory == memory_of(text), f"{text!r} onto the board: {ran}")
 
 
+WANTS = "wants a port and a label, or --check and a label, and one of --save and --no-save at most; --help has more"
 ANY_RECORD = "cut short, an unknown kind, codes missing or twice, no bit 7, or a 257th field"
 
 
@@ -304,10 +305,10 @@ def check_bad_use(tools: Tools, checks: Checks):
             ran = tools.run("program", *arguments)
             checks.check(ran == (FILE_FAULT, "", f"program: {path}: {why}\n"), f"{why}: {ran}")
     for words, why in (
-        ("", "wants a port and a label, or --check and a label; --help has more"),
-        ("A", "wants a port and a label, or --check and a label; --help has more"),
-        ("--check A B", "wants a port and a label, or --check and a label; --help has more"),
-        ("A B --save x --no-save", "--save and --no-save exclude each other"),
+        ("", WANTS),
+        ("A", WANTS),
+        ("--check A B", WANTS),
+        ("A B --save x --no-save", WANTS),
         ("A B --save", "--save wants a value; --help has it"),
         ("A B --address 99", "--address is 0 to 31, not '99'"),
         ("A B --code 55", "there is no option --code; --help lists them"),

@@ -19,22 +19,6 @@ bool complain(const char *form, ...) {
     return false;
 }
 
-enum status finish(enum status status) {
-    if (fflush(stdout) == 0 && !ferror(stdout))
-        return status;
-    complain("standard output: %s", strerror(errno));
-    return ENDED_FILE;
-}
-
-void hold_standard_descriptors(void) {
-    int fd;
-    do
-        fd = open("/dev/null", O_RDWR);
-    while (fd >= 0 && fd <= STDERR_FILENO);
-    if (fd > STDERR_FILENO)
-        (void)close(fd);
-}
-
 /* ---- as people write them ------------------------------------------------------------------------------------------------------------------------------- */
 
 static int digit_value(char digit) {
@@ -114,28 +98,44 @@ void print_hex(const uint8_t *bytes, uint64_t length) {
 
 /* ---- options -------------------------------------------------------------------------------------------------------------------------------------------- */
 
-static const struct option *option_named(const char *name, const struct option *options, unsigned number) {
-    for (unsigned i = 0; i < number; i++)
-        if (strcmp(options[i].name, name) == 0)
-            return &options[i];
+static const struct option *option_named(const char *name, const struct tool *tool) {
+    for (unsigned i = 0; i < tool->number_of_options; i++)
+        if (strcmp(tool->options[i].name, name) == 0)
+            return &tool->options[i];
     return NULL;
 }
 
+static bool has_value(const struct option *option) {
+    return option->flag == NULL;
+}
+
+static bool take_option(const struct option *option, const char *value) {
+    if (option->number != NULL)
+        return number_in(value, option->name, option->least, option->most, option->number);
+    if (option->take != NULL)
+        return option->take(value);
+    if (option->text != NULL)
+        *option->text = value;
+    else
+        *option->flag = true;
+    return true;
+}
+
 /* Whether an option of this name stands in the words before; the value of another option may look like one. */
-static bool stands_before(char **argv, int place, const struct option *options, unsigned number) {
+static bool stands_before(char **argv, int place, const struct tool *tool) {
     for (int i = 1; i < place; i++) {
-        const struct option *option = option_named(argv[i], options, number);
+        const struct option *option = option_named(argv[i], tool);
         if (option != NULL && strcmp(argv[i], argv[place]) == 0)
             return true;
-        i += option != NULL && option->has_value;
+        i += option != NULL && has_value(option);
     }
     return false;
 }
 
-bool command_line_in(int argc, char **argv, const struct option *options, unsigned number_of_options, struct words *words) {
+static bool command_line_in(int argc, char **argv, const struct tool *tool, struct words *words) {
     words->number = 0;
     for (int i = 1; i < argc; i++) {
-        const struct option *option = option_named(argv[i], options, number_of_options);
+        const struct option *option = option_named(argv[i], tool);
         if (option == NULL && strncmp(argv[i], "--", 2) == 0)
             return complain("there is no option %s; --help lists them", argv[i]);
         if (option == NULL && words->number == MOST_WORDS)
@@ -144,16 +144,50 @@ bool command_line_in(int argc, char **argv, const struct option *options, unsign
             words->word[words->number++] = argv[i];
             continue;
         }
-        if (stands_before(argv, i, options, number_of_options))
+        if (stands_before(argv, i, tool))
             return complain("%s stands twice", option->name);
-        if (option->has_value && i + 1 == argc)
+        if (has_value(option) && i + 1 == argc)
             return complain("%s wants a value; --help has it", option->name);
-        if (!option->take(option->has_value ? argv[++i] : NULL))
+        if (!take_option(option, has_value(option) ? argv[++i] : NULL))
             return false;
     }
-    return true;
+    return tool->is_use(words) || complain("%s", tool->wants);
 }
 
-bool asks_for_help(int argc, char **argv) {
+/* ---- a program ------------------------------------------------------------------------------------------------------------------------------------------ */
+
+/* What is closed of standard input, output and error is opened on nothing, so that no port or file takes its place. */
+static void hold_standard_descriptors(void) {
+    int fd;
+    do
+        fd = open("/dev/null", O_RDWR);
+    while (fd >= 0 && fd <= STDERR_FILENO);
+    if (fd > STDERR_FILENO)
+        (void)close(fd);
+}
+
+static bool asks_for_help(int argc, char **argv) {
     return argc == 2 && (strcmp(argv[1], "--help") == 0 || strcmp(argv[1], "-h") == 0 || strcmp(argv[1], "help") == 0);
+}
+
+static enum status helped(const struct tool *tool) {
+    fputs(tool->help, stdout);
+    return ENDED_DONE;
+}
+
+static enum status written_out(enum status status) {
+    if (fflush(stdout) == 0 && !ferror(stdout))
+        return status;
+    complain("standard output: %s", strerror(errno));
+    return ENDED_FILE;
+}
+
+enum status tool_main(int argc, char **argv, const struct tool *tool) {
+    struct words words;
+    hold_standard_descriptors();
+    if (asks_for_help(argc, argv))
+        return written_out(helped(tool));
+    if (!command_line_in(argc, argv, tool, &words))
+        return ENDED_COMMAND_LINE;
+    return written_out(tool->run(&words));
 }

@@ -16,9 +16,6 @@ enum status {
     ENDED_FILE = 6, /* a file that cannot be used */
 };
 
-/* The end of a program: what it printed is written out. Returns the status, or ENDED_FILE, with a complaint, where it could not be. */
-enum status finish(enum status status);
-
 #define PLACES(table) (sizeof(table) / sizeof *(table))
 
 /* The program's own name, which each line on standard error begins with. */
@@ -29,9 +26,6 @@ extern const char *const tool_name;
 __attribute__((format(printf, 1, 2)))
 #endif
 bool complain(const char *form, ...);
-
-/* Opens what is closed of standard input, output and error on nothing, so that no port or file takes their place. Before anything is opened. */
-void hold_standard_descriptors(void);
 
 /* ---- as people write them ------------------------------------------------------------------------------------------------------------------------------- */
 
@@ -48,11 +42,14 @@ void print_hex(const uint8_t *bytes, uint64_t length);
 
 /* ---- options -------------------------------------------------------------------------------------------------------------------------------------------- */
 
-/* An option takes its value, the next word, or NULL where it has none; it complains and returns false if the value is bad. */
+/* An option, and what it says: exactly one of flag, text, number and take is there. All but a flag have a value, the next word. */
 struct option {
     const char *name;
-    bool has_value;
-    bool (*take)(const char *value);
+    bool *flag;
+    const char **text;
+    uint32_t *number;
+    uint32_t least, most;            /* of the number */
+    bool (*take)(const char *value); /* complains and returns false if the value is bad */
 };
 
 enum { MOST_WORDS = 160 };
@@ -63,10 +60,18 @@ struct words {
     unsigned number;
 };
 
-/* Takes a command line apart; an option may stand anywhere, and only once. */
-bool command_line_in(int argc, char **argv, const struct option *options, unsigned number_of_options, struct words *words);
+/* ---- a program ------------------------------------------------------------------------------------------------------------------------------------------ */
 
-/* Whether the command line asks for help, and nothing else counts. */
-bool asks_for_help(int argc, char **argv);
+struct tool {
+    const char *help;
+    const struct option *options;
+    unsigned number_of_options;
+    bool (*is_use)(const struct words *words); /* whether these words can be meant */
+    const char *wants;                         /* what is told if not */
+    enum status (*run)(const struct words *words);
+};
+
+/* What main does: the command line taken apart, where an option may stand anywhere but only once; help, or the run; what was printed written out. */
+enum status tool_main(int argc, char **argv, const struct tool *tool);
 
 #endif
