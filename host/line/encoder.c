@@ -44,7 +44,7 @@ static struct {
     uint8_t image[QS_IMAGE_LENGTH];
     uint8_t room[QS_REPLY_ROOM];
     struct kept kept; /* memory, and the lasting bytes as they are on the disk */
-    bool is_new;      /* there is no file yet */
+    bool is_new;     /* there is no file yet */
     uint64_t memory_length;
     uint64_t last;   /* the tick of the last character that was handed in */
     uint64_t called; /* that of the last character or poll */
@@ -87,8 +87,8 @@ static const struct option OPTIONS[] = {
 
 static struct {
     FILE *file;
-    uint64_t start;   /* the tick that the log's times are counted from */
-    bool frame_open;  /* characters of a frame stand on the last line */
+    uint64_t start;    /* the tick that the log's times are counted from */
+    bool frame_open;   /* characters of a frame stand on the last line */
     bool frame_faulty; /* one of them had a parity fault */
 } logged;
 
@@ -288,6 +288,10 @@ static void receive(void) {
     port_gone(&port);
 }
 
+static bool has_character(void) {
+    return wait_for(port.fd, -1, 0, NULL).first;
+}
+
 /* ---- replies -------------------------------------------------------------------------------------------------------------------------------------------- */
 
 /* When the open frame's pause is over by the clock; NEVER while none is open. */
@@ -295,8 +299,9 @@ static uint64_t due(void) {
     return frame_is_open() ? board.called + board.sleep + board.lag + line.patience : NEVER;
 }
 
+/* Where the disk took so long that the master sends again already, it is not sent: the two would meet on the line. */
 static void send_reply(uint64_t length) {
-    if (!kept_for_reply())
+    if (!kept_for_reply() || has_character())
         return;
     if (!port_send(&port, board.room, length)) {
         ended_by_port = true;
@@ -442,7 +447,7 @@ static bool is_stopped(void) {
 
 /* Whether the open frame's pause is over. The clock is read before the port: a character that ended in time is found there, and is no poll's. */
 static bool pause_is_over(void) {
-    return ticks_now() >= due() && !wait_for(port.fd, -1, 0, NULL).first;
+    return ticks_now() >= due() && !has_character();
 }
 
 /* Sleeps until a character, a command, a signal, or the tick that the board told. */
