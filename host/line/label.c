@@ -151,14 +151,6 @@ static void add_byte(struct bytes *bytes, uint8_t byte) {
     bytes->number++;
 }
 
-static int hex_value(char digit) {
-    if (digit >= '0' && digit <= '9')
-        return digit - '0';
-    if (digit >= 'a' && digit <= 'f')
-        return digit - 'a' + 10;
-    return digit >= 'A' && digit <= 'F' ? digit - 'A' + 10 : -1;
-}
-
 /* How many digits, of at most this base, stand there. */
 static unsigned digits_at(struct text text, int base) {
     unsigned number = 0;
@@ -300,7 +292,7 @@ struct said {
     uint8_t bits, value;
 };
 
-/* A word with single blanks in it; an empty one for a word that is too long to be any. */
+/* A word with single blanks in it, cut where no word is as long. */
 enum { LONGEST_WORD = 63 };
 
 static void single_blanks(struct text text, char *word) {

@@ -79,12 +79,15 @@ static void take(struct exchange *exchange, const struct character *characters, 
     }
 }
 
+/* What is there is heard, however late this process was woken; it is over when the reply is whole, or when nothing is there and it is due. */
 static void hear(struct exchange *exchange, uint64_t due) {
     struct character characters[MOST_AT_ONCE];
-    while (!is_whole(exchange) && ticks_now() < due) {
-        if (!wait_for(port.fd, -1, due, NULL).first)
-            continue;
-        int number = port_receive(&port, characters);
+    while (!is_whole(exchange)) {
+        bool is_due = ticks_now() >= due;
+        bool is_there = wait_for(port.fd, -1, due, NULL).first;
+        if (is_due && !is_there)
+            return;
+        int number = is_there ? port_receive(&port, characters) : 0;
         if (number < 0) {
             gone(exchange);
             return;

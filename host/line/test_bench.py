@@ -290,7 +290,7 @@ def check_noise(tools: Tools, checks: Checks):
 
         talker = threading.Thread(target=talk)
         talker.start()
-        ran = tools.run("bench", line.name, "memory-status")
+        ran = tools.run("bench", line.name, "memory-status", "--rate", "600")
         talking.set()
         talker.join()
         told = f"bench: {line.name}: somebody else speaks on the line all the time\n"

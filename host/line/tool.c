@@ -21,11 +21,12 @@ bool complain(const char *form, ...) {
 
 /* ---- as people write them ------------------------------------------------------------------------------------------------------------------------------- */
 
-static int digit_value(char digit) {
-    const char *const digits = "0123456789abcdef";
-    char small = digit >= 'A' && digit <= 'F' ? (char)(digit - 'A' + 'a') : digit;
-    const char *found = digit == '\0' ? NULL : strchr(digits, small);
-    return found == NULL ? -1 : (int)(found - digits);
+int hex_value(char digit) {
+    if (digit >= '0' && digit <= '9')
+        return digit - '0';
+    if (digit >= 'a' && digit <= 'f')
+        return digit - 'a' + 10;
+    return digit >= 'A' && digit <= 'F' ? digit - 'A' + 10 : -1;
 }
 
 /* The number that digits of this base say; UINT64_MAX if one is none, or if it is beyond 32 bits. */
@@ -34,7 +35,7 @@ static uint64_t number_of(const char *digits, int base) {
     if (*digits == '\0')
         return UINT64_MAX;
     for (; *digits != '\0'; digits++) {
-        int value = digit_value(*digits);
+        int value = hex_value(*digits);
         if (value < 0 || value >= base)
             return UINT64_MAX;
         number = number * (uint64_t)base + (uint64_t)value;
@@ -79,8 +80,8 @@ bool hex_bytes_in(const char *text, const char *what, uint8_t *bytes, uint64_t r
             at++;
             continue;
         }
-        int high = digit_value(at[0]);
-        int low = high < 0 ? -1 : digit_value(at[1]);
+        int high = hex_value(at[0]);
+        int low = high < 0 ? -1 : hex_value(at[1]);
         if (low < 0)
             return complain("%s is pairs of hex digits, not '%s'", what, text);
         if (*length == room)

@@ -29,6 +29,9 @@ bool complain(const char *form, ...);
 
 /* ---- as people write them ------------------------------------------------------------------------------------------------------------------------------- */
 
+/* The value of a hex digit; -1 if it is none. */
+int hex_value(char digit);
+
 /* A decimal number, or 0x and hex digits, from least to most. Complains with `what` if it is none. */
 bool number_in(const char *text, const char *what, uint32_t least, uint32_t most, uint32_t *number);
 
