@@ -29,11 +29,12 @@ static const char HELP[] =
     "  --text TEXT     the bytes of store-field\n"
     "  --raw           request and reply as bytes\n"
     "  --rate BAUD     600 to 38400; left out 9600   --pause N  22 or 55; left out 55\n"
-    "  --patience MS   the adapter delivers up to so late; left out 0\n"
+    "  --patience MS   the port delivers up to so late; left out as a UART does\n"
     "  --echo on|off   it hears itself; left out: told by the time, off on a pty\n"
     "  --rs485         the kernel switches the driver\n"
     "Exit status: 0 done, 1 the board answered with an error code, 2 bad command\n"
-    "line, 3 reply refused, 4 silence, 5 port fault. A survey: 0 if all was answered\n";
+    "line, 3 reply refused, 4 silence, 5 port fault, 6 output cannot be written.\n"
+    "A survey ends in 0 if all was answered\n";
 
 /* ---- options -------------------------------------------------------------------------------------------------------------------------------------------- */
 
@@ -67,7 +68,7 @@ static const struct option OPTIONS[] = {
 
 /* ---- a request from words ------------------------------------------------------------------------------------------------------------------------------- */
 
-enum { MOST_DATA = QS_REQUEST_BUFFER - 3 };
+enum { MOST_STORED = 128, MOST_DATA = QS_REQUEST_BUFFER - 3 };
 
 struct data {
     uint8_t bytes[MOST_DATA];
@@ -111,18 +112,23 @@ static bool add_address(struct data *data, const char *word) {
 
 /* All words that are left, or --text. */
 static bool add_data(struct data *data, struct reading *reading) {
+    uint8_t stored[MOST_STORED];
+    uint64_t number = 0;
     const char *word;
-    uint64_t start = data->length;
-    if (given.text != NULL && strlen(given.text) > sizeof data->bytes - start)
-        return complain("--text has at most %u bytes", (unsigned)(sizeof data->bytes - start));
+    if (given.text != NULL && strlen(given.text) > sizeof stored)
+        return complain("--text has at most %u bytes", (unsigned)sizeof stored);
     if (given.text != NULL) {
-        memcpy(data->bytes + start, given.text, strlen(given.text));
-        data->length += strlen(given.text);
-        return true;
+        number = strlen(given.text);
+        memcpy(stored, given.text, number);
     }
-    while ((word = next_word(reading)) != NULL)
-        if (!hex_bytes_in(word, "what is stored", data->bytes, sizeof data->bytes, &data->length))
+    while ((word = next_word(reading)) != NULL) {
+        if (given.text != NULL)
+            return complain("bytes or --text, not both: '%s'", word);
+        if (!hex_bytes_in(word, "what is stored", stored, sizeof stored, &number))
             return false;
+    }
+    memcpy(data->bytes + data->length, stored, number);
+    data->length += number;
     return true;
 }
 

@@ -7,6 +7,7 @@
 #include "tool.h"
 
 #include <errno.h>
+#include <fcntl.h>
 #include <inttypes.h>
 #include <signal.h>
 #include <stdio.h>
@@ -27,7 +28,7 @@ static const char HELP[] =
     "  --rate BAUD     600, 1200, 2400, 4800, 9600, 19200 or 38400; left out 9600\n"
     "  --pause N       bit times that close a frame, 22 or 55; left out 55\n"
     "  --position N    the measured position at the start; left out 0\n"
-    "  --patience MS   the adapter delivers up to so late; left out 0\n"
+    "  --patience MS   the port delivers up to so late; left out as a UART does\n"
     "  --echo on|off   it hears itself; left out: told by the time, off on a pty\n"
     "  --rs485         the kernel switches the driver\n"
     "  --log FILE      adds both directions to it, as explain.py --log reads them\n"
@@ -92,11 +93,15 @@ static struct {
     bool frame_faulty; /* one of them had a parity fault */
 } logged;
 
+/* Nothing that it is written to may keep the board from answering: what takes no more is given up. */
 static bool log_open(void) {
     logged.start = ticks_now();
     if (given.log == NULL)
         return true;
-    logged.file = fopen(given.log, "a");
+    if (keep_is(given.log))
+        return complain("%s: this is the board's file", given.log);
+    int fd = open(given.log, O_WRONLY | O_APPEND | O_CREAT | O_NONBLOCK | O_NOCTTY, 0666);
+    logged.file = fd < 0 ? NULL : fdopen(fd, "a");
     return logged.file != NULL || complain("%s: %s", given.log, strerror(errno));
 }
 
@@ -323,12 +328,19 @@ static void poll_board(void) {
 
 /* ---- commands ------------------------------------------------------------------------------------------------------------------------------------------- */
 
+/* What a command did, for whom listens. */
+static bool is_listened_to(void) {
+    clearerr(stdout);
+    return takes_a_line(STDOUT_FILENO);
+}
+
 static void command_position(const char *said) {
     uint32_t position;
     if (!number_in(said, "a position", 0, UINT32_MAX, &position))
         return;
     (void)qs_measured(board.image, sizeof board.image, position);
-    printf("position %" PRIu32 "\n", position);
+    if (is_listened_to())
+        printf("position %" PRIu32 "\n", position);
 }
 
 static void command_fault(const char *said) {
@@ -336,14 +348,16 @@ static void command_fault(const char *said) {
     if (!hex_byte_in(said, "a fault code", &code))
         return;
     (void)qs_fault(board.image, sizeof board.image, code);
-    printf("fault %02Xh\n", code);
+    if (is_listened_to())
+        printf("fault %02Xh\n", code);
 }
 
 static void command_power_on(void) {
     (void)qs_power_on(board.image, sizeof board.image);
     board.sleep = QS_NO_FRAME_OPEN;
     log_frame_ends();
-    printf("power-on\n");
+    if (is_listened_to())
+        printf("power-on\n");
 }
 
 /* What stands behind a word, or NULL if the line does not begin with it. */
@@ -426,7 +440,6 @@ static sigset_t signals_begin(void) {
         (void)sigaction(ENDING[i], &action, NULL);
         sigaddset(&held, ENDING[i]);
     }
-    (void)sigaction(SIGPIPE, &ignored, NULL);
     (void)sigaction(SIGTTIN, &ignored, NULL); /* in the background its commands are at an end */
     (void)sigprocmask(SIG_BLOCK, &held, &waiting);
     for (unsigned i = 0; i < PLACES(ENDING); i++)
@@ -483,12 +496,14 @@ static enum status run(const struct words *words) {
         return ENDED_FILE;
     if (!line_opens(words->word[0]))
         return ENDED_PORT;
-    if (!log_open() || (board.is_new && !keep_write(&board.kept)))
+    if ((board.is_new && !keep_write(&board.kept)) || !log_open())
         return ENDED_FILE;
     tell_pty();
+    drops_what_nobody_reads = true;
     serve(open_signals);
     log_close();
     port_close(&port);
+    clearerr(stdout); /* that nobody listened any more is well */
     return ended_by_port ? ENDED_PORT : ended_by_file ? ENDED_FILE : ENDED_DONE;
 }
 

@@ -14,6 +14,7 @@
 #include <errno.h>
 #include <fcntl.h>
 #include <stdio.h>
+#include <stdlib.h>
 #include <string.h>
 #include <sys/stat.h>
 #include <unistd.h>
@@ -28,11 +29,13 @@ enum {
     SUM_SIZE = 4,
     LONGEST_FILE = MEMORY_PLACE + LARGEST_TOTAL * (QS_BLOCK + 1) + SUM_SIZE,
     LONGEST_NAME = 4096,
-    ADDED = 5, /* ".new" and its end */
+    LONGEST_ADDED = 32,
 };
 
-static char file_name[LONGEST_NAME], new_name[LONGEST_NAME + ADDED], folder_name[LONGEST_NAME];
-static int locked = -1; /* the file that is in place, open and locked; closing it would unlock it */
+static const char *given_name;               /* as it was said, for complaints */
+static char file_name[LONGEST_NAME];         /* with no link in it, so that the file that a link leads to is written, and not the link */
+static char new_name[LONGEST_NAME + LONGEST_ADDED]; /* of the file beside it */
+static int locked = -1;                      /* the file that is in place, open and locked; closing it would unlock it */
 
 /* ---- bytes ---------------------------------------------------------------------------------------------------------------------------------------------- */
 
@@ -71,15 +74,15 @@ static uint64_t bytes_of(const struct kept *kept, uint8_t *bytes) {
 
 static bool is_board(const uint8_t *bytes, uint64_t length, struct kept *kept) {
     if (length < MEMORY_PLACE || memcmp(bytes, MARK, sizeof MARK) != 0)
-        return complain("%s: not a board's file", file_name);
+        return complain("%s: not a board's file", given_name);
     kept->total = bytes[TOTAL_PLACE];
     kept->bits = bytes[BITS_PLACE];
     uint64_t memory_length = QS_MEMORY_LENGTH(kept->total);
     bool possible = kept->total >= 1 && kept->total <= LARGEST_TOTAL && kept->bits >= 1 && kept->bits <= LARGEST_BITS;
     if (!possible || length != MEMORY_PLACE + memory_length + SUM_SIZE)
-        return complain("%s: damaged: not the length that it should have", file_name);
+        return complain("%s: damaged: not the length that it should have", given_name);
     if (sum_at(bytes + length - SUM_SIZE) != crc_of(bytes, length - SUM_SIZE))
-        return complain("%s: damaged: its checksum is wrong", file_name);
+        return complain("%s: damaged: its checksum is wrong", given_name);
     memcpy(kept->lasting, bytes + LASTING_PLACE, sizeof kept->lasting);
     memcpy(kept->memory, bytes + MEMORY_PLACE, memory_length);
     return true;
@@ -87,18 +90,13 @@ static bool is_board(const uint8_t *bytes, uint64_t length, struct kept *kept) {
 
 /* ---- reading -------------------------------------------------------------------------------------------------------------------------------------------- */
 
-/* The names of the file, of the new one beside it, and of their folder. */
 static bool names_in(const char *name) {
-    size_t length = strlen(name);
-    if (length == 0 || length >= sizeof file_name)
+    given_name = name;
+    if (strlen(name) == 0 || strlen(name) >= sizeof file_name)
         return complain("%s: not the name of a file", name);
-    memcpy(file_name, name, length + 1);
-    memcpy(new_name, name, length);
-    memcpy(new_name + length, ".new", ADDED);
-    const char *slash = strrchr(name, '/');
-    size_t folder = slash == NULL ? 0 : slash == name ? 1 : (size_t)(slash - name);
-    memcpy(folder_name, folder == 0 ? "." : name, folder == 0 ? 1 : folder);
-    folder_name[folder == 0 ? 1 : folder] = '\0';
+    if (realpath(name, file_name) == NULL)
+        memcpy(file_name, name, strlen(name) + 1);
+    snprintf(new_name, sizeof new_name, "%s.new", file_name);
     return true;
 }
 
@@ -108,11 +106,11 @@ static bool lock(int fd) {
     return fcntl(fd, F_SETLK, &all) == 0;
 }
 
-static bool lock_or_complain(int fd, const char *name) {
+static bool lock_or_complain(int fd) {
     if (lock(fd))
         return true;
     bool in_use = errno == EACCES || errno == EAGAIN;
-    return complain("%s: %s", name, in_use ? "another encoder has it" : strerror(errno));
+    return complain("%s: %s", given_name, in_use ? "another encoder has it" : strerror(errno));
 }
 
 /* The whole file; one byte more than the longest, so that a longer one is seen. -1 for a fault. */
@@ -134,13 +132,11 @@ static ssize_t read_whole(int fd, uint8_t *bytes, size_t room) {
 static bool read_board(int fd, struct kept *kept) {
     uint8_t bytes[LONGEST_FILE + 1];
     struct stat about;
-    if (fstat(fd, &about) != 0)
-        return complain("%s: %s", file_name, strerror(errno));
-    if (!S_ISREG(about.st_mode))
-        return complain("%s: not a board's file", file_name);
+    if (fstat(fd, &about) == 0 && !S_ISREG(about.st_mode))
+        return complain("%s: not a board's file", given_name);
     ssize_t length = read_whole(fd, bytes, sizeof bytes);
     if (length < 0)
-        return complain("%s: %s", file_name, strerror(errno));
+        return complain("%s: %s", given_name, strerror(errno));
     return is_board(bytes, (uint64_t)length, kept);
 }
 
@@ -157,71 +153,57 @@ enum found keep_open(const char *name, struct kept *kept) {
     if (fd < 0 && errno == ENOENT)
         return FOUND_NONE;
     if (fd < 0) {
-        complain("%s: %s", file_name, strerror(errno));
+        complain("%s: %s", name, strerror(errno));
         return FOUND_UNUSABLE;
     }
-    if (!lock_or_complain(fd, file_name))
+    if (!lock_or_complain(fd))
         return FOUND_UNUSABLE;
     if (!is_in_place(fd)) {
-        complain("%s: another encoder has it", file_name);
+        complain("%s: another encoder has it", name);
         return FOUND_UNUSABLE;
     }
     locked = fd;
     return read_board(fd, kept) ? FOUND_BOARD : FOUND_UNUSABLE;
 }
 
+bool keep_is(const char *name) {
+    struct stat other, own;
+    if (strcmp(name, given_name) == 0 || strcmp(name, file_name) == 0 || strcmp(name, new_name) == 0)
+        return true;
+    return locked >= 0 && stat(name, &other) == 0 && fstat(locked, &own) == 0 && other.st_dev == own.st_dev && other.st_ino == own.st_ino;
+}
+
 /* ---- writing -------------------------------------------------------------------------------------------------------------------------------------------- */
 
-static bool write_whole(int fd, const uint8_t *bytes, uint64_t length) {
-    while (length > 0) {
-        ssize_t written = write(fd, bytes, length);
-        if (written < 0 && errno == EINTR)
-            continue;
-        if (written <= 0)
-            return false;
-        bytes += written;
-        length -= (uint64_t)written;
-    }
-    return true;
-}
-
-/* The new name must last too, and it stands in the folder. */
-static bool folder_to_disk(void) {
-    int folder = open(folder_name, O_RDONLY);
-    if (folder < 0)
-        return false;
-    bool good = fsync(folder) == 0;
-    int reason = errno;
-    (void)close(folder);
-    errno = reason;
-    return good;
-}
-
-/* What an encoder that was killed left of a new file is written over. The lock comes before the first byte is lost. */
+/* What an encoder that was killed left of a new file is taken away, and never written to: its name may lead to the file that is in place. A board that is new has a
+ * name of its own for it, since no lock keeps another new one from it. */
 static int new_file(void) {
-    int fd = open(new_name, O_RDWR | O_CREAT | O_NOFOLLOW, 0666);
-    if (fd < 0) {
-        complain("%s: %s", new_name, strerror(errno));
-        return -1;
-    }
-    if (lock_or_complain(fd, new_name) && (ftruncate(fd, 0) == 0 || complain("%s: %s", new_name, strerror(errno))))
-        return fd;
-    (void)close(fd);
-    return -1;
+    struct stat before;
+    if (locked < 0)
+        snprintf(new_name, sizeof new_name, "%s.new-%ld", file_name, (long)getpid());
+    (void)unlink(new_name);
+    int fd = open(new_name, O_RDWR | O_CREAT | O_EXCL, 0666);
+    if (fd >= 0 && locked >= 0 && fstat(locked, &before) == 0)
+        (void)fchmod(fd, before.st_mode & 07777); /* as the one before: it holds access codes */
+    return fd;
 }
 
-/* A board that is new takes a name that nobody took meanwhile: link, unlike rename, puts no file in another's place. */
+/* A board that is new takes a name that nobody took meanwhile: link, unlike rename, puts no file in another's place. Not all disks have links. */
 static bool put_in_place(void) {
     if (locked >= 0)
         return rename(new_name, file_name) == 0;
-    return link(new_name, file_name) == 0 && unlink(new_name) == 0;
+    if (link(new_name, file_name) == 0)
+        return unlink(new_name) == 0;
+    return errno == EPERM && rename(new_name, file_name) == 0;
 }
 
 /* Complains about the file. What was written of a new one is taken away. */
 static bool not_written(int fd) {
-    complain("%s: %s", file_name, strerror(errno));
-    (void)unlink(new_name);
-    (void)close(fd);
+    complain("%s: %s", given_name, strerror(errno));
+    if (fd >= 0) {
+        (void)unlink(new_name);
+        (void)close(fd);
+    }
     return false;
 }
 
@@ -229,12 +211,11 @@ bool keep_write(const struct kept *kept) {
     uint8_t bytes[LONGEST_FILE];
     uint64_t length = bytes_of(kept, bytes);
     int fd = new_file();
-    if (fd < 0)
-        return false;
-    if (!write_whole(fd, bytes, length) || fsync(fd) != 0 || !put_in_place() || !folder_to_disk())
+    if (fd < 0 || !lock(fd) || !write_whole(fd, bytes, length) || fsync(fd) != 0 || !put_in_place() || !folder_to_disk(file_name))
         return not_written(fd);
     if (locked >= 0)
         (void)close(locked);
     locked = fd;
+    snprintf(new_name, sizeof new_name, "%s.new", file_name);
     return true;
 }

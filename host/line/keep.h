@@ -20,6 +20,9 @@ enum found { FOUND_NONE, FOUND_BOARD, FOUND_UNUSABLE };
  * complains, and it is left alone. */
 enum found keep_open(const char *name, struct kept *kept);
 
+/* Whether a name leads to the file, or to the new one beside it. Only after keep_open. */
+bool keep_is(const char *name);
+
 /* Writes the file: a new one beside it, to the disk, then in its place, then the folder to the disk. Complains and returns false if it cannot be done. The file is
  * then what it was, or, where only the folder could not be written, whole and new. Only after keep_open. */
 bool keep_write(const struct kept *kept);

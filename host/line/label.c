@@ -3,9 +3,11 @@
 #include "label.h"
 
 #include <errno.h>
+#include <fcntl.h>
 #include <inttypes.h>
-#include <stdio.h>
 #include <string.h>
+#include <sys/stat.h>
+#include <unistd.h>
 
 /* ---- tapes ---------------------------------------------------------------------------------------------------------------------------------------------- */
 
@@ -498,15 +500,31 @@ enum { LONGEST_FILE = 1 << 18 };
 
 static uint8_t file_bytes[LONGEST_FILE + 1];
 
+/* A serial port is no label, and would be waited for. */
+static int open_label(const char *name) {
+    struct stat about;
+    int fd = open(name, O_RDONLY | O_NONBLOCK | O_NOCTTY);
+    if (fd < 0)
+        complain("%s: %s", name, strerror(errno));
+    else if (fstat(fd, &about) == 0 && S_ISCHR(about.st_mode))
+        complain("%s: a device, not a label", name);
+    else if (fcntl(fd, F_SETFL, 0) == 0)
+        return fd;
+    if (fd >= 0)
+        (void)close(fd);
+    return -1;
+}
+
 static bool file_in(const char *name, uint64_t *length) {
-    FILE *file = fopen(name, "rb");
-    if (file == NULL)
-        return complain("%s: %s", name, strerror(errno));
-    *length = fread(file_bytes, 1, sizeof file_bytes, file);
-    bool failed = ferror(file) != 0;
+    int fd = open_label(name);
+    if (fd < 0)
+        return false;
+    ssize_t more = 1;
+    for (*length = 0; more > 0 && *length < sizeof file_bytes; *length += more > 0 ? (uint64_t)more : 0)
+        more = read(fd, file_bytes + *length, sizeof file_bytes - *length);
     int reason = errno;
-    (void)fclose(file);
-    if (failed)
+    (void)close(fd);
+    if (more < 0)
         return complain("%s: %s", name, strerror(reason));
     return *length <= LONGEST_FILE || complain("%s: over %d bytes, which is more than any label has", name, LONGEST_FILE);
 }

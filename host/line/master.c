@@ -11,7 +11,8 @@
 uint32_t asked_address;
 
 static struct port port;
-static uint64_t free_from; /* the tick from which on the line may be used */
+static uint64_t free_from;   /* the tick from which on the line may be used */
+static uint64_t reset_until; /* that at which boards are back from a reset */
 
 /* What the systems at both ends may need beside 000's times, to wake up and to write a file; 000's time after a reset; for how long a line may be noisy. */
 enum { GRACE_MILLISECONDS = 50, AFTER_RESET_MILLISECONDS = 100, LONGEST_NOISE_MILLISECONDS = 2000 };
@@ -30,16 +31,16 @@ static uint64_t bits(uint64_t number) {
 }
 
 /* For how long the line must be still before a request: the pause, that boards see the frames before as closed, and a character more, so that it is not on the
- * edge (000: at least the length of the timeout). */
+ * edge (000: at least the length of the timeout). A board may have heard the frame before late by its patience, and waits for that again. */
 static uint64_t stillness(void) {
-    return bits(line.pause + CHARACTER_BITS) + line.patience;
+    return bits(line.pause + CHARACTER_BITS) + 2 * line.patience;
 }
 
-/* Until when the first character of the reply must be here, counted from the sending. */
+/* Until when the first character of the reply must be here, counted from the sending. The board may have heard the request late, and its reply may be heard so. */
 static uint64_t reply_due(const struct exchange *exchange) {
     const struct command *command = command_of(exchange->request[1]);
     uint32_t milliseconds = (command == NULL ? 0 : command->due) + GRACE_MILLISECONDS;
-    return bits((exchange->request_length + 1) * CHARACTER_BITS + line.pause) + ticks_of_milliseconds(milliseconds) + line.patience;
+    return bits((exchange->request_length + 1) * CHARACTER_BITS + line.pause) + ticks_of_milliseconds(milliseconds) + 2 * line.patience;
 }
 
 /* Until when the next one must be here, counted from the one before. */
@@ -56,7 +57,13 @@ bool master_open(const char *name) {
     return true;
 }
 
+static void wait_until(uint64_t tick) {
+    while (ticks_now() < tick)
+        (void)wait_for(-1, -1, tick, NULL);
+}
+
 void master_close(void) {
+    wait_until(reset_until);
     port_close(&port);
 }
 
@@ -136,8 +143,9 @@ void master_exchange(struct exchange *exchange) {
     send_and_hear(exchange);
     if (exchange->heard != HEARD_REPLY)
         exchange->reply_length = 0;
-    bool reset = exchange->request[1] == QS_RESET;
-    free_from = ticks_now() + stillness() + (reset ? ticks_of_milliseconds(AFTER_RESET_MILLISECONDS) : 0);
+    free_from = ticks_now() + stillness();
+    if (exchange->request[1] == QS_RESET)
+        free_from = reset_until = ticks_now() + stillness() + ticks_of_milliseconds(AFTER_RESET_MILLISECONDS);
 }
 
 /* ---- asking --------------------------------------------------------------------------------------------------------------------------------------------- */

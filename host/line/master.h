@@ -30,6 +30,8 @@ bool take_address(const char *value);
 
 /* Opens the line. Complains and returns false if it cannot be used. */
 bool master_open(const char *name);
+
+/* Closes it; after a reset when boards are back, so that who comes next need not know of it. */
 void master_close(void);
 
 /* Sends the exchange's request, when the line has been still for the pause, and waits for the reply. */

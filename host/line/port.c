@@ -75,7 +75,7 @@ struct woken wait_for(int first, int second, uint64_t due, const sigset_t *open_
 
 /* ---- options -------------------------------------------------------------------------------------------------------------------------------------------- */
 
-struct line line = {.ticks = 4, .pause = 55, .patience = 0, .echo = ECHO_BY_TIME, .rs485 = false};
+struct line line = {.ticks = 4, .pause = 55, .patience = PATIENCE_OF_PORT, .echo = ECHO_BY_TIME, .rs485 = false};
 
 static const struct {
     const char *name;
@@ -131,12 +131,12 @@ static bool is_pseudo(int fd) {
     return name != NULL && strncmp(name, folder, sizeof folder - 1) == 0;
 }
 
-/* 8 data bits, even parity, one stop bit (000, "UART"), every byte as it is, faults marked. */
-static bool set_raw(int fd) {
+/* 8 data bits, even parity, one stop bit (000, "UART"), every byte as it is, faults marked where they are to be. */
+static bool set_raw(int fd, tcflag_t marks) {
     struct termios wanted, taken;
     if (tcgetattr(fd, &wanted) != 0)
         return false;
-    wanted.c_iflag = INPCK | PARMRK;
+    wanted.c_iflag = marks;
     wanted.c_oflag = 0;
     wanted.c_lflag = 0;
     wanted.c_cflag = CS8 | CREAD | CLOCAL | (is_pseudo(fd) ? 0 : PARENB);
@@ -167,15 +167,24 @@ static bool set_direction(int fd, const char *name) {
 #endif
 }
 
+/* A UART collects: one of the usual kind hands over eight characters at once, or fewer when four character times are over, so that up to 121 bit times lie between
+ * two characters as they are read, of which the pause covers a part. A pseudo terminal hands over at once. */
+static uint64_t patience_of(int fd) {
+    enum { COLLECTED = 7 * CHARACTER_BITS + 4 * CHARACTER_BITS };
+    if (line.patience != PATIENCE_OF_PORT)
+        return line.patience;
+    return is_pseudo(fd) || line.pause > COLLECTED ? 0 : (uint64_t)(COLLECTED - line.pause) * line.ticks;
+}
+
 static bool settled(struct port *port) {
     if (!isatty(port->fd))
         return complain("%s: not a serial port", port->name);
-    if (!set_raw(port->fd))
+    if (!set_raw(port->fd, INPCK | PARMRK))
         return complain("%s: 8 data bits, even parity and this rate cannot be set: %s", port->name, strerror(errno));
     if (!set_direction(port->fd, port->name))
         return false;
-    bool by_time = line.echo == ECHO_BY_TIME;
-    port->echo = by_time && is_pseudo(port->fd) ? ECHO_OFF : line.echo;
+    port->echo = line.echo == ECHO_BY_TIME && is_pseudo(port->fd) ? ECHO_OFF : line.echo;
+    line.patience = patience_of(port->fd);
     port_forget(port);
     return true;
 }
@@ -207,12 +216,13 @@ static bool opened_pty(struct port *port, char *name, uint64_t name_room) {
         return false;
     memcpy(name, made, strlen(made) + 1);
     port->other_end = open(name, O_RDWR | O_NOCTTY);
-    return port->other_end >= 0 && set_raw(port->other_end) && fcntl(port->fd, F_SETFL, O_NONBLOCK) == 0;
+    return port->other_end >= 0 && set_raw(port->other_end, 0) && fcntl(port->fd, F_SETFL, O_NONBLOCK) == 0;
 }
 
 bool port_make_pty(struct port *port, char *name, uint64_t name_room) {
     *port = (struct port){.name = "the pseudo terminal", .fd = -1, .other_end = -1};
     port->echo = line.echo == ECHO_BY_TIME ? ECHO_OFF : line.echo;
+    line.patience = line.patience == PATIENCE_OF_PORT ? 0 : line.patience;
     if (line.rs485)
         return complain("--rs485 is for a serial port");
     if (opened_pty(port, name, name_room))
@@ -247,11 +257,11 @@ bool unmarked(struct marks *marks, uint8_t byte, struct character *character) {
     return true;
 }
 
-/* Whether a character is the next one of the own frame's echo. One that differs ends it: somebody else is on the line. */
-static bool is_echo(struct port *port, struct character character) {
+/* Whether a character that ended then is the next one of the own frame's echo. One that differs ends it: somebody else is on the line. */
+static bool is_echo(struct port *port, struct character character, uint64_t ended) {
     if (port->echoed == port->sent_length)
         return false;
-    bool same = !character.parity_fault && character.value == port->sent[port->echoed] && ticks_now() < port->echo_until;
+    bool same = !character.parity_fault && character.value == port->sent[port->echoed] && ended < port->echo_until;
     port->echoed = same ? port->echoed + 1 : port->sent_length;
     return same;
 }
@@ -266,11 +276,12 @@ int port_receive(struct port *port, struct character *characters) {
         errno = length == 0 ? 0 : errno;
         return -1;
     }
+    uint64_t now = ticks_now(), spacing = (uint64_t)CHARACTER_BITS * line.ticks;
     for (ssize_t i = 0; i < length; i++) {
         struct character character = {bytes[i], false};
         if (port->has_marks && !unmarked(&port->marks, bytes[i], &character))
             continue;
-        if (!is_echo(port, character))
+        if (!is_echo(port, character, now - spacing * (uint64_t)(length - 1 - i)))
             characters[number++] = character;
     }
     return number;
@@ -288,11 +299,11 @@ void port_forget(struct port *port) {
 
 /* ---- sending -------------------------------------------------------------------------------------------------------------------------------------------- */
 
-/* Until when an echo may come back: while the frame is on the line, and for half a pause; nobody else may speak before a whole one is over. */
+/* Before when a character must have ended to be an echo. Nobody else may speak before a whole pause is over, so that his first character ends no earlier. */
 static uint64_t end_of_echo(const struct port *port, uint64_t length) {
     if (port->echo == ECHO_ON)
         return NEVER;
-    return ticks_now() + (length * CHARACTER_BITS + line.pause / 2) * line.ticks;
+    return ticks_now() + ((length + 1) * CHARACTER_BITS + line.pause) * line.ticks;
 }
 
 static void expect_echo(struct port *port, const uint8_t *frame, uint64_t length) {

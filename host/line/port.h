@@ -34,20 +34,22 @@ struct woken wait_for(int first, int second, uint64_t due, const sigset_t *open_
 
 /* ---- the port ------------------------------------------------------------------------------------------------------------------------------------------- */
 
-/* Whether the port hears what it sends itself. By time: what comes in while the own frame is on the line is its echo, which tells it from an answer where a port
- * delivers in time; on a pseudo terminal there is none. */
+/* Whether the port hears what it sends itself. By time: what ends while the own frame is on the line, or so soon behind it that it can be nobody else's, is its
+ * echo; that holds where a port delivers in time. A pseudo terminal has none. */
 enum echo { ECHO_BY_TIME, ECHO_ON, ECHO_OFF };
 
 /* How the line is worked. */
 struct line {
     uint32_t ticks;    /* a bit; the rate is 38400 / ticks baud */
     uint32_t pause;    /* bit times that close a frame */
-    uint64_t patience; /* ticks by which the adapter may deliver late */
+    uint64_t patience; /* ticks by which the port may deliver late; PATIENCE_OF_PORT until an option or the port says it */
     enum echo echo;
     bool rs485; /* the kernel switches the driver */
 };
 
-extern struct line line; /* 9600 baud, a pause of 55, no patience, until the options below say otherwise */
+#define PATIENCE_OF_PORT UINT64_MAX
+
+extern struct line line; /* 9600 baud, a pause of 55, until the options below say otherwise */
 
 /* The options of a line, for a program's own table. */
 #define LINE_OPTIONS                                                                                                                                        \

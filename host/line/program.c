@@ -26,7 +26,7 @@ static const char HELP[] =
     "  --address N     0 to 31, or all; left out 0\n"
     "  --rate BAUD     600, 1200, 2400, 4800, 9600, 19200 or 38400; left out 9600\n"
     "  --pause N       bit times that close a frame, 22 or 55; left out 55\n"
-    "  --patience MS   the adapter delivers up to so late; left out 0\n"
+    "  --patience MS   the port delivers up to so late; left out as a UART does\n"
     "  --echo on|off   it hears itself; left out: told by the time, off on a pty\n"
     "  --rs485         the kernel switches the driver\n"
     "Exit status: 0 done, 1 the board answered with an error code, 2 bad command\n"
@@ -118,9 +118,9 @@ static bool write_before(const char *name) {
     int fd = open(name, O_WRONLY | O_CREAT | O_EXCL, 0666);
     if (fd < 0)
         return complain("%s: %s", name, strerror(errno));
-    bool good = write(fd, before.bytes, before.length) == (ssize_t)before.length && fsync(fd) == 0;
+    bool good = write_whole(fd, before.bytes, before.length) && fsync(fd) == 0 && folder_to_disk(name);
     int reason = errno;
-    good = close(fd) == 0 && good;
+    (void)close(fd);
     if (good)
         return true;
     (void)unlink(name);
@@ -201,14 +201,8 @@ static enum status tell_failure(uint64_t run) {
 }
 
 static enum status tell_done(void) {
-    uint64_t length;
     printf("done: the board holds ");
     print_summary(&wanted);
-    if (master_status(&exchange, master_ask(&exchange, QS_MEMORY_STATUS, NULL, 0)) == ENDED_DONE) {
-        printf("; ");
-        print_counted(master_data(&exchange, &length)[0], "block");
-        printf(" free");
-    }
     printf("\n");
     return ENDED_DONE;
 }
@@ -224,9 +218,11 @@ static enum status put_onto_board(void) {
         if (QP_HAS_FAILED(run))
             break;
         tell_progress(due, run, is_terminal);
+        has_open_line = is_terminal;
     }
-    if (is_terminal)
+    if (has_open_line)
         printf("\n");
+    has_open_line = false;
     return QP_HAS_FAILED(run) ? tell_failure(run) : tell_done();
 }
 

@@ -61,6 +61,13 @@ class Tools:
         self.folder = folder
         subprocess.run(["bash", str(HERE / "build.sh"), library, str(folder)], check=True)
 
+    def shim(self) -> str:
+        """The library that the tests put between a program and the C library."""
+        made = str(self.folder / "shim.so")
+        if not os.path.exists(made):
+            subprocess.run(["gcc", "-shared", "-fPIC", "-O1", "-Wall", "-Wextra", "-Werror", str(HERE / "shim.c"), "-o", made, "-ldl"], check=True)
+        return made
+
     def path(self, name: str) -> str:
         return str(self.folder / name)
 
@@ -166,14 +173,15 @@ def hear(fd: int, number: int, seconds: float) -> bytes:
 
 
 class Wire(threading.Thread):
-    """Several ptys on one wire: what one program sends reaches all others, and, where there is an echo, itself. `passes` may look at the bytes before they go on:
-    it is told the sender's place, and what it returns goes on."""
+    """Several ptys on one wire: what one program sends reaches all others, and, where there is an echo, itself; at once, or at the end of its time on a line of
+    this rate. `passes` may look at the bytes before they go on: it is told the sender's place, and what it returns goes on."""
 
-    def __init__(self, number: int, echo: bool = False, passes: Optional[Callable[[int, bytes], bytes]] = None):
+    def __init__(self, number: int, echo: bool = False, passes: Optional[Callable[[int, bytes], bytes]] = None, baud: int = 0):
         super().__init__(daemon=True)
         self.lines = [Line() for _ in range(number)]
         self.echo = echo
         self.passes = passes
+        self.baud = baud
         self.going = True
         self.start()
 
@@ -198,6 +206,7 @@ class Wire(threading.Thread):
 
     def pass_on(self, sender: int, data: bytes):
         data = self.passes(sender, data) if self.passes else data
+        time.sleep(11 * len(data) / self.baud if self.baud else 0)
         for place, line in enumerate(self.lines):
             if data and line.fd >= 0 and (place != sender or self.echo):
                 os.write(line.fd, data)

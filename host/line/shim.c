@@ -1,7 +1,8 @@
 /* Put between a tool and the C library by the tests (LD_PRELOAD). By the environment:
  *   SHIM_CALLS=FILE    the calls that bring something to the disk or the port are written there, a line each, before they are made
  *   SHIM_KILL=N        before the Nth of them the process is killed
- *   SHIM_FAULTY=N      the Nth byte that a port gives is marked as one with a parity fault, as the kernel marks it */
+ *   SHIM_FAULTY=N      the Nth byte that a port gives is marked as one with a parity fault, as the kernel marks it
+ *   SHIM_SERIAL=1      a pseudo terminal passes for a serial port: it has no name among them, and takes even parity */
 #define _GNU_SOURCE
 #include <dlfcn.h>
 #include <fcntl.h>
@@ -10,6 +11,7 @@
 #include <stdlib.h>
 #include <string.h>
 #include <sys/stat.h>
+#include <termios.h>
 #include <unistd.h>
 
 #define THE_REAL(name) ((__typeof__(&name))dlsym(RTLD_NEXT, #name))
@@ -76,4 +78,27 @@ ssize_t read(int fd, void *bytes, size_t length) {
     at[0] = 0xFF;
     at[1] = 0x00;
     return came + 2;
+}
+
+/* ---- a serial port -------------------------------------------------------------------------------------------------------------------------------------- */
+
+static tcflag_t parity;
+
+char *ttyname(int fd) {
+    return getenv("SHIM_SERIAL") != NULL ? NULL : THE_REAL(ttyname)(fd);
+}
+
+int tcsetattr(int fd, int when, const struct termios *wanted) {
+    struct termios possible = *wanted;
+    if (getenv("SHIM_SERIAL") != NULL) {
+        parity = wanted->c_cflag & PARENB;
+        possible.c_cflag &= ~(tcflag_t)PARENB;
+    }
+    return THE_REAL(tcsetattr)(fd, when, &possible);
+}
+
+int tcgetattr(int fd, struct termios *taken) {
+    int result = THE_REAL(tcgetattr)(fd, taken);
+    taken->c_cflag |= parity;
+    return result;
 }

@@ -78,8 +78,9 @@ def check_help(tools: Tools, checks: Checks):
         files = [f"{name}.c", "port.h"] + ["master.h"] * (name != "encoder")
         options = re.findall(r'\.name = "(--[\w-]+)"', "".join((HERE / file).read_text(encoding="ascii") for file in files))
         checks.check(len(options) >= 9 and all(option in ran.out for option in options), f"{name} --help has every option: {options}")
-        ran = tools.run(name, "--help", "--help")
-        checks.check(ran.status == COMMAND_LINE and ran.err.count("\n") == 1, f"{name} --help twice: {ran}")
+        checks.check(tools.run(name, "/nowhere", "--nothing", "--help") == ran, f"{name} --help behind other words")
+        ran = tools.run(name, "--line\nend")
+        checks.check(ran == (COMMAND_LINE, "", f"{name}: there is no option --line?end; --help lists them\n"), f"{name} with a line's end: {ran}")
     told = tools.run("bench", "--help").out
     checks.check(all(name in told for name in BY_NAME), "bench --help has every request")
 
@@ -159,8 +160,8 @@ def main(arguments) -> int:
         check_port(tools, checks)
         check_words(tools, checks)
         check_help(tools, checks)
-        test_bench.test(tools, checks, VERSION)
-        test_encoder.test(tools, checks)
+        test_bench.test(tools, checks, VERSION, tools.shim())
+        test_encoder.test(tools, checks, tools.shim())
         test_shop.test(tools, checks)
         check_first_hour(tools, checks)
         killed = test_kill.test(tools, checks, kills, seed)

@@ -2,10 +2,11 @@
 pulled; bad command lines and ports."""
 
 import os
+import subprocess
 import threading
 import time
 
-from rig import COMMAND_LINE, DONE, ERROR_CODE, FILE_FAULT, PORT_FAULT, REFUSED, SILENCE, Checks, Encoder, Line, Tools, Wire, hear, sealed
+from rig import COMMAND_LINE, DONE, ERROR_CODE, FILE_FAULT, PORT_FAULT, REFUSED, SILENCE, TIMEOUT, Checks, Encoder, Line, Tools, Wire, hear, sealed
 
 WARNING = "warning: a fault code waits on the board\n"
 C1 = "status C1h (exists, write-enabled, no code wanted, code number 0, 2 blocks)"
@@ -113,7 +114,9 @@ BAD_LINES = (
     ("PORT set-access-code 4 55 55", "set-access-code: no such request: a count is 1 to 128, a code number 0 to 3"),
     ("PORT store-field 0 0", "store-data: no such request: a count is 1 to 128, a code number 0 to 3"),
     ("PORT store-field 0 0 0", "what is stored is pairs of hex digits, not '0'"),
-    ("PORT store-field 0 0 " + "00" * 129, "what is stored has at most 132 bytes"),
+    ("PORT store-field 0 0 " + "00" * 129, "what is stored has at most 128 bytes"),
+    ("PORT store-field 0 0 00 --text A", "bytes or --text, not both: '00'"),
+    ("PORT store-field 0 0 --text " + "A" * 129, "--text has at most 128 bytes"),
     ("PORT memory-status --text A", "--text is for store-field"),
     ("PORT create-field 0 1C1", "the status is a byte in hex, not '1C1'"),
     ("PORT create-field 0 G0", "the status is a byte in hex, not 'G0'"),
@@ -272,6 +275,28 @@ def check_echo(tools: Tools, checks: Checks):
         board.join()
 
 
+def check_reset(tools: Tools, checks: Checks):
+    """Behind a reset the line is left alone for 100 ms."""
+    with Encoder(tools, tools.folder / "reset.board") as encoder:
+        begun = time.monotonic()
+        Bench(tools, checks, encoder.port).says("encoder-reset", "sent; 53h has no reply\n", DONE)
+        checks.check(time.monotonic() - begun >= 0.16, f"a reset took {time.monotonic() - begun:.3f} s")
+
+
+def check_serial(tools: Tools, checks: Checks, shim: str):
+    """A pty that passes for a serial port, on a wire that brings back what is sent: the echo is known by its time. At 600 baud a UART's patience is 110 ms."""
+    serial = {"LD_PRELOAD": shim, "SHIM_SERIAL": "1"}
+    rate = ("--rate", "600")
+    for echo in (True, False):
+        file = tools.folder / f"serial-{echo}.board"
+        with Wire(2, echo, baud=600) as wire, Encoder(tools, file, *rate, port=wire.name(0), environment=serial) as encoder:
+            for words, out in (("increment-counter", "done\n"), ("read-counter", "counter 1\n"), ("increment-counter", "done\n"), ("read-counter", "counter 2\n")):
+                ran = tools.run("bench", wire.name(1), words, *rate, environment=serial)
+                checks.check(ran == (DONE, out, ""), f"a serial port, echo {echo}: {words}: {ran}")
+            ran = encoder.end()
+            checks.check(ran == (DONE, "", ""), f"the encoder at a serial port: {ran}")
+
+
 def check_noise(tools: Tools, checks: Checks):
     """A board that answers too late does not spoil the next request; a line on which somebody always speaks is told."""
     with Line() as line:
@@ -351,16 +376,20 @@ def check_bad_use(tools: Tools, checks: Checks):
         checks.check(ran == (PORT_FAULT, "", f"bench: {port}: {why}\n"), f"bench at {port}: {ran}")
     if os.path.exists("/dev/full"):
         with Encoder(tools, tools.folder / "full.board") as encoder:
-            told = os.system(f"{tools.path('bench')} {encoder.port} memory-status >/dev/full 2>{tools.folder}/full.err") >> 8
-        checks.check(told == FILE_FAULT, f"standard output that takes nothing: {told}")
+            with open("/dev/full", "wb") as full:
+                command = [tools.path("bench"), encoder.port, "memory-status"]
+                ran = subprocess.run(command, stdout=full, stderr=subprocess.PIPE, text=True, timeout=TIMEOUT, check=False)
+        checks.check((ran.returncode, ran.stderr) == (FILE_FAULT, "bench: standard output cannot be written\n"), f"standard output that takes nothing: {ran}")
 
 
-def test(tools: Tools, checks: Checks, version: str):
+def test(tools: Tools, checks: Checks, version: str, shim: str):
     check_commands(tools, checks)
     check_survey(tools, checks, version)
     check_unsound(tools, checks)
     check_wrong_replies(tools, checks)
     check_echo(tools, checks)
+    check_reset(tools, checks)
+    check_serial(tools, checks, shim)
     check_noise(tools, checks)
     check_two_boards(tools, checks, echo=False)
     check_two_boards(tools, checks, echo=True)

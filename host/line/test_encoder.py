@@ -11,7 +11,7 @@ import time
 from typing import Iterator, List, NamedTuple, Optional, Tuple, Union
 
 import keeping
-from rig import COMMAND_LINE, DONE, FILE_FAULT, HERE, PORT_FAULT, ROOT, TIMEOUT, Checks, Encoder, Line, Tools, bytes_told, hear, sealed
+from rig import COMMAND_LINE, DONE, FILE_FAULT, PORT_FAULT, ROOT, TIMEOUT, Checks, Encoder, Line, Tools, bytes_told, hear, sealed
 from records import Character, Fault, Measured, Plate, Poll, PowerOn, gap, split
 
 FAST = ("--rate", "38400", "--pause", "22")
@@ -176,10 +176,19 @@ def check_frames(tools: Tools, checks: Checks):
     ]
     file = tools.folder / "frames.board"
     with Line() as line, Encoder(tools, file, *FAST, port=line.name):
-        for frame, expected in rows:
-            line.send(frame)
-            reply = line.hear(len(expected)) if expected else line.hear(1, STILL)
-            checks.check(reply == expected, f"{bytes_told(frame[:8])} of {len(frame)} -> {bytes_told(reply)}, not {bytes_told(expected)}")
+        check_rows(checks, line.fd, rows)
+    file.unlink()
+    with Encoder(tools, file, *FAST) as encoder:  # on its own pty, by a master that sets nothing
+        master = os.open(encoder.port, os.O_RDWR | os.O_NOCTTY)
+        check_rows(checks, master, rows)
+        os.close(master)
+
+
+def check_rows(checks: Checks, fd: int, rows: List[Tuple[bytes, bytes]]):
+    for frame, expected in rows:
+        os.write(fd, frame)
+        reply = hear(fd, len(expected), 5) if expected else hear(fd, 1, STILL)
+        checks.check(reply == expected, f"{bytes_told(frame[:8])} of {len(frame)} -> {bytes_told(reply)}, not {bytes_told(expected)}")
 
 
 def check_faulty(tools: Tools, checks: Checks, shim: str):
@@ -228,7 +237,7 @@ def check_file(tools: Tools, checks: Checks):
     refused(tools, checks, file, f"{file}: the board in it has 8 blocks and 24 position bits", "--bits", "25")
     refused(tools, checks, tools.folder, f"{tools.folder}: Is a directory")
     nowhere = tools.folder / "nowhere" / "kept.board"
-    refused(tools, checks, nowhere, f"{nowhere}.new: No such file or directory")
+    refused(tools, checks, nowhere, f"{nowhere}: No such file or directory")
     checks.check(keeping.read(file).counter == 77, "the good file is as it was")
     check_restart(tools, checks, file)
 
@@ -252,7 +261,7 @@ def check_restart(tools: Tools, checks: Checks, file: pathlib.Path):
     checks.check((kept.codes, kept.counter, kept.address) == (b"\x01\x02\x09\x04", 78, 3), f"kept at the end: {kept[:6]}")
 
 
-STORED = ("write", "fsync", "rename", "fsync folder", "send")
+STORED = ("unlink", "write", "fsync", "rename", "fsync folder", "send")
 
 
 def check_order(tools: Tools, checks: Checks, shim: str):
@@ -271,18 +280,54 @@ def check_order(tools: Tools, checks: Checks, shim: str):
                 reply = line.ask(store, 3, 0.3)
                 ran = encoder.ended()
             checks.check(ran.status == -signal.SIGKILL and reply == b"", f"killed before {name}: {ran}, {bytes_told(reply)}")
-            counted = 5 if name in ("write", "fsync", "rename") else 6
+            counted = 5 if name in ("unlink", "write", "fsync", "rename") else 6
             checks.check(keeping.read(file).counter == counted, f"killed before {name}: counter {keeping.read(file).counter}")
             with Encoder(tools, file, port=line.name):
                 checks.check(line.ask(sealed(0x40, 0x46), 6) == sealed(0x40, 0x46, 0, 0, counted), f"restarted after a kill before {name}")
 
 
+FIRST = ("unlink", "write", "fsync", "link", "unlink", "fsync folder")
+
+
+def counted(tools: Tools, line: Line, file: pathlib.Path, environment=None) -> bytes:
+    """One request to count, and its reply."""
+    with Encoder(tools, file, port=line.name, environment=environment):
+        return line.ask(sealed(0x40, 0x47), 3, 0.3 if environment else 5.0)
+
+
 def check_new_file(tools: Tools, checks: Checks, shim: str):
-    """A new board's first file takes no other's place."""
-    calls = tools.folder / "first"
-    with Line() as line, Encoder(tools, tools.folder / "first.board", port=line.name, environment={"LD_PRELOAD": shim, "SHIM_CALLS": str(calls)}):
+    """A new board's first file takes no other's place; killed before each call, there is none or a whole one, which goes on as any other."""
+    calls, file = tools.folder / "first", tools.folder / "first.board"
+    with Line() as line, Encoder(tools, file, port=line.name, environment={"LD_PRELOAD": shim, "SHIM_CALLS": str(calls)}):
         line.ask(MEMORY_STATUS, 5)
-    checks.check(calls.read_text().split("\n")[:-1] == ["write", "fsync", "link", "unlink", "fsync folder", "send"], f"calls for a new file: {calls.read_text()!r}")
+    checks.check(tuple(calls.read_text().split("\n")[:-1]) == FIRST + ("send",), f"calls for a new file: {calls.read_text()!r}")
+    for number, name in enumerate(FIRST, start=1):
+        file = tools.folder / f"first-{number}.board"
+        with Line() as line:
+            ran = tools.run("encoder", line.name, str(file), environment={"LD_PRELOAD": shim, "SHIM_KILL": str(number)})
+            checks.check(ran.status == -signal.SIGKILL and (not file.exists() or keeping.read(file).counter == 0), f"new, killed before {name}: {ran}")
+            checks.check(counted(tools, line, file) == sealed(0x40, 0x47), f"new, killed before {name}: the next start")
+            with Encoder(tools, file, port=line.name):
+                refused(tools, checks, file, f"{file}: another encoder has it")
+            reply = counted(tools, line, file, {"LD_PRELOAD": shim, "SHIM_KILL": "2"})
+            checks.check(reply == b"" and keeping.read(file).counter == 1, f"new, killed before {name}: a kill after the next start")
+
+
+def check_names(tools: Tools, checks: Checks):
+    """A link to a file is followed and stays; the file's mode stays; a log is not the board's file."""
+    file, link = keeping.put(tools.folder / "named.board", keeping.board(counter=5)), tools.folder / "link.board"
+    file.chmod(0o600)
+    link.symlink_to(file)
+    with Line() as line:
+        checks.check(counted(tools, line, link) == sealed(0x40, 0x47), "by a link")
+        checks.check(link.is_symlink() and keeping.read(file).counter == 6, "the file that a link leads to is written")
+        checks.check(file.stat().st_mode & 0o777 == 0o600, "the file keeps its mode")
+    for log in (file, link, pathlib.Path(f"{file}.new")):
+        refused(tools, checks, file, f"{log}: this is the board's file", "--log", str(log))
+    new = tools.folder / "newly.board"
+    with Line() as line:
+        ran = tools.run("encoder", line.name, str(new), "--log", str(new))
+    checks.check(ran == (FILE_FAULT, "", f"encoder: {new}: this is the board's file\n") and keeping.read(new).counter == 0, f"a log that is the new file: {ran}")
 
 
 def check_full(tools: Tools, checks: Checks):
@@ -377,6 +422,28 @@ def check_flood(tools: Tools, checks: Checks):
         flood.stdout.close()
 
 
+def check_unheard(tools: Tools, checks: Checks):
+    """Nobody reads what it tells: it drops that, answers, and ends by a signal. A log that nobody reads is refused."""
+    with Line() as line, Encoder(tools, tools.folder / "unheard.board", port=line.name) as encoder:
+        encoder.process.stdin.write("position 5\n" * 8000 + "fly\n" * 4000)
+        encoder.process.stdin.flush()
+        reply = line.ask(sealed(0x40, 0x42), 7)
+        checks.check(reply == sealed(0x40, 0x42, 0, 0, 0, 5), f"while nobody reads: {bytes_told(reply)}")
+        encoder.process.send_signal(signal.SIGTERM)
+        checks.check(encoder.process.wait(TIMEOUT) == DONE, "it ends while nobody reads")
+    with Line() as line, Encoder(tools, tools.folder / "unheard.board", port=line.name) as encoder:
+        encoder.process.stdout.close()
+        encoder.process.stdin.write("position 6\n")
+        encoder.process.stdin.flush()
+        reply = line.ask(sealed(0x40, 0x42), 7)
+        encoder.process.send_signal(signal.SIGTERM)
+        checks.check(encoder.process.wait(TIMEOUT) == DONE and reply[5:6] == b"\x06", f"nobody listens any more: {bytes_told(reply)}")
+        encoder.process.stdout = None
+    pipe = tools.folder / "pipe"
+    os.mkfifo(pipe)
+    refused(tools, checks, tools.folder / "unheard.board", f"{pipe}: No such device or address", "--log", str(pipe))
+
+
 def check_log(tools: Tools, checks: Checks):
     """Both directions, as explain.py reads them; a second run goes on in the same file."""
     log = tools.folder / "line.log"
@@ -458,14 +525,7 @@ def check_bad_use(tools: Tools, checks: Checks):
     checks.check(not file.exists(), "a bad command line or port makes no file")
 
 
-def shim_of(tools: Tools) -> str:
-    made = str(tools.folder / "shim.so")
-    subprocess.run(["gcc", "-shared", "-fPIC", "-O1", "-Wall", "-Wextra", "-Werror", str(HERE / "shim.c"), "-o", made, "-ldl"], check=True)
-    return made
-
-
-def test(tools: Tools, checks: Checks):
-    shim = shim_of(tools)
+def test(tools: Tools, checks: Checks, shim: str):
     check_tapes(tools, checks)
     check_delivery(tools, checks)
     check_stamps(tools, checks)
@@ -474,11 +534,13 @@ def test(tools: Tools, checks: Checks):
     check_file(tools, checks)
     check_order(tools, checks, shim)
     check_new_file(tools, checks, shim)
+    check_names(tools, checks)
     check_full(tools, checks)
     check_sleep(tools, checks)
     check_signals(tools, checks)
     check_commands(tools, checks)
     check_flood(tools, checks)
+    check_unheard(tools, checks)
     check_log(tools, checks)
     check_pulled(tools, checks)
     check_bad_use(tools, checks)

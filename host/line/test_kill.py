@@ -153,4 +153,5 @@ def test(tools: Tools, checks: Checks, kills: int, seed: int) -> str:
             if kill < kills:
                 checks.check(encoder.process.returncode == -signal.SIGKILL, f"kill {kill}: it ended by itself: {encoder.process.returncode}")
                 checks.check(keeping.read(file).total == TOTAL, f"kill {kill}: the file is unreadable")
+    checks.check(steps >= kills and (kills < 50 or 0 < kept < kills), f"{kills} kills hit {steps} changes, of which {kept} were kept under way")
     return f"; {kills} kills, {steps} changes acknowledged, {kept} of those under way were kept"

@@ -83,7 +83,7 @@ static int heard(enum echo echo, const uint8_t *bytes, unsigned length, uint64_t
     return number;
 }
 
-/* At 600 baud the frame is on the line for 2112 ticks, and half a pause is 1760 more. */
+/* At 600 baud the frame is on the line for 2112 ticks, and the first character of somebody else ends 4224 ticks later. */
 static void check_echo(void) {
     static const uint8_t twice[] = {0x40, 0x4E, 0x0E, 0x40, 0x4E, 0x0E}, other[] = {0x40, 0x4E, 0x70, 0x00, 0x7E};
     struct character characters[MOST_AT_ONCE];
@@ -91,8 +91,9 @@ static void check_echo(void) {
     check(heard(ECHO_BY_TIME, twice, 3, 0, characters) == 0, "an echo in time is dropped", 0);
     check(heard(ECHO_BY_TIME, twice, 6, 0, characters) == 3, "only once", 0);
     check(heard(ECHO_BY_TIME, other, 5, 0, characters) == 3 && characters[0].value == 0x70, "what differs from it is heard", 0);
-    check(heard(ECHO_BY_TIME, twice, 3, 2112 + 1760 + 100, characters) == 3, "the same later is no echo", 0);
-    check(heard(ECHO_ON, twice, 3, 2112 + 1760 + 100, characters) == 0, "but where one is awaited", 0);
+    check(heard(ECHO_BY_TIME, twice, 3, 2112 + 2816, characters) == 0, "an echo that a UART collected is dropped", 0);
+    check(heard(ECHO_BY_TIME, twice, 3, 2112 + 4224 + 1500, characters) == 3, "the same later is no echo", 0);
+    check(heard(ECHO_ON, twice, 3, 2112 + 4224 + 1500, characters) == 0, "but where one is awaited", 0);
     check(heard(ECHO_OFF, twice, 6, 0, characters) == 6, "and none is dropped where there is none", 0);
 }
 

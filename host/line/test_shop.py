@@ -19,7 +19,7 @@ FAST = ("--rate", "38400", "--pause", "22")
 SPINDLE = ROOT / "tools" / "labels" / "spindle.txt"
 CODES = "codes 55 55 55 55\n"
 OLD = CODES + 'field 2 blocks\ntext "USED"\nfield 1 block, code 1 wanted, read-only\nhex 01 FF 02\n'
-DONE_LINE = "done: the board holds 4 fields, 9 blocks; 103 blocks free\n"
+DONE_LINE = "done: the board holds 4 fields, 9 blocks\n"
 STEPS = (
     ["count the fields", "read the status of field 1", "delete field 1", "read the status of field 0", "delete field 0"]
     + ["create field 0", "store field 0", "read back field 0", "create field 1", "store field 1", "read back field 1"]
@@ -65,7 +65,7 @@ def check_whole(tools: Tools, checks: Checks):
         checks.check(saved.read_bytes() == tape_of(OLD), "the saved tape is the old label's")
         checks.check(keeping.read(file).memory == memory_of(SPINDLE.read_text(encoding="ascii")), "the board holds the spindle's label")
         ran = tools.run("program", encoder.port, str(saved), "--no-save", *FAST)
-        checks.check(ran.status == DONE and ran.out.endswith("done: the board holds 2 fields, 3 blocks; 109 blocks free\n"), f"put back: {ran}")
+        checks.check(ran.status == DONE and ran.out.endswith("done: the board holds 2 fields, 3 blocks\n"), f"put back: {ran}")
         checks.check(keeping.read(file).memory == memory_of(OLD), "the board holds the old label again")
         encoder.command("fault 1E")
         ran = tools.run("program", encoder.port, str(spindle), "--no-save", "--address", "all", *FAST)
@@ -94,7 +94,7 @@ def check_saving(tools: Tools, checks: Checks):
         checks.check(named is not None and pathlib.Path(named.group(1)).read_bytes() == tape_of(OLD), "saved by the time's name")
         empty = put_text(tools.folder / "empty.txt", CODES)
         ran = tools.run("program", encoder.port, str(empty), "--no-save", *FAST)
-        checks.check(ran.out.endswith("done: the board holds 0 fields, 0 blocks; 112 blocks free\n"), f"a label without fields: {ran}")
+        checks.check(ran.out.endswith("done: the board holds 0 fields, 0 blocks\n"), f"a label without fields: {ran}")
         ran = tools.run("program", encoder.port, str(text), *FAST)
         checks.check(ran.status == DONE and ran.out.startswith("no field was on the board\n"), f"nothing to save: {ran}")
 
@@ -143,24 +143,50 @@ def check_differs(tools: Tools, checks: Checks):
     checks.check(ran.status == REFUSED and ran.out.splitlines(True)[-1:] == [last] and ran.err == "", f"other bytes: {ran}")
 
 
+def on_screen(tools: Tools, *arguments: str) -> str:
+    """What the program writes to a terminal."""
+    screen, terminal = pty.openpty()
+    command = [tools.path("program"), *arguments]
+    subprocess.run(command, stdout=terminal, stderr=terminal, stdin=subprocess.DEVNULL, timeout=TIMEOUT, check=False)
+    os.close(terminal)
+    shown = b""
+    try:
+        while True:
+            shown += os.read(screen, 4096)
+    except OSError:
+        os.close(screen)
+    return shown.decode()
+
+
 def check_bar(tools: Tools, checks: Checks):
-    """On a terminal: one line that is written over."""
+    """On a terminal: one line that is written over, and ended before anything else is told."""
     file = keeping.put(tools.folder / "bar.board", old_board())
     with Encoder(tools, file, *FAST) as encoder:
-        screen, terminal = pty.openpty()
-        command = [tools.path("program"), encoder.port, str(SPINDLE), "--no-save", *FAST]
-        subprocess.run(command, stdout=terminal, stderr=subprocess.STDOUT, stdin=subprocess.DEVNULL, timeout=TIMEOUT, check=True)
-        os.close(terminal)
-        shown = b""
-        try:
-            while True:
-                shown += os.read(screen, 4096)
-        except OSError:
-            os.close(screen)
-    parts = shown.decode().split("\r")
+        shown = on_screen(tools, encoder.port, str(SPINDLE), "--no-save", *FAST)
+    parts = shown.split("\r")
     checks.check(len([part for part in parts if part.startswith("[")]) == 18, f"eighteen bars: {parts}")
     checks.check(any(part.startswith("[############..................]    7 of 18  store field 0  ") for part in parts), f"the seventh bar: {parts}")
-    checks.check(shown.decode().endswith("] " + "  18 of 18  read back field 3           \r\n" + DONE_LINE.replace("\n", "\r\n")), f"the end: {parts[-3:]}")
+    checks.check(shown.endswith("] " + "  18 of 18  read back field 3           \r\n" + DONE_LINE.replace("\n", "\r\n")), f"the end: {parts[-3:]}")
+    line = Line()
+    board = answering(line, 3, sealed(0x40, 0x4E, 0x70, 0x00), lambda: (line.hear(6, 5), line.pull()))
+    name = line.name
+    shown = on_screen(tools, name, str(SPINDLE), "--no-save")
+    board.join()
+    checks.check(f"count the fields            \r\nprogram: {name}: the port is gone" in shown and shown.count("\n") == 2, f"a complaint behind a bar: {shown!r}")
+
+
+def check_cut_off(tools: Tools, checks: Checks):
+    """Who reads the progress goes away: the run goes on to its end, and that is told."""
+    file = keeping.put(tools.folder / "cut-off.board", old_board())
+    with Encoder(tools, file, *FAST) as encoder:
+        command = [tools.path("program"), encoder.port, str(SPINDLE), "--no-save", *FAST]
+        ran = subprocess.Popen(command, stdout=subprocess.PIPE, stderr=subprocess.PIPE, text=True)
+        ran.stdout.readline()
+        ran.stdout.close()
+        err = ran.stderr.read()
+        checks.check(ran.wait(TIMEOUT) == FILE_FAULT and err == "program: standard output cannot be written\n", f"nobody reads: {ran.returncode} {err}")
+        ran.stderr.close()
+    checks.check(keeping.read(file).memory == memory_of(SPINDLE.read_text(encoding="ascii")), "nobody reads: the board holds the label")
 
 
 # --- the cable --------------------------------------------------------------------------------
@@ -205,7 +231,7 @@ def check_pulled(tools: Tools, checks: Checks):
     whole = memory_of(SPINDLE.read_text(encoding="ascii"))
     ran, _, passed = run_cut(tools, file, 0)
     checks.check(ran.status == DONE, f"a cable that is not pulled: {ran}")
-    for after in [*range(1, 20), *range(20, passed - 8, 23)]:  # the last eight bytes are a look at the free blocks, when all is done
+    for after in [*range(1, 20), *range(20, passed, 23)]:
         ran, name, _ = run_cut(tools, file, after)
         told = ran.err.startswith(f"program: {name}: the port is gone") and ran.err.count("\n") == 1
         checks.check(ran.status == PORT_FAULT and told and "failed" not in ran.out, f"pulled after {after} bytes: {ran}")
@@ -299,6 +325,7 @@ def check_bad_use(tools: Tools, checks: Checks):
         (keeping.put(folder / "wide.txt", CODES.encode("utf-16")), "this text is UTF-16; save it as UTF-8"),
         (keeping.put(folder / "latin.txt", CODES.encode() + b'field 1 block\ntext "\xe9"\n'), "line 3: no printable ASCII: byte E9h; \\xNN says any byte"),
         (nowhere, "No such file or directory"),
+        (pathlib.Path("/dev/zero"), "a device, not a label"),
         (folder, "Is a directory"),
     ):
         for arguments in (["--check", str(path)], ["/nowhere", str(path)]):
@@ -325,6 +352,7 @@ def test(tools: Tools, checks: Checks):
     check_failing(tools, checks)
     check_differs(tools, checks)
     check_bar(tools, checks)
+    check_cut_off(tools, checks)
     check_pulled(tools, checks)
     check_texts(tools, checks, 400)
     check_tapes_of_texts(tools, checks)

@@ -4,19 +4,79 @@
 
 #include <errno.h>
 #include <fcntl.h>
+#include <signal.h>
 #include <stdarg.h>
 #include <stdio.h>
 #include <string.h>
+#include <sys/select.h>
 #include <unistd.h>
 
+bool drops_what_nobody_reads, has_open_line;
+
+bool takes_a_line(int fd) {
+    struct timeval at_once = {0, 0};
+    fd_set writable;
+    FD_ZERO(&writable);
+    FD_SET(fd, &writable);
+    return !drops_what_nobody_reads || select(fd + 1, NULL, &writable, NULL, &at_once) == 1;
+}
+
+/* An argument may have line ends in it; a complaint is one line. */
+static void end_open_line(void) {
+    if (has_open_line)
+        printf("\n");
+    has_open_line = false;
+    (void)fflush(stdout);
+}
+
 bool complain(const char *form, ...) {
+    char said[1024];
     va_list arguments;
     va_start(arguments, form);
-    fprintf(stderr, "%s: ", tool_name);
-    vfprintf(stderr, form, arguments);
-    fprintf(stderr, "\n");
+    vsnprintf(said, sizeof said, form, arguments);
     va_end(arguments);
+    for (char *letter = said; *letter != '\0'; letter++)
+        if ((unsigned char)*letter < ' ' || *letter == 127)
+            *letter = '?';
+    if (!takes_a_line(STDERR_FILENO))
+        return false;
+    end_open_line();
+    fprintf(stderr, "%s: %s\n", tool_name, said);
     return false;
+}
+
+/* ---- files ---------------------------------------------------------------------------------------------------------------------------------------------- */
+
+bool write_whole(int fd, const uint8_t *bytes, uint64_t length) {
+    while (length > 0) {
+        ssize_t written = write(fd, bytes, length);
+        if (written < 0 && errno == EINTR)
+            continue;
+        if (written < 0)
+            return false;
+        bytes += written;
+        length -= (uint64_t)written;
+    }
+    return true;
+}
+
+bool folder_to_disk(const char *file) {
+    char folder[4096] = ".";
+    const char *slash = strrchr(file, '/');
+    size_t length = slash == NULL ? 1 : slash == file ? 1 : (size_t)(slash - file);
+    if (length >= sizeof folder)
+        return false;
+    if (slash != NULL)
+        memcpy(folder, file, length);
+    folder[length] = '\0';
+    int fd = open(folder, O_RDONLY);
+    if (fd < 0)
+        return false;
+    bool good = fsync(fd) == 0;
+    int reason = errno;
+    (void)close(fd);
+    errno = reason;
+    return good;
 }
 
 /* ---- as people write them ------------------------------------------------------------------------------------------------------------------------------- */
@@ -167,8 +227,12 @@ static void hold_standard_descriptors(void) {
         (void)close(fd);
 }
 
+/* Wherever it stands. */
 static bool asks_for_help(int argc, char **argv) {
-    return argc == 2 && (strcmp(argv[1], "--help") == 0 || strcmp(argv[1], "-h") == 0 || strcmp(argv[1], "help") == 0);
+    for (int i = 1; i < argc; i++)
+        if (strcmp(argv[i], "--help") == 0 || strcmp(argv[i], "-h") == 0)
+            return true;
+    return false;
 }
 
 static enum status helped(const struct tool *tool) {
@@ -179,13 +243,14 @@ static enum status helped(const struct tool *tool) {
 static enum status written_out(enum status status) {
     if (fflush(stdout) == 0 && !ferror(stdout))
         return status;
-    complain("standard output: %s", strerror(errno));
+    complain("standard output cannot be written");
     return ENDED_FILE;
 }
 
 enum status tool_main(int argc, char **argv, const struct tool *tool) {
     struct words words;
     hold_standard_descriptors();
+    (void)signal(SIGPIPE, SIG_IGN); /* who stops reading is told of, and ends no run half done */
     if (asks_for_help(argc, argv))
         return written_out(helped(tool));
     if (!command_line_in(argc, argv, tool, &words))

@@ -21,6 +21,15 @@ enum status {
 /* The program's own name, which each line on standard error begins with. */
 extern const char *const tool_name;
 
+/* A program that must not wait, since a board hangs on it, drops what nobody takes from standard output or error. */
+extern bool drops_what_nobody_reads;
+
+/* What stands on the terminal's last line is not ended: a complaint ends it first. */
+extern bool has_open_line;
+
+/* Whether a descriptor takes a line now. */
+bool takes_a_line(int fd);
+
 /* One line on standard error. Returns false, so that who finds a fault can complain and leave in one statement. */
 #if defined(__GNUC__)
 __attribute__((format(printf, 1, 2)))
@@ -42,6 +51,12 @@ bool hex_byte_in(const char *text, const char *what, uint8_t *byte);
 bool hex_bytes_in(const char *text, const char *what, uint8_t *bytes, uint64_t room, uint64_t *length);
 
 void print_hex(const uint8_t *bytes, uint64_t length);
+
+/* ---- files ---------------------------------------------------------------------------------------------------------------------------------------------- */
+
+/* All of it, and then the folder in which a file's name stands, on the disk. False with errno if not. */
+bool write_whole(int fd, const uint8_t *bytes, uint64_t length);
+bool folder_to_disk(const char *file);
 
 /* ---- options -------------------------------------------------------------------------------------------------------------------------------------------- */
 
