@@ -103,7 +103,7 @@ def check_memory(tools: Tools, checks: Checks) -> str:
     if not shutil.which("valgrind"):
         return "; no valgrind: whether memory is lost was left out"
     watched = ("valgrind", "--quiet", "--error-exitcode=99", "--leak-check=full", "--show-leak-kinds=all", "--errors-for-leak-kinds=all")
-    slow = ("--patience", "150")
+    slow = ("--patience", "60")
     with Encoder(tools, tools.folder / "watched.board", "--log", str(tools.folder / "watched.log"), prefix=watched) as encoder:
         for name, *arguments in (("program", str(test_shop.SPINDLE)), ("program", str(test_shop.SPINDLE), "--save", str(tools.folder / "watched.tape")), ("bench", "survey")):
             ran = tools.run(name, encoder.port, *arguments, *slow, prefix=watched)

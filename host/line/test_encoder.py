@@ -144,10 +144,11 @@ def check_stamps(tools: Tools, checks: Checks):
     """Characters that come in one go are eleven bits apart: by the log, from the first one to the reply it is as long as on a line, though all came at once."""
     bit, pause = 64, 55
     log = tools.folder / "stamps.log"
-    with Line() as line, Encoder(tools, tools.folder / "stamps.board", "--rate", "600", "--log", str(log), port=line.name):
+    with Line() as line, Encoder(tools, tools.folder / "stamps.board", "--rate", "600", "--log", str(log), port=line.name) as encoder:
         for length in (3, 5, 9, 3):
             time.sleep(0.2)  # as long as the longest of these would have been on the line
             line.ask(sealed(0x40, 0x4E, *bytes(length - 3)), 5 if length == 3 else 4)
+            encoder.command("power-on")  # told when what came before is done, the log's line too
             request, reply = [int(text.split()[0]) for text in log.read_text().splitlines()[-2:]]
             least = ((length - 1) * 11 + pause) * bit
             checks.check(least <= reply - request <= least + 4000, f"{length} characters at once: {reply - request} ticks, not {least}")
