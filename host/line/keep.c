@@ -32,10 +32,10 @@ enum {
     LONGEST_ADDED = 32,
 };
 
-static const char *given_name;               /* as it was said, for complaints */
-static char file_name[LONGEST_NAME];         /* with no link in it, so that the file that a link leads to is written, and not the link */
+static const char *given_name;                      /* as it was said, for complaints */
+static char file_name[LONGEST_NAME];                /* with no link in it: what a link leads to is written, and not the link */
 static char new_name[LONGEST_NAME + LONGEST_ADDED]; /* of the file beside it */
-static int locked = -1;                      /* the file that is in place, open and locked; closing it would unlock it */
+static int locked = -1;                             /* the file that is in place, open and locked; closing it would unlock it */
 
 /* ---- bytes ---------------------------------------------------------------------------------------------------------------------------------------------- */
 

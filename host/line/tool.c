@@ -21,14 +21,15 @@ bool takes_a_line(int fd) {
     return !drops_what_nobody_reads || select(fd + 1, NULL, &writable, NULL, &at_once) == 1;
 }
 
-/* An argument may have line ends in it; a complaint is one line. */
 static void end_open_line(void) {
-    if (has_open_line)
-        printf("\n");
-    has_open_line = false;
+    if (!has_open_line)
+        return;
+    printf("\n");
     (void)fflush(stdout);
+    has_open_line = false;
 }
 
+/* It is one line, whatever stands in an argument. */
 bool complain(const char *form, ...) {
     char said[1024];
     va_list arguments;
