@@ -133,7 +133,7 @@ void print_counted(unsigned number, const char *what) {
 }
 
 void print_status(uint8_t status) {
-    printf("status %02Xh (%s, %s, %s, code number %u, ", status, status & QS_STATUS_EXISTS ? "exists" : "does not exist",
+    printf("status %02Xh (%s, %s, %s, code number %d, ", status, status & QS_STATUS_EXISTS ? "exists" : "does not exist",
            status & QS_STATUS_WRITE_ENABLED ? "write-enabled" : "read-only", status & QS_STATUS_CODE_WANTED ? "code wanted" : "no code wanted",
            (status & QS_STATUS_CODE_NUMBER) >> 4);
     print_counted(blocks_of(status), "block");
@@ -185,7 +185,7 @@ static void print_interface(uint8_t settings) {
 
 static void print_type_label(const uint8_t *data) {
     print_interface(data[0]);
-    printf(", encoder type %02Xh%s, memory size %u blocks (%u bytes), option code %02Xh", data[1],
+    printf(", encoder type %02Xh%s, memory size %d blocks (%d bytes), option code %02Xh", data[1],
            data[1] == 0xFF ? " (there is an extended type label)" : "", data[2], data[2] * QS_BLOCK, data[3]);
 }
 
