@@ -47,7 +47,7 @@ static struct {
     struct kept kept; /* memory, and the lasting bytes as they are on the disk */
     bool is_new;     /* there is no file yet */
     uint64_t memory_length;
-    uint64_t last;   /* the tick of the last character that was handed in */
+    uint64_t last;   /* the tick of the last character that was handed in, or of the reply behind it: nothing comes before that */
     uint64_t called; /* that of the last character or poll */
     uint64_t lag;    /* by how much the open frame's ticks are behind the clock */
     uint32_t sleep;  /* what the board told, or QS_NO_FRAME_OPEN */
@@ -145,10 +145,10 @@ static void log_character(uint64_t tick, struct character character) {
     fprintf(logged.file, " %02X", character.value);
 }
 
-static void log_reply(uint64_t length) {
+static void log_reply(uint64_t tick, uint64_t length) {
     if (logged.file == NULL)
         return;
-    log_time(ticks_now(), '<');
+    log_time(tick, '<');
     for (uint64_t i = 0; i < length; i++)
         fprintf(logged.file, " %02X", board.room[i]);
     fputs("\n", logged.file);
@@ -259,8 +259,8 @@ static bool closes(uint64_t tick) {
     return frame_is_open() && tick - board.called >= board.sleep;
 }
 
-/* Characters that were read in one go: the last one ended now, the others eleven bits apart before it, none before the last one that was handed in. Where the
- * adapter may deliver late, the gap before them is shorter by its patience: by as much the frame's ticks stay behind the clock from there on. */
+/* Characters that were read in one go: the last one ended now, the others eleven bits apart before it, none before the last one that was handed in or the reply to
+ * it. Where the adapter may deliver late, the gap before them is shorter by its patience: by as much the frame's ticks stay behind the clock from there on. */
 static void take_characters(const struct character *characters, int number, uint64_t now) {
     uint64_t spacing = (uint64_t)CHARACTER_BITS * line.ticks;
     uint64_t span = spacing * (uint64_t)(number - 1);
@@ -313,7 +313,8 @@ static void send_reply(uint64_t length) {
         port_gone(&port);
         return;
     }
-    log_reply(length);
+    board.last = ticks_now();
+    log_reply(board.last, length);
 }
 
 /* No character came up to the end of the pause: the poll is for that very tick, however late this process was woken. */

@@ -5,6 +5,7 @@ log is told by tools/explain.py, which needs target/libquicksetter.so. Ends with
 import pathlib
 import re
 import shutil
+import signal
 import subprocess
 import sys
 import tempfile
@@ -149,12 +150,19 @@ def check_first_hour(tools: Tools, checks: Checks):
             checks.check(ran.stdout.splitlines() == expected and ran.stderr == "", f"README.md: {command}: {ran.stdout}{ran.stderr}")
 
 
+def let_signals_in():
+    """A shell that runs this in the background lets the programs that it starts ignore SIGINT, and nohup SIGHUP."""
+    for number in (signal.SIGINT, signal.SIGHUP):
+        signal.signal(number, signal.SIG_DFL)
+
+
 def main(arguments) -> int:
     if len(arguments) not in (1, 2) or (len(arguments) == 2 and not arguments[1].isdigit()):
         print(__doc__, file=sys.stderr)
         return 2
     kills = int(arguments[1]) if len(arguments) == 2 else 200
     seed = int(time.time())
+    let_signals_in()
     with tempfile.TemporaryDirectory() as folder:
         tools, checks = Tools(pathlib.Path(folder), arguments[0]), Checks("line")
         check_port(tools, checks)

@@ -370,12 +370,19 @@ def check_sleep(tools: Tools, checks: Checks):
 
 
 def check_signals(tools: Tools, checks: Checks):
+    """Each ends it, inside a frame too; one that was ignored when it began stays so."""
     for number in (signal.SIGINT, signal.SIGTERM, signal.SIGHUP):
         with Line() as line, Encoder(tools, tools.folder / "signals.board", port=line.name) as encoder:
             line.send(b"\x40\x4e")
             time.sleep(0.02)
             ran = encoder.end(number)
             checks.check(ran == (DONE, "", ""), f"ended by signal {number}: {ran}")
+    ignored = {"preexec_fn": lambda: signal.signal(signal.SIGINT, signal.SIG_IGN)}
+    with Line() as line, Encoder(tools, tools.folder / "signals.board", port=line.name, **ignored) as encoder:
+        encoder.process.send_signal(signal.SIGINT)
+        reply = line.ask(MEMORY_STATUS, 5)
+        ran = encoder.end()
+        checks.check(reply == sealed(0x40, 0x4E, 0x70, 0x00) and ran == (DONE, "", ""), f"a signal that is ignored: {bytes_told(reply)}, {ran}")
 
 
 COMMANDS = (
@@ -456,8 +463,10 @@ def check_log(tools: Tools, checks: Checks):
             time.sleep(STILL)
             encoder.end()
     expected = ["> 40 4E 0E", "< 40 4E 70 00 7E", "> 40 4C 00 0C", "< 40 50 12 02", "> 41 4E 0F", "> 40 53 13", "> 40 47 07", "< 40 47 07", "> 40 4E"] * 2
-    told = [text.split(" ticks ")[1] for text in log.read_text().splitlines()]
-    checks.check(told == expected, f"the log: {told}")
+    times, told = zip(*[text.split(" ticks ") for text in log.read_text().splitlines()])
+    checks.check(list(told) == expected, f"the log: {told}")
+    for run in (times[: len(times) // 2], times[len(times) // 2 :]):
+        checks.check(list(run) == sorted(run, key=int), f"the log's times go back: {run}")
     explain = subprocess.run([sys.executable, str(ROOT / "tools" / "explain.py"), "--log", str(log)], capture_output=True, text=True, check=False)
     summary = "summary: 12 frames, 6 replies, 2 errors, 6 silences, 0 wrong or missing replies, 0 bad lines, 0 failed expectations"
     checks.check(explain.returncode == 0 and explain.stdout.splitlines()[-1] == summary, f"explain.py of the log: {explain.stdout[-300:]} {explain.stderr}")

@@ -12,7 +12,8 @@ from rig import Checks, Encoder, Line, Tools, bytes_told, sealed
 
 FAST = ("--rate", "38400", "--pause", "22")
 TOTAL = 24
-LONGEST_LIFE = 0.05  # seconds from the restart to the kill
+LONGEST_LIFE = 0.05  # seconds from the restart to the kill, or as long as so many changes take where the disk is slow
+CHANGES_IN_A_LIFE = 20
 CODES = 4
 
 
@@ -114,10 +115,19 @@ def held(line: Line, codes: bytes) -> Model:
     return model
 
 
-def lived(dice: random.Random, line: Line, encoder: Encoder, model: Model) -> Tuple[Model, Model, int]:
+def longest_life(tools: Tools, line: Line) -> float:
+    """By how long a change takes on this disk, from request to reply."""
+    with Encoder(tools, tools.folder / "paced.board", *FAST, port=line.name):
+        begun = time.monotonic()
+        for _ in range(CHANGES_IN_A_LIFE):
+            line.ask(sealed(0x40, 0x47), 3)
+        return max(LONGEST_LIFE, time.monotonic() - begun)
+
+
+def lived(dice: random.Random, line: Line, encoder: Encoder, model: Model, longest: float) -> Tuple[Model, Model, int]:
     """Stores until the encoder is killed: what was acknowledged, what was under way, and how many steps were acknowledged."""
     process, steps = encoder.process, 0
-    killer = threading.Timer(dice.random() * LONGEST_LIFE, process.send_signal, (signal.SIGKILL,))
+    killer = threading.Timer(dice.random() * longest, process.send_signal, (signal.SIGKILL,))
     killer.start()
     while True:
         asked = step(dice, model)
@@ -139,6 +149,7 @@ def test(tools: Tools, checks: Checks, kills: int, seed: int) -> str:
     model = under_way = Model()
     steps = kept = 0
     with Line() as line:
+        longest = longest_life(tools, line)
         for kill in range(kills + 1):
             with Encoder(tools, file, "--total", str(TOTAL), *FAST, port=line.name) as encoder:
                 line.hear(1000, 0.0)
@@ -148,7 +159,7 @@ def test(tools: Tools, checks: Checks, kills: int, seed: int) -> str:
                 checks.check(found in (model, under_way), f"after kill {kill} with seed {seed}: {found.told()}, not {model.told()} or {under_way.told()}")
                 kept += found == under_way != model
                 if kill < kills:
-                    model, under_way, more = lived(dice, line, encoder, found)
+                    model, under_way, more = lived(dice, line, encoder, found, longest)
                     steps += more
             if kill < kills:
                 checks.check(encoder.process.returncode == -signal.SIGKILL, f"kill {kill}: it ended by itself: {encoder.process.returncode}")
