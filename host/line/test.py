@@ -152,8 +152,8 @@ def check_first_hour(tools: Tools, checks: Checks):
 
 def let_signals_in():
     """A shell that runs this in the background lets the programs that it starts ignore SIGINT, and nohup SIGHUP."""
-    for number in (signal.SIGINT, signal.SIGHUP):
-        signal.signal(number, signal.SIG_DFL)
+    signal.signal(signal.SIGINT, signal.default_int_handler)
+    signal.signal(signal.SIGHUP, signal.SIG_DFL)
 
 
 def main(arguments) -> int:

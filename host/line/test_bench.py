@@ -1,12 +1,14 @@
-"""bench against encoder: every command and error, its words and exit status; boards that answer wrongly or not at all; two encoders on one wire; a cable that is
-pulled; bad command lines and ports."""
+"""bench against encoder: every command and error, its words and exit status; a line that spoils requests; boards that answer wrongly or not at all; two encoders on
+one wire; a cable that is pulled; bad command lines and ports."""
 
 import os
 import subprocess
 import threading
 import time
+from typing import List, Tuple
 
 from rig import COMMAND_LINE, DONE, ERROR_CODE, FILE_FAULT, PORT_FAULT, REFUSED, SILENCE, TIMEOUT, Checks, Encoder, Line, Tools, Wire, hear, sealed
+from commands import BY_NAME, CODES, WRONG_ARGUMENT, WRONG_ARGUMENTS, error_words
 
 WARNING = "warning: a fault code waits on the board\n"
 C1 = "status C1h (exists, write-enabled, no code wanted, code number 0, 2 blocks)"
@@ -67,6 +69,7 @@ SESSION = (
     ("read-encoder-status", "no code waits\n"),
     ("read-type-label", "interface E4h (9600 baud, 8 data bits, even parity, timeout 55 bit times, standard slave), encoder type 07h, "
      "memory size 24 blocks (384 bytes), option code 00h\n"),
+    ("read-version", 'serial number "VIRTUAL01", version "encoder VERSION", date "16.11.26"\n'),
     ("set-encoder-address 5 --code 54", WRONG_CODE),
     ("set-encoder-address 5", "done\n"),
     ("memory-status --address 5", "free blocks 5, fields 2\n"),
@@ -100,6 +103,18 @@ WRONG_REPLIES = (
     (sealed(0x40, 0x4C, 0x00), "refused B5: the reply is not as long as it should be\n"),
     (sealed(0x40, 0x4C, 0x01, 0xC1), "refused B6: the reply names another field, offset, count, code number or status\n"),
 )
+
+# What bench never writes, but a bad line may make of it: the request, the frame that the board hears instead, and how bench tells its answer.
+SPOILED = (
+    ("memory-status", b"\x40\x4e\x0f", "error 0Ah checksum error (the frame's last byte is not its checksum)\n"),
+    ("memory-status", sealed(0x40, 0x44), "error 0Bh unknown command (the board does not have this command)\n"),
+    ("memory-status", sealed(0x40, 0x4E, 0x00), "error 0Ch wrong command length (frame or data of the wrong length)\n"),
+    ("encoder-reset", sealed(0x40, 0x53, 0x00), "error 0Ch wrong command length (frame or data of the wrong length)\n"),
+    ("read-field 0 0 1", sealed(0x40, 0x4A, 0, 0, 0, 0x55), "error 0Dh wrong argument (the count is 0 or over 128)\n"),
+    ("set-access-code 3 55 55", sealed(0x40, 0x4F, 4, 0x55, 0x55), "error 0Dh wrong argument (the code number is over 3)\n"),
+    ("set-encoder-address 5", sealed(0x40, 0x55, 0x60, 0x55), "error 0Dh wrong argument (the new address byte is not 40h to 5Fh)\n"),
+)
+PARITY = "error 09h parity error (a character had a parity fault)\n"
 
 BAD_LINES = (
     ("", "wants a port and a request; --help lists them"),
@@ -142,6 +157,8 @@ BAD_LINES = (
 class Bench:
     """bench at a port, each call checked."""
 
+    told: List[Tuple[str, str]] = []  # by all of them: the request's name, and what bench printed
+
     def __init__(self, tools: Tools, checks: Checks, port: str, *options: str):
         self.tools = tools
         self.checks = checks
@@ -152,17 +169,18 @@ class Bench:
         arguments = [self.port, *words.split(), *([last] if last else []), *self.options]
         ran = self.tools.run("bench", *arguments)
         self.checks.check(ran == (status, out, ""), f"bench {words} {last}: {ran}")
+        self.told.append((words.split()[0], ran.out))
 
 
 def status_of(out: str) -> int:
     return ERROR_CODE if out.startswith("error") or "< 40 50 0F" in out else DONE
 
 
-def check_commands(tools: Tools, checks: Checks):
+def check_commands(tools: Tools, checks: Checks, version: str):
     with Encoder(tools, tools.folder / "commands.board", "--total", "8") as encoder:
         bench = Bench(tools, checks, encoder.port)
         for words, *more in SESSION:
-            bench.says(words, more[-1], status_of(more[-1]), more[0] if len(more) == 2 else "")
+            bench.says(words, more[-1].replace("VERSION", version), status_of(more[-1]), more[0] if len(more) == 2 else "")
         check_locked(encoder, bench)
         ran = encoder.end()
         checks.check(ran == (DONE, "", ""), f"encoder at the end of the commands: {ran}")
@@ -220,6 +238,37 @@ def check_unsound(tools: Tools, checks: Checks):
         bench.says("increment-counter", "done\n" + WARNING, DONE)
         bench.says("read-counter", "counter 0\n" + WARNING, DONE)
         bench.says("read-encoder-status", "oldest waiting code 08h counter overflow\n", DONE)
+
+
+def check_spoiled(tools: Tools, checks: Checks, shim: str):
+    """The errors of a frame itself, and of arguments that bench does not write: the line spoils what it sends, a character's parity too."""
+    heard = [b""]
+    with Wire(2, passes=lambda sender, data: heard[0] if sender == 1 else data) as wire:
+        bench = Bench(tools, checks, wire.name(1), "--patience", "40")
+        with Encoder(tools, tools.folder / "spoiled.board", port=wire.name(0)) as encoder:
+            heard[0] = sealed(0x40, 0x4D, 0x00, 0xC0, 0x55)
+            bench.says("create-field 0 C0", "field 0, status C0h (exists, write-enabled, no code wanted, code number 0, 1 block)\n", DONE)
+            for words, frame, out in SPOILED:
+                heard[0] = frame
+                bench.says(words, out, ERROR_CODE)
+            ran = encoder.end()
+            checks.check(ran == (DONE, "", ""), f"the encoder at a line that spoils: {ran}")
+        faulty = {"LD_PRELOAD": shim, "SHIM_FAULTY": "2"}
+        with Encoder(tools, tools.folder / "spoiled.board", port=wire.name(0), environment=faulty):
+            heard[0] = sealed(0x40, 0x4E)
+            bench.says("memory-status", PARITY, ERROR_CODE)
+            bench.says("memory-status", "free blocks 111, fields 1\n", DONE)
+
+
+def check_all_met(checks: Checks):
+    """Of what bench was told by our board so far: no command is missing, no error code, no argument of which 0Dh speaks."""
+    errors = [error_words(code) for code in CODES if CODES[code].answered and code != WRONG_ARGUMENT]
+    errors += [error_words(WRONG_ARGUMENT, command) for command in WRONG_ARGUMENTS]
+    asked = {name for name, _ in Bench.told}
+    printed = {out.split("\n")[0] for _, out in Bench.told}
+    checks.check(len(BY_NAME) == 16 and asked.issuperset(BY_NAME), f"commands that bench never asked: {set(BY_NAME) - asked}")
+    missing = [error for error in errors if f"error {error}" not in printed]
+    checks.check(len(errors) == 16 and not missing, f"errors that bench never met: {missing}")
 
 
 def answering(line: Line, number: int, reply: bytes, then=None) -> threading.Thread:
@@ -383,9 +432,11 @@ def check_bad_use(tools: Tools, checks: Checks):
 
 
 def test(tools: Tools, checks: Checks, version: str, shim: str):
-    check_commands(tools, checks)
+    check_commands(tools, checks, version)
     check_survey(tools, checks, version)
     check_unsound(tools, checks)
+    check_spoiled(tools, checks, shim)
+    check_all_met(checks)
     check_wrong_replies(tools, checks)
     check_echo(tools, checks)
     check_reset(tools, checks)
