@@ -1,0 +1,8 @@
+/* size_t, for a compiler that comes without its headers. */
+#ifndef STDDEF_H
+#define STDDEF_H
+
+typedef __SIZE_TYPE__ size_t;
+#define NULL ((void *)0)
+
+#endif

@@ -1,0 +1,77 @@
+#!/usr/bin/env bash
+# module.sh NAME: proves a library, and leaves the LLVM module of its archive as text, target/module/NAME.ll, to be compiled for other processors.
+# module.sh --check NAME: looks at that text once more.
+# The module is the archive's own: compiled for x86-64 as rattle has it, the text must give the archive's object, byte for byte. And it must be as those expect
+# who compile it for another processor (here.sh, firmware/build.sh): x86-64 stands in two target lines and one line of attributes, and only numbers and pointers
+# cross its exports. Where one of these is not so it stops, and tells what differs. Nothing of the kit is changed: a kit of links stands in its place.
+set -euo pipefail
+cd "$(dirname "$0")/.."
+case "$# ${1:-}" in
+'1 '[a-z]*) proves=yes ;;
+'2 --check') proves=no; shift ;;
+*) echo 'module.sh [--check] NAME' >&2; exit 2 ;;
+esac
+name=$1
+machine=$(uname -m)
+home=${RATTLE_HOME:-$(dirname "$(dirname "$(readlink -f "$(command -v rt)")")")}
+own=$home/on/$machine
+clang=$own/toolchain/bin/clang
+text=target/module/$name.ll
+fail() { echo "module.sh: the module of $name: $*" >&2; exit 1; }
+work=$(mktemp -d)
+trap 'rm -rf "$work"' EXIT
+
+# A kit of links whose clang keeps a copy of each module that it is handed, and then is the kit's own.
+kit_that_keeps() {
+    local kit=$1 kept=$2 tools=$1/on/$machine/toolchain file
+    mkdir -p "$tools/bin"
+    for file in "$home"/* "$own"/* "$own"/toolchain/* "$own"/toolchain/bin/*; do
+        case ${file#"$home"} in /on | */toolchain | */toolchain/bin | */toolchain/bin/clang) ;; *) ln -s "$file" "$kit${file#"$home"}" ;; esac
+    done
+    # The toolchain beside on/ is not one machine's, and is the kit's own.
+    [ ! -e "$home/toolchain" ] || [ -e "$kit/toolchain" ] || ln -s "$home/toolchain" "$kit/toolchain"
+    printf '#!/bin/sh\nfor word; do case $word in *.bc) cp "$word" "%s" ;; esac; done\nexec "%s" "$@"\n' "$kept" "$clang" >"$tools/bin/clang"
+    chmod +x "$tools/bin/clang"
+}
+
+# The archive's object once more, of the text.
+is_the_archives() {
+    "$clang" --target=x86_64-unknown-linux-gnu -march=x86-64 -ffunction-sections -fdata-sections -mllvm -trap-unreachable -mllvm -no-trap-after-noreturn \
+        --no-default-config -Werror -O3 -fPIC -c -x ir "$text" -o "$work/again.o"
+    "$own/toolchain/bin/llvm-ar" p "target/staticlib/lib$name.a" >"$work/archived.o"
+    cmp "$work/archived.o" "$work/again.o" || fail "it does not give the archive's object"
+}
+
+# So many lines match a pattern; else those that do are told.
+expect() {
+    local found
+    found=$(grep -nE "$3" "$text" || true)
+    [ "$(printf %s "$found" | grep -c '^')" = "$1" ] && return
+    printf '%s\n' "$found" | head -n 20 >&2
+    fail "not as expected: $2: above are the lines that match '$3', and $1 should"
+}
+
+is_as_expected() {
+    expect 2 'its head' '^target '
+    expect 1 'its head' '^target triple = "x86_64-unknown-linux-gnu"$'
+    expect 1 'its attributes' '^attributes #0 = \{ nounwind "probe-stack"="inline-asm" "target-cpu"="x86-64" \}$'
+    expect 1 'its attributes' '^attributes .*(target-|probe-)'
+    expect 2 'x86' 'x86'
+    expect 0 'a word that depends on the machine' 'ptrtoint|inttoptr|addrspacecast|byval|sret|inreg| asm |<[0-9]+ x '
+    expect 0 'an export that takes or returns more than numbers and pointers' '^define ([^@]*[^@a-z0-9 ][^@]*)?@[a-z]|^define [^@]*@[a-z][^(]*\([^)]*[{<[]'
+    expect 0 'an export that returns a number under 32 bits' '^define (.* )?i(1|8|16) @[a-z]'
+}
+
+proved() {
+    kit_that_keeps "$work/kit" "$work/module.bc"
+    RATTLE_HOME=$work/kit rt staticlib "$name"
+    [ -e "$work/module.bc" ] || fail "rattle compiled none"
+    mkdir -p target/module
+    "$clang" --target=x86_64-unknown-linux-gnu --no-default-config -S -emit-llvm -Xclang -disable-llvm-passes -x ir "$work/module.bc" -o - |
+        sed '/^; ModuleID = /d' >"$text" # it names this run's folder
+}
+
+[ $proves = no ] || proved
+[ -e "$text" ] || fail "there is no $text"
+is_the_archives
+is_as_expected
