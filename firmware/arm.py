@@ -74,7 +74,7 @@ class Bare:
         made = str(self.work / f"{name}.o")
         plain = ["-fno-builtin"] if source in NO_BUILTIN else []
         run([kit_tool("clang"), f"--target={self.core.triple}", *self.core.words, *STRICT, "--no-default-config", "-nostdinc", *plain, "-ffunction-sections",
-              "-fdata-sections", *words, "-I", str(self.libraries), "-c", str(source), "-o", made])
+             "-fdata-sections", *words, "-I", str(self.libraries), "-c", str(source), "-o", made])
         return made
 
     def linked(self, name: str, script: pathlib.Path, objects: Sequence[str], *words: str) -> str:
@@ -88,6 +88,12 @@ class Bare:
         own = ["-isystem", str(HERE / "test" / "include"), "-isystem", str(HERE / "include")]
         objects = [self.object(source, *own, *words) for source in (*sources, HERE / "test" / "bare.c", HERE / "board" / "memory.c")]
         return self.linked(name, HERE / "test" / "bare.ld", objects, *link)
+
+    def board(self, name: str, *words: str) -> str:
+        """The firmware of the bare board; words may define TOTAL and TICKS_A_BIT."""
+        sources = sorted((HERE / "board").glob("*.c"))
+        objects = [self.object(source, "-isystem", str(HERE / "include"), *words) for source in sources]
+        return self.linked(name, HERE / "board" / "board.ld", objects)
 
     def run_plan(self, elf: str, plan: str, *words: str) -> subprocess.CompletedProcess:
         """A program's runs, one a line of the plan (test/bare.c); the emulator's status and what it said."""

@@ -42,16 +42,11 @@ declared() {
 
 # The module with this core's head and attributes, compiled into an archive.
 compiled() {
-    local name=$1 header=$2 ll=$work/$1.ll
+    local name=$1 header=$2
     exports <"target/module/$name.ll" >"$work/defined"
     declared "$header" >"$work/declared"
     diff "$work/defined" "$work/declared" >&2 || fail "$core: above, what $name exports (<) and what $header declares (>) differ"
-    {
-        "$clang" --target="$triple" "${words[@]}" --no-default-config -S -emit-llvm -x c /dev/null -o - | grep '^target '
-        sed -e '/^target /d' -e 's/^attributes #0 = .*/attributes #0 = { nounwind }/' "target/module/$name.ll"
-    } >"$ll"
-    "$clang" --target="$triple" "${words[@]}" -fstack-size-section -ffunction-sections -fdata-sections -mllvm -trap-unreachable -mllvm -no-trap-after-noreturn \
-        --no-default-config -Werror -c -x ir "$ll" -o "$work/$name.o"
+    bash tools/module.sh --compile "$name" "$triple" "$work/$name.o" "${words[@]}" -fstack-size-section
     "$work/llvm-nm" -u "$work/$name.o" | sed 's/.* //' | sort >"$work/$name.needs"
     grep -vxE "$may_need" "$work/$name.needs" >&2 && fail "$core: $name needs what a firmware does not have: above"
     "$work/llvm-nm" "$work/$name.o" | grep -E ' [bBdD] ' >&2 && fail "$core: $name has data of its own: above"

@@ -3,8 +3,7 @@
 #   answer     the answer program itself; on another processor the kit's emulator with it
 #   library    libquicksetter.a and libhandheld.a themselves; on another processor the module of each, compiled once more by the kit's clang. And
 #              target/libquicksetter.so of the first, which explain.py has its judge from
-# A module is its archive's own (module.sh); what names x86-64 in it, target lines and one line of attributes, is replaced. Beyond that the back end for this processor
-# is to be believed.
+# module.sh tells what that rests on.
 set -euo pipefail
 cd "$(dirname "$0")/.."
 machine=$(uname -m)
@@ -29,17 +28,12 @@ answer() {
 
 # The module of a proved library, compiled for this machine as rattle has it compiled for its own.
 compiled_here() {
-    local name=$1 clang=$own/toolchain/bin/clang triple
+    local triple
     triple=$(gcc -dumpmachine)
-    {
-        "$clang" --target="$triple" --no-default-config -S -emit-llvm -x c /dev/null -o - | grep '^target '
-        sed -e '/^target /d' -e 's/^attributes #0 = .*/attributes #0 = { nounwind }/' "target/module/$name.ll"
-    } >"$work/$name.ll"
-    "$clang" --target="$triple" -ffunction-sections -fdata-sections -mllvm -trap-unreachable -mllvm -no-trap-after-noreturn --no-default-config -Werror -O3 -fPIC \
-        -c -x ir "$work/$name.ll" -o "$work/$name.o"
-    rm -f "$here/lib$name.a"
-    "$own/toolchain/bin/llvm-ar" rcsD "$here/lib$name.a" "$work/$name.o"
-    echo "here.sh: this machine is $machine: the module of the proved lib$name.a, compiled for $triple, stands in its place"
+    bash tools/module.sh --compile "$1" "$triple" "$work/$1.o" -O3 -fPIC
+    rm -f "$here/lib$1.a"
+    "$own/toolchain/bin/llvm-ar" rcsD "$here/lib$1.a" "$work/$1.o"
+    echo "here.sh: this machine is $machine: the module of the proved lib$1.a, compiled for $triple, stands in its place"
 }
 
 # Proves a library, and puts what is used of it on this machine into target/here.

@@ -1,17 +1,21 @@
 #!/usr/bin/env bash
 # module.sh NAME: proves a library, and leaves the LLVM module of its archive as text, target/module/NAME.ll, to be compiled for other processors.
 # module.sh --check NAME: looks at that text once more.
-# The module is the archive's own: compiled for x86-64 as rattle has it, the text must give the archive's object, byte for byte. And it must be as those expect
-# who compile it for another processor (here.sh, firmware/build.sh): x86-64 stands in two target lines and one line of attributes, and only numbers and pointers
-# cross its exports. Where one of these is not so it stops, and tells what differs. Nothing of the kit is changed: a kit of links stands in its place.
+# module.sh --compile NAME TRIPLE OBJECT WORD...: compiles it for another processor; WORDs are the compiler's.
+# The module is the archive's own: compiled for x86-64 as rattle has it, the text must give the archive's object, byte for byte. And it must be as its compilation for
+# another processor expects it: x86-64 stands in two target lines and one line of attributes, which are replaced, and only numbers and pointers cross its exports.
+# Where one of these is not so it stops, and tells what differs. Nothing of the kit is changed: a kit of links stands in its place. Beyond all that the back end for
+# the other processor is to be believed.
 set -euo pipefail
 cd "$(dirname "$0")/.."
-case "$# ${1:-}" in
-'1 '[a-z]*) proves=yes ;;
-'2 --check') proves=no; shift ;;
-*) echo 'module.sh [--check] NAME' >&2; exit 2 ;;
+use() { sed -nE 's/^# (module\.sh[^:]*):.*/\1/p' "tools/module.sh" >&2; exit 2; }
+case ${1:-} in
+--check | --compile) does=${1#--}; shift ;;
+*) does=prove ;;
 esac
+[ $# -ge 1 ] || use
 name=$1
+shift
 machine=$(uname -m)
 home=${RATTLE_HOME:-$(dirname "$(dirname "$(readlink -f "$(command -v rt)")")")}
 own=$home/on/$machine
@@ -34,10 +38,15 @@ kit_that_keeps() {
     chmod +x "$tools/bin/clang"
 }
 
+# As rattle has clang called: TARGET FILE OBJECT WORD...
+compile() {
+    "$clang" --target="$1" -ffunction-sections -fdata-sections -mllvm -trap-unreachable -mllvm -no-trap-after-noreturn --no-default-config -Werror \
+        -c -x ir "$2" -o "$3" "${@:4}"
+}
+
 # The archive's object once more, of the text.
 is_the_archives() {
-    "$clang" --target=x86_64-unknown-linux-gnu -march=x86-64 -ffunction-sections -fdata-sections -mllvm -trap-unreachable -mllvm -no-trap-after-noreturn \
-        --no-default-config -Werror -O3 -fPIC -c -x ir "$text" -o "$work/again.o"
+    compile x86_64-unknown-linux-gnu "$text" "$work/again.o" -march=x86-64 -O3 -fPIC
     "$own/toolchain/bin/llvm-ar" p "target/staticlib/lib$name.a" >"$work/archived.o"
     cmp "$work/archived.o" "$work/again.o" || fail "it does not give the archive's object"
 }
@@ -62,16 +71,33 @@ is_as_expected() {
     expect 0 'an export that returns a number under 32 bits' '^define (.* )?i(1|8|16) @[a-z]'
 }
 
-proved() {
+check() {
+    [ -e "$text" ] || fail "there is no $text"
+    is_the_archives
+    is_as_expected
+}
+
+prove() {
     kit_that_keeps "$work/kit" "$work/module.bc"
     RATTLE_HOME=$work/kit rt staticlib "$name"
     [ -e "$work/module.bc" ] || fail "rattle compiled none"
     mkdir -p target/module
     "$clang" --target=x86_64-unknown-linux-gnu --no-default-config -S -emit-llvm -Xclang -disable-llvm-passes -x ir "$work/module.bc" -o - |
         sed '/^; ModuleID = /d' >"$text" # it names this run's folder
+    check
 }
 
-[ $proves = no ] || proved
-[ -e "$text" ] || fail "there is no $text"
-is_the_archives
-is_as_expected
+# The head is this processor's own; no attribute names another.
+for_processor() {
+    [ $# -ge 2 ] || use
+    {
+        "$clang" --target="$1" "${@:3}" --no-default-config -S -emit-llvm -x c /dev/null -o - | grep '^target '
+        sed -e '/^target /d' -e 's/^attributes #0 = .*/attributes #0 = { nounwind }/' "$text"
+    } >"$work/module.ll"
+    compile "$1" "$work/module.ll" "$2" "${@:3}"
+}
+
+case $does in
+prove | check) [ $# = 0 ] || use; "$does" ;;
+compile) for_processor "$@" ;;
+esac
