@@ -5,6 +5,7 @@ import pathlib
 import platform
 import shutil
 import subprocess
+import tempfile
 from typing import Dict, List, NamedTuple, Sequence
 
 HERE = pathlib.Path(__file__).resolve().parent
@@ -55,6 +56,15 @@ def run(words: Sequence[str], **more) -> subprocess.CompletedProcess:
     return found
 
 
+def functions_of(elf: str) -> Dict[str, int]:
+    """Where each function of a program begins."""
+    with tempfile.TemporaryDirectory() as folder:
+        nm = os.path.join(folder, "llvm-nm")
+        os.symlink(kit_tool("clang"), nm)  # one program, which goes by its name
+        lines = run([nm, elf]).stdout.decode().splitlines()
+    return {name: int(place, 16) & ~1 for place, kind, name in (line.split() for line in lines) if kind in "tT"}
+
+
 def has_emulator() -> bool:
     return shutil.which(EMULATOR) is not None
 
@@ -91,9 +101,9 @@ class Bare:
 
     def board(self, name: str, *words: str) -> str:
         """The firmware of the bare board; words may define TOTAL and TICKS_A_BIT."""
-        sources = sorted((HERE / "board").glob("*.c"))
-        objects = [self.object(source, "-isystem", str(HERE / "include"), *words) for source in sources]
-        return self.linked(name, HERE / "board" / "board.ld", objects)
+        made = str(self.work / f"{name}.elf")
+        run(["bash", str(HERE / "board" / "build.sh"), str(self.libraries.parent), self.core.name, made, *words])
+        return made
 
     def run_plan(self, elf: str, plan: str, *words: str) -> subprocess.CompletedProcess:
         """A program's runs, one a line of the plan (test/bare.c); the emulator's status and what it said."""

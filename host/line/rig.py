@@ -164,11 +164,14 @@ def hear(fd: int, number: int, seconds: float) -> bytes:
         if not select.select([fd], [], [], max(0.0, end - time.monotonic()))[0]:
             break
         try:
-            heard += os.read(fd, number - len(heard))
+            more = os.read(fd, number - len(heard))
         except OSError as error:
-            if error.errno != errno.EIO:
+            if error.errno not in (errno.EIO, errno.ECONNRESET):
                 raise
             break
+        if not more:  # nobody is there any more; a pty's end is a fault
+            break
+        heard += more
     return heard
 
 
