@@ -1,4 +1,4 @@
-"""Single calls of the libraries and of perf/hand.c on an emulated Cortex-M: their instructions, counted one by one, and their stack, which was painted before."""
+"""Single calls of the library and of perf/hand.c on an emulated Cortex-M: their instructions, counted one by one, and their stack, which was painted before."""
 
 import pathlib
 import re
@@ -13,8 +13,8 @@ sys.path.insert(0, str(PERF))
 
 from costs import ENTRIES, Call, Row, rows_of  # noqa: E402
 
-# The emulator lets each instruction last 2^SHIFT ns, and the timer that test/counted.c reads beats every 40 ns. A beat at either end may be cut off, which is far less
-# than an instruction: what is not that close to a whole number was not counted by instructions.
+# The emulator lets each instruction last 2^SHIFT ns, and the timer that test/counted.c reads beats every BEAT ns. A beat at either end may be cut off, which is
+# far less than an instruction: what is not that CLOSE to a whole number does not go by instructions.
 SHIFT = 10
 BEAT = 40
 CLOSE = 0.1

@@ -4,8 +4,8 @@
     figures.py [--libraries FOLDER] [--page FILE]             measures, and writes the tables into the page
     figures.py [--libraries FOLDER] [--page FILE] --check     measures again, and fails with the first lines that differ if the page has other figures
 
-FOLDER is one of firmware/build.sh. The tables stand in the page between two marks each, and all else in it stays. Sizes and bounds of the stack are read from the
-compiled code; instructions and the stack that was used are measured on emulated boards (counted.py). Without the emulator only the first are compared.
+FOLDER is one of firmware/build.sh. The tables stand in the page between two marks each, and all else in it stays. Sizes and bounds of the stack are read from
+the compiled code; instructions and the stack that was used are measured on emulated boards (counted.py). Without the emulator only the first are compared.
 """
 
 import argparse
@@ -122,7 +122,7 @@ def sizes(libraries: Libraries) -> List[str]:
         files = [libraries.archive(core, "quicksetter"), board_alone(libraries, core), libraries.archive(core, "handheld")]
         rows.append([core, *[flash_of(libraries, file) for file in files], *example(libraries, core)])
     head = ["Bytes", "libquicksetter.a", "board's calls alone", "libhandheld.a", "example: flash", "RAM", "stack"]
-    return [*table(head, rows), "", *needs(libraries)]
+    return [*table(head, rows), "", "None of these libraries has RAM of its own, data or zeroed.", "", *needs(libraries)]
 
 
 # --- stack ----------------------------------------------------------------------------------
@@ -163,9 +163,10 @@ def stack(by_core: Dict[str, Bounds], measured: Dict[str, int]) -> List[str]:
     if len({tuple(its.alone) for its in by_core.values()}) != 1 or set(BOARD) - set(known.alone):
         raise Failure("the cores' libraries do not have the same entries")
     entries = [*BOARD, *[entry for entry in known.alone if entry not in BOARD]]
-    rows = [[f"`{entry}`", *[by_core[core].alone[entry] for core in STACK_CORES], measured.get(entry, NONE)] for entry in entries]
-    rows.append(["functions of `board/memory.c`, on top", *[by_core[core].memory for core in STACK_CORES], NONE])
-    return table(["Bytes of stack, at most", *STACK_CORES, f"measured, {STACK_MEASURED_ON}"], rows)
+    rows = [[f"`{entry}`", *[by_core[core].alone[entry] for core in STACK_CORES], known.with_memory[entry], measured.get(entry, NONE)] for entry in entries]
+    rows.append(["functions of `memory.c`, at most", *[by_core[core].memory for core in STACK_CORES], NONE, NONE])
+    return [*table(["Bytes, at most", *STACK_CORES, f"{STACK_MEASURED_ON} with `memory.c`", "measured there"], rows), "",
+            "Functions from outside the libraries count as 0 but where those of `firmware/board/memory.c` are linked."]
 
 
 # --- instructions ---------------------------------------------------------------------------
@@ -258,12 +259,12 @@ def check(page: Page, libraries: Libraries):
         return
     with_emulator = arm.has_emulator()
     if not with_emulator:
-        print(f"figures.py: there is no {arm.EMULATOR}: instructions and measured stack were not compared")
+        print(f"figures.py: there is no {arm.EMULATOR}: instructions and measured stack were not compared, sizes and the stack's bounds are")
     parts = measured(libraries, with_emulator)
     found = differences(page, parts, with_emulator)
     if found:
         raise Failure("\n".join([f"{page.path} has other figures:", *found[:MOST_DIFFERENCES]]))
-    print(f"figures.py: {page.path} has the figures: {', '.join(parts)}")
+    print(f"figures.py: {page.path} has the figures that are measured")
 
 
 def write(page: Page, libraries: Libraries):

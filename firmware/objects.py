@@ -1,4 +1,4 @@
-"""What compiled code is, by the kit's own readers: bytes of its sections, what it needs from outside, and the most stack that each of its functions can take."""
+"""What compiled code is, by the kit's own readers: bytes of its sections, what it needs from outside, and the most stack that each function can take."""
 
 import pathlib
 import re
@@ -90,7 +90,7 @@ BRANCHES = ("R_ARM_THM_CALL", "R_ARM_THM_JUMP24", "R_ARM_THM_JUMP19", "R_ARM_THM
 RETURN = re.compile(r"(?:pop|ldm)\S*\t(?:sp!, )?\{.*pc\}|ldr\S*\tpc, \[sp\], #\S+|bx\S*\tlr")
 TABLE_BRANCH = re.compile(r"tb[bh]\t\[pc, ")
 BY_REGISTER = re.compile(r"(mov|add)\tpc, (r\d+)")
-WRITES_PC = re.compile(r"bl?xn?s?(?:eq|ne|hs|cs|lo|cc|mi|pl|vs|vc|hi|ls|ge|lt|gt|le)?\t|\S+\t(?:sp!, )?\{.*\bpc\b|(?!str|cmp|cmn|tst|teq|push)\S+\tpc\b|tb[bh]\t")
+WRITES_PC = re.compile(r"bl?x\S*\t|(?!push|stm)\S+\t[^{]*\{.*\bpc\b|(?!str|cmp|cmn|tst|teq)\S+\tpc\b|tb[bh]\t")
 
 
 def last_set(before: Sequence[str], register: str) -> int:
@@ -146,6 +146,7 @@ class Function:
 def functions_in(listing: str) -> Dict[str, Function]:
     """The functions of a listing with relocations, of which each stands below its instruction."""
     functions: Dict[str, Function] = {}
+    now = Function("")
     lines = listing.splitlines()
     for line, below in zip(lines, [*lines[1:], ""]):
         head, relocation, instruction = HEAD.match(line), RELOCATION.match(line), INSTRUCTION.match(line)

@@ -1,4 +1,4 @@
-/* A board that was off, made again of the bytes that lasted, on two plates, taken and refused: the call whose stack is measured, since perf/calls.c does not have it. */
+/* A board that was off, made again of the bytes that lasted, on two plates, taken and refused: to measure the call's stack. perf/calls.c does not have it. */
 #include "../../perf/state.h"
 
 #include <stdbool.h>
