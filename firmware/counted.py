@@ -18,7 +18,7 @@ from costs import ENTRIES, Call, Row, rows_of  # noqa: E402
 SHIFT = 10
 BEAT = 40
 CLOSE = 0.1
-PAINTED = 4096  # of test/counted.c
+PAINTED = 4096
 
 
 class Told(NamedTuple):
@@ -42,18 +42,18 @@ class Counter:
 
     def __init__(self, bare: arm.Bare):
         self.bare = bare
-        self.compiled: Dict[Tuple[pathlib.Path, str], str] = {}
+        self.compiled: Dict[Tuple[object, ...], str] = {}
 
-    def object(self, source: pathlib.Path, define: str = "") -> str:
-        if (source, define) not in self.compiled:
-            own = ["-isystem", str(arm.HERE / "test" / "include"), "-isystem", str(arm.HERE / "include"), *([define] if define else [])]
-            self.compiled[source, define] = self.bare.object(source, *own)
-        return self.compiled[source, define]
+    def object(self, source: pathlib.Path, *defines: str) -> str:
+        if (source, *defines) not in self.compiled:
+            own = ["-isystem", str(arm.HERE / "test" / "include"), "-isystem", str(arm.HERE / "include"), *defines]
+            self.compiled[(source, *defines)] = self.bare.object(source, *own)
+        return self.compiled[(source, *defines)]
 
     def program(self, source: pathlib.Path, entry: str) -> str:
         """Every call of this entry by this source goes by test/counted.c, and no other call."""
         sources = [source, PERF / "hand.c", arm.HERE / "test" / "bare.c", arm.HERE / "board" / "memory.c"]
-        objects = [*map(self.object, sources), self.object(arm.HERE / "test" / "counted.c", f"-DENTRY={entry}")]
+        objects = [*map(self.object, sources), self.object(arm.HERE / "test" / "counted.c", f"-DENTRY={entry}", f"-DPAINTED={PAINTED}")]
         wraps = [f"--wrap={name}" for name in (f"qs_{entry}", f"hand_{entry}", "main")]
         return self.bare.linked(f"{source.stem}-{entry}", arm.HERE / "test" / "bare.ld", objects, *wraps)
 

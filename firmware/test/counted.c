@@ -1,5 +1,6 @@
 /* Stands between a program and one call of both boards, qs_ENTRY and hand_ENTRY, where the linker's --wrap has put it: the program is as on the host. On
- * standard error it tells a line for each call: beats of the timer, and bytes of stack below the caller's. The first line is that of a function that returns at once.
+ * standard error it tells a line for each call: beats of the timer, and how many of the PAINTED bytes below the caller's stack were used. The first line is
+ * that of a function that returns at once.
  *
  * The emulator must run with -icount: then every instruction lasts the same, and the beats tell how many they were. */
 #include "../board/chip.h"
@@ -12,7 +13,6 @@
 #define NAMED(front, entry) JOINED(front, entry)
 
 #define OWN_STACK 4096
-enum { PAINTED = 4096 };
 static const uint32_t PAINT = 0xA5C35A3C;
 
 int __real_main(int number, char **words);
