@@ -105,12 +105,12 @@ class Debugger:
 class Board:
     """A running board. Killed, it leaves its flash as it was at that moment. `line` is its serial line's other end."""
 
-    def __init__(self, elf: str, flash: pathlib.Path, debugged: bool = False):
+    def __init__(self, elf: str, flash: pathlib.Path, debugged: bool = False, machine: str = MACHINE):
         if not flash.exists():
             blank_flash(flash)
         self.line, its_line = socket.socketpair()
         debugger, its_debugger = socket.socketpair()
-        words = [EMULATOR, "-M", f"{MACHINE},memory-backend=flash", "-object", f"memory-backend-file,id=flash,size={MEMORY},mem-path={flash},share=on",
+        words = [EMULATOR, "-M", f"{machine},memory-backend=flash", "-object", f"memory-backend-file,id=flash,size={MEMORY},mem-path={flash},share=on",
                  "-display", "none", "-monitor", "none", "-chardev", f"socket,id=line,fd={its_line.fileno()}", "-serial", "chardev:line", "-kernel", elf]
         if debugged:
             words += ["-chardev", f"socket,id=debugger,fd={its_debugger.fileno()}", "-gdb", "chardev:debugger", "-S"]

@@ -29,7 +29,6 @@ PARTS = ("identity", "sizes", "stack", "instructions")
 STACK_CORES = ("cortex-m0plus", "cortex-m3", "cortex-m4", "cortex-m7")
 COUNTED_CORES = ("cortex-m3", "cortex-m4")
 STACK_MEASURED_ON = "cortex-m3"
-WITH_DIVISION = ("thumbv7m-none", "thumbv7em-none")
 NONE = "-"
 MOST_DIFFERENCES = 20
 
@@ -97,8 +96,8 @@ def board_alone(libraries: Libraries, core: str) -> str:
 
 
 def example(libraries: Libraries, core: str) -> List[object]:
-    """Flash, RAM and stack of the bare board's firmware, on the cores that it is for: it divides, which Cortex-M0+ has no instruction for."""
-    if not arm.cores()[core].triple.startswith(WITH_DIVISION):
+    """Flash, RAM and stack of the bare board's firmware, on the cores that it is for."""
+    if "-none-" not in arm.cores()[core].triple:
         return [NONE] * 3
     elf = libraries.bare(core).board("board")
     stack = sum(size for (name, _, _), size in objects.section_sizes(libraries.readers, elf).items() if name == ".stack")

@@ -1,7 +1,7 @@
 /* What must last: see keep.h. A page:
  *
  *     place  bytes  what
- *         0      4  mark, written last: the page is finished. Cleared to 0 before the page is erased
+ *         0      4  mark, written last: the page was finished, so that damage can be told from a write that was cut short. 0 before the page is erased
  *         4      4  count of the writes, low byte first: of two pages the one that is ahead is newer
  *         8      4  total blocks, position bits, FFh, FFh
  *        12     12  what must last: codes, counter, address in force, offset, as in the image
@@ -16,6 +16,7 @@
 
 enum { MARK_PLACE = 0, COUNT_PLACE = 4, PLATE_PLACE = 8, LASTING_PLACE = 12, MEMORY_PLACE = LASTING_PLACE + QS_LASTING_LENGTH };
 static const uint32_t MARK = 0x31425351; /* QSB1 */
+_Static_assert(MEMORY_PLACE + QS_MEMORY_LENGTH(112) + FLASH_WORD <= FLASH_PAGE_LENGTH, "the largest memory and its checksum are in a page");
 
 enum page { DAMAGED, UNFINISHED, WHOLE };
 
@@ -49,14 +50,16 @@ static bool sum_is_right(const struct kept *kept, unsigned page) {
     return word_at(bytes + sum_place(kept)) == ~crc;
 }
 
-/* A page of another plate is not this board's: damaged. */
-static enum page condition_of(const struct kept *kept, unsigned page) {
+static bool is_of_plate(const struct kept *kept, unsigned page) {
     const uint8_t *bytes = flash_page(page);
-    if (word_at(bytes + MARK_PLACE) != MARK)
-        return UNFINISHED;
-    if (bytes[PLATE_PLACE] != kept->total || bytes[PLATE_PLACE + 1] != kept->bits)
-        return DAMAGED;
-    return sum_is_right(kept, page) ? WHOLE : DAMAGED;
+    return bytes[PLATE_PLACE] == kept->total && bytes[PLATE_PLACE + 1] == kept->bits;
+}
+
+/* With its checksum a page is whole, also where the supply went before the mark. A page of another plate is not this board's: damaged. */
+static enum page condition_of(const struct kept *kept, unsigned page) {
+    if (is_of_plate(kept, page) && sum_is_right(kept, page))
+        return WHOLE;
+    return word_at(flash_page(page) + MARK_PLACE) == MARK ? DAMAGED : UNFINISHED;
 }
 
 /* ---- reading -------------------------------------------------------------------------------------------------------------------------------------------- */
@@ -84,6 +87,8 @@ enum found keep_read(const struct kept *kept) {
     holds(first == WHOLE && second == WHOLE ? newer() : first == WHOLE ? 0 : second == WHOLE ? 1 : FLASH_PAGES);
     if (now.page == FLASH_PAGES)
         return damage ? FOUND_DAMAGE : FOUND_NONE;
+    if (word_at(flash_page(now.page) + MARK_PLACE) != MARK)
+        flash_write(now.page, MARK_PLACE, MARK); /* the supply went before it */
     memcpy(kept->lasting, flash_page(now.page) + LASTING_PLACE, QS_LASTING_LENGTH);
     memcpy(kept->memory, flash_page(now.page) + MEMORY_PLACE, memory_length(kept));
     return damage ? FOUND_OLDER : FOUND_WHOLE;
@@ -132,8 +137,9 @@ static bool content_is_written(const struct kept *kept, unsigned page) {
 bool keep_write(const struct kept *kept) {
     unsigned page = now.page == 0 ? 1 : 0;
     clear_page(page);
-    if (!content_is_written(kept, page) || !is_written(page, MARK_PLACE, MARK))
+    if (!content_is_written(kept, page))
         return false;
+    flash_write(page, MARK_PLACE, MARK);
     holds(page);
     return true;
 }

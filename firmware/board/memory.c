@@ -1,6 +1,7 @@
 /* The functions that a compiler for Arm takes for granted: copies and fills of bytes, by their C names and by those of Arm's run-time ABI, and, for a core without
- * such instructions, products and shifts of 64 bits. A firmware with a C library has them there. Compiled with -fno-builtin, so that no loop here becomes a call of
+ * such instructions, quotients, and products and shifts of 64 bits. A firmware with a C library has them there. Compiled with -fno-builtin, so that no loop here becomes a call of
  * itself. */
+#include <stdbool.h>
 #include <stdint.h>
 #include <string.h>
 
@@ -85,6 +86,24 @@ uint64_t __aeabi_lmul(uint64_t a, uint64_t b) {
     union halves x = {.whole = a}, y = {.whole = b}, p = {.whole = product(x.half.low, y.half.low)};
     p.half.high += x.half.high * y.half.low + x.half.low * y.half.high;
     return p.whole;
+}
+
+/* The quotient, and above it the rest: they come back in r0 and r1. */
+uint64_t __aeabi_uidivmod(uint32_t number, uint32_t by) {
+    uint32_t quotient = 0, rest = 0;
+    for (int bit = 31; bit >= 0; bit--) {
+        bool carry = rest >> 31 != 0;
+        rest = rest << 1 | (number >> bit & 1);
+        if (carry || rest >= by) {
+            rest -= by;
+            quotient |= 1u << bit;
+        }
+    }
+    return (union halves){.half = {quotient, rest}}.whole;
+}
+
+uint32_t __aeabi_uidiv(uint32_t number, uint32_t by) {
+    return (uint32_t)__aeabi_uidivmod(number, by);
 }
 
 #endif

@@ -13,5 +13,7 @@ typedef __UINTPTR_TYPE__ uintptr_t;
 
 #define INT32_MAX 0x7FFFFFFF
 #define UINT32_MAX 0xFFFFFFFFu
+#define SIZE_MAX __SIZE_MAX__
+#define UINT64_MAX 0xFFFFFFFFFFFFFFFFull
 
 #endif

@@ -240,6 +240,16 @@ int snprintf(char *to, size_t room, const char *form, ...) {
     return number;
 }
 
+int sprintf(char *to, const char *form, ...) {
+    struct text text = {.at = to, .room = SIZE_MAX};
+    va_list words;
+    va_start(words, form);
+    int number = format(&text, form, words);
+    va_end(words);
+    to[text.length] = 0;
+    return number;
+}
+
 static int digit_of(char c) {
     if (c >= '0' && c <= '9')
         return c - '0';

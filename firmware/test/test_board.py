@@ -15,13 +15,12 @@ ROOT = HERE.parent.parent
 sys.path[:0] = [str(HERE.parent), str(ROOT / "host" / "line"), str(ROOT / "tools")]
 
 import test_kill  # noqa: E402
-from arm import Bare, functions_of  # noqa: E402
+from arm import MACHINES, Bare, functions_of  # noqa: E402
 from emulate import Board, Port, blank_flash, flash_of  # noqa: E402
 from rig import DONE, ERROR_CODE, Checks, Tools, bytes_told, hear, sealed  # noqa: E402
 from test_bench import SESSION  # noqa: E402
 
 PAGE = 2048
-MARK = b"QSB1"
 SLOW = "-DTICKS_A_BIT=16"  # 2400 baud: a pause of 23 ms, which a busy machine does not make of two characters that belong together
 RATE = ("--rate", "2400", "--patience", "50")
 ANSWER = 2.0  # seconds for a reply, which a busy machine may need
@@ -59,20 +58,16 @@ class Serial:
 
 
 class Firmware(NamedTuple):
-    """A build of the firmware, and where its functions are."""
+    """A build of the firmware, where its functions are, and the machine that runs it."""
 
     elf: str
     places: Dict[str, int]
-
-
-def built(bare: Bare, name: str, *words: str) -> Firmware:
-    elf = bare.board(name, *words)
-    return Firmware(elf, functions_of(elf))
+    machine: str
 
 
 def started(firmware: Firmware, flash: pathlib.Path) -> Board:
     """A board whose main loop is reached: what is sent before its receiver is on is lost. It goes on by its debugger."""
-    board = Board(firmware.elf, flash, debugged=True)
+    board = Board(firmware.elf, flash, debugged=True, machine=firmware.machine)
     board.debugger.go_to(firmware.places["clock_ticks"])
     return board
 
@@ -84,10 +79,19 @@ def running(firmware: Firmware, flash: pathlib.Path) -> Board:
 
 
 class Bench:
-    """What the tests need: the firmware's makers, the host's programs, a folder."""
+    """What the tests need: the libraries for Arm, the host's programs, a folder."""
 
-    def __init__(self, bare: Bare, tools: Tools, folder: pathlib.Path, checks: Checks):
-        self.bare, self.tools, self.folder, self.checks = bare, tools, folder, checks
+    def __init__(self, libraries: pathlib.Path, tools: Tools, folder: pathlib.Path, checks: Checks):
+        self.libraries, self.tools, self.folder, self.checks = libraries, tools, folder, checks
+
+    def firmware(self, core: str, *words: str) -> Firmware:
+        """Built once for each core and set of words."""
+        name = "-".join(["board", *[word.lstrip("-D").replace("=", "") for word in words]])
+        bare = Bare(core, self.libraries, self.folder)
+        elf = bare.work / f"{name}.elf"
+        if not elf.exists():
+            bare.board(name, *words)
+        return Firmware(str(elf), functions_of(str(elf)), MACHINES[core])
 
     def flash(self, name: str) -> pathlib.Path:
         """A new board's."""
@@ -101,7 +105,7 @@ class Bench:
 
 def check_session(bench: Bench):
     """bench at the board: the session that it has with the encoder, word for word."""
-    firmware = built(bench.bare, "session", "-DTOTAL=8", SLOW)
+    firmware = bench.firmware("cortex-m3", "-DTOTAL=8", SLOW)
     with running(firmware, bench.flash("session")) as board:
         port = Port(board)
         for line, *texts in SESSION:
@@ -114,7 +118,7 @@ def check_session(bench: Bench):
 
 def check_program(bench: Bench):
     """The shop's program puts a label onto the board, and finds it there after a power cut."""
-    firmware = built(bench.bare, "full", SLOW)
+    firmware = bench.firmware("cortex-m0plus", SLOW)
     flash = bench.flash("program")
     label = str(ROOT / "tools" / "labels" / "spindle.txt")
     for said in ("done", "done"):
@@ -133,7 +137,7 @@ def newer(flash: bytes) -> bytes:
     whole: List[Tuple[int, bytes]] = []
     for page in (flash[:PAGE], flash[PAGE:]):
         length = -(-(24 + 17 * page[8]) // 4) * 4
-        if page[:4] == MARK and zlib.crc32(page[4:length]).to_bytes(4, "little") == page[length : length + 4]:
+        if zlib.crc32(page[4:length]).to_bytes(4, "little") == page[length : length + 4]:
             whole.append((int.from_bytes(page[4:8], "little"), page[:length]))
     return max(whole)[1] if whole else b""
 
@@ -164,6 +168,7 @@ CHANGES = (
 
 
 STEPS = ("flash_erase", "flash_write", "uart_send")
+STEPS_OF_A_PAGE = 2 + (24 - 4 + 17 * 4) // 4 + 2  # the old mark cleared, the page erased, its words, checksum, mark
 
 
 def steps_done(board: Board, firmware: Firmware, steps: int) -> bool:
@@ -195,25 +200,34 @@ def cut_after(bench: Bench, firmware: Firmware, flash: pathlib.Path, change: Cha
         return steps_done(board, firmware, steps)
 
 
+def cut_between_steps(bench: Bench, firmware: Firmware, flash: pathlib.Path, change: Change) -> int:
+    """The change cut before its first step of the flash, between any two, and after the last, each cut on a flash that the one before left. Returns how many steps
+    there are. With the last but one, the checksum, the change holds; the last one is the page's mark."""
+    before = flash_of(flash)
+    steps = 0
+    while newer(flash_of(flash))[:-1] == newer(before)[:-1]:
+        bench.checks.check(not cut_after(bench, firmware, flash, change, steps), f"{bytes_told(change.request)}: a reply after {steps} steps, and nothing is kept")
+        steps += 1
+    held = newer(flash_of(flash))
+    blank_flash(flash, before)
+    bench.checks.check(cut_after(bench, firmware, flash, change, steps), f"{bytes_told(change.request)}: no reply after {steps} steps")
+    bench.checks.check(newer(flash_of(flash)) == held, f"{bytes_told(change.request)}: the last step changes what holds")
+    blank_flash(flash, before)
+    return steps
+
+
 def check_cuts(bench: Bench) -> str:
-    """Each change cut before its first step of the flash, between any two, and after the last. Then the board starts with what was before, or, once the last step is done, with the
-    change; the request acknowledged and the emulator killed, with the change too."""
-    firmware = built(bench.bare, "cut", "-DTOTAL=4", SLOW)
+    """Cut while its change is written the board starts with what was before, or, once the checksum is written, with the change; once it is acknowledged, with the change."""
+    firmware = bench.firmware("cortex-m3", "-DTOTAL=4", SLOW)
     flash = bench.flash("cut")
+    blank_flash(flash)
     cuts = 0
     for change in CHANGES:
-        before = flash_of(flash) if flash.exists() else b"\xff" * 2 * PAGE
-        steps = 0
-        while not cut_after(bench, firmware, flash, change, steps):
-            bench.checks.check(newer(flash_of(flash)) == newer(before), f"{bytes_told(change.request)} cut before step {steps}: another page holds")
-            steps += 1
-        bench.checks.check(steps > 20, f"{bytes_told(change.request)}: {steps} steps of the flash")
+        steps = cut_between_steps(bench, firmware, flash, change)
+        bench.checks.check(steps == STEPS_OF_A_PAGE, f"{bytes_told(change.request)}: {steps} steps of the flash")
         cuts += steps + 1
-        cut_late = flash_of(flash)
-        blank_flash(flash, before)
         acknowledged(bench, firmware, flash, change)
-        bench.checks.check(newer(flash_of(flash))[4:] == newer(cut_late)[4:] != newer(before)[4:], f"{bytes_told(change.request)}: kept is not what was cut last")
-    return f"; {cuts} cuts between two steps of the flash"
+    return f"; {cuts} power cuts between two steps of the flash"
 
 
 def acknowledged(bench: Bench, firmware: Firmware, flash: pathlib.Path, change: Change):
@@ -228,7 +242,7 @@ def acknowledged(bench: Bench, firmware: Firmware, flash: pathlib.Path, change: 
 def check_kills(bench: Bench, kills: int, seed: int) -> str:
     """Random changes, the emulator killed at random moments: what was acknowledged is there, or that and what was under way."""
     dice = random.Random(seed)
-    firmware = built(bench.bare, "killed", f"-DTOTAL={test_kill.TOTAL}", SLOW)
+    firmware = bench.firmware("cortex-m4", f"-DTOTAL={test_kill.TOTAL}", SLOW)
     flash = bench.flash("killed")
     model = under_way = test_kill.Model()
     steps = kept = 0
@@ -262,7 +276,7 @@ def counted_twice(bench: Bench, firmware: Firmware, name: str) -> pathlib.Path:
 
 def check_damage(bench: Bench):
     """One bit of a finished page flipped: the other holds, or the board is fresh, and the drive is told."""
-    firmware = built(bench.bare, "cut", "-DTOTAL=4", SLOW)
+    firmware = bench.firmware("cortex-m3", "-DTOTAL=4", SLOW)
     whole = flash_of(counted_twice(bench, firmware, "damaged"))
     new_place = whole.index(newer(whole))
     old_place = PAGE - new_place
@@ -282,7 +296,7 @@ def check_damage(bench: Bench):
 
 def check_worn(bench: Bench):
     """A word that the flash does not take: no reply, the board is as it was, and the drive is told."""
-    firmware = built(bench.bare, "cut", "-DTOTAL=4", SLOW)
+    firmware = bench.firmware("cortex-m3", "-DTOTAL=4", SLOW)
     flash = counted_twice(bench, firmware, "worn")
     held = newer(flash_of(flash))
     with stopping(firmware, flash) as board:
@@ -300,7 +314,7 @@ def check_worn(bench: Bench):
 
 def check_noise(bench: Bench):
     """Any bytes at any pace, frames longer than any: afterwards it answers as before, and asleep it takes no processor time."""
-    firmware = built(bench.bare, "full", SLOW)
+    firmware = bench.firmware("cortex-m3", SLOW)
     dice = random.Random(2)
     with running(firmware, bench.flash("noise")) as board:
         line = Serial(board)
@@ -322,7 +336,7 @@ def processor_seconds(pid: int) -> float:
 
 def check_emulate(bench: Bench):
     """The script for people: bad words, and a board to be asked by its port's name."""
-    firmware = built(bench.bare, "full", SLOW)
+    firmware = bench.firmware("cortex-m3", SLOW)
     script = str(HERE.parent / "emulate.py")
     bad = subprocess.run([sys.executable, script], capture_output=True, text=True, check=False)
     bench.checks.check(bad.returncode == 2 and "emulate.py ELF FLASH" in bad.stderr, f"no words: {bad}")

@@ -11,6 +11,7 @@ enum { _IOFBF };
 int printf(const char *form, ...);
 int fprintf(FILE *file, const char *form, ...);
 int snprintf(char *to, size_t room, const char *form, ...);
+int sprintf(char *to, const char *form, ...);
 int sscanf(const char *from, const char *form, ...);
 int fputs(const char *text, FILE *file);
 int putchar(int c);
