@@ -126,19 +126,19 @@ def check_program(bench: Bench):
             ran = bench.tools.run("program", Port(board).name, label, *RATE, "--save", str(bench.folder / f"{said}-{time.monotonic_ns()}.tape"))
             bench.checks.check(ran.status == DONE and said in ran.out, f"program: {ran}")
     # All of the label is in the newer page: the board of the pair that holds.
-    bench.checks.check(newer(flash_of(flash))[8] == 112, "the page has the plate's total")
+    bench.checks.check(newer(flash_of(flash))[4] == 112, "the page has the plate's total")
 
 
 # --- power cuts -------------------------------------------------------------------------------
 
 
 def newer(flash: bytes) -> bytes:
-    """The page that holds, by the layout that board/keep.c tells, written down once more; b"" if none is whole."""
+    """The page that holds from its count on, by the layout that board/keep.c tells, written down once more; b"" if none is whole."""
     whole: List[Tuple[int, bytes]] = []
     for page in (flash[:PAGE], flash[PAGE:]):
         length = -(-(24 + 17 * page[8]) // 4) * 4
         if zlib.crc32(page[4:length]).to_bytes(4, "little") == page[length : length + 4]:
-            whole.append((int.from_bytes(page[4:8], "little"), page[:length]))
+            whole.append((int.from_bytes(page[4:8], "little"), page[4:length]))
     return max(whole)[1] if whole else b""
 
 
@@ -205,7 +205,7 @@ def cut_between_steps(bench: Bench, firmware: Firmware, flash: pathlib.Path, cha
     there are. With the last but one, the checksum, the change holds; the last one is the page's mark."""
     before = flash_of(flash)
     steps = 0
-    while newer(flash_of(flash))[:-1] == newer(before)[:-1]:
+    while newer(flash_of(flash)) == newer(before):
         bench.checks.check(not cut_after(bench, firmware, flash, change, steps), f"{bytes_told(change.request)}: a reply after {steps} steps, and nothing is kept")
         steps += 1
     held = newer(flash_of(flash))
@@ -278,7 +278,7 @@ def check_damage(bench: Bench):
     """One bit of a finished page flipped: the other holds, or the board is fresh, and the drive is told."""
     firmware = bench.firmware("cortex-m3", "-DTOTAL=4", SLOW)
     whole = flash_of(counted_twice(bench, firmware, "damaged"))
-    new_place = whole.index(newer(whole))
+    new_place = whole.index(newer(whole)) - 4
     old_place = PAGE - new_place
     dice = random.Random(1)
     for places, counter in (((new_place,), 1), ((old_place,), 2), ((new_place, old_place), 0)):

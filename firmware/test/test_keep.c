@@ -227,6 +227,21 @@ static void test_flipped_bits(uint8_t blocks) {
         }
 }
 
+/* The supply went between checksum and mark: the page holds, and once the board has started its damage is told as any other's. */
+static void test_without_mark(void) {
+    new_flash(4);
+    (void)start();
+    for (unsigned round = 0; round < 4; round++) {
+        throw_bytes(&wanted);
+        unsigned last = 2 + (uint32_t)(20 + QS_MEMORY_LENGTH(4) + 3) / 4 + 1;
+        check(!is_written(last) && start() == FOUND_WHOLE && are_found(&wanted), "a page without its mark", round);
+        pages[round % 2][40] ^= 1;
+        check(start() == (round == 0 ? FOUND_DAMAGE : FOUND_OLDER), "its damage", round);
+        pages[round % 2][40] ^= 1;
+        check(start() == FOUND_WHOLE && are_found(&wanted), "the damage undone", round);
+    }
+}
+
 /* Both pages damaged, or of another plate: told, and no byte of theirs is taken. The next write makes the board whole again, the second forgets the damage. */
 static void test_all_damaged(void) {
     static const struct bytes none;
@@ -277,6 +292,7 @@ int main(void) {
     test_count();
     for (size_t i = 0; i < COUNT(SOME); i++)
         test_flipped_bits(SOME[i]);
+    test_without_mark();
     test_all_damaged();
     test_stuck();
     return ended();
