@@ -73,8 +73,8 @@ is_as_expected() {
 
 check() {
     [ -e "$text" ] || fail "there is no $text"
-    is_the_archives
     is_as_expected
+    is_the_archives
 }
 
 prove() {

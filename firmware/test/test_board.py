@@ -83,6 +83,7 @@ class Bench:
 
     def __init__(self, libraries: pathlib.Path, tools: Tools, folder: pathlib.Path, checks: Checks):
         self.libraries, self.tools, self.folder, self.checks = libraries, tools, folder, checks
+        folder.mkdir(exist_ok=True)
 
     def firmware(self, core: str, *words: str) -> Firmware:
         """Built once for each core and set of words."""
