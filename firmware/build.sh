@@ -1,6 +1,6 @@
 #!/usr/bin/env bash
 # build.sh FOLDER [WORD...]: the proved libraries for Arm. For each core of cores.txt FOLDER/CORE has libquicksetter.a and libhandheld.a with their headers, and ABOUT.txt,
-# which tells of what and how they were made. WORDs are added to the compiler's, for instance -mno-unaligned-access.
+# which tells of what and how they were made. WORDs are added to the compiler's, for instance -mno-unaligned-access. With CORES in the environment it is for these alone.
 # What is compiled is the very module of each proved archive, target/module/NAME.ll by tools/module.sh, which is looked at on every run; only what names x86-64 in it is
 # replaced. It needs nothing but the kit.
 set -euo pipefail
@@ -76,7 +76,9 @@ about() {
 
 for name in quicksetter handheld; do bash tools/module.sh --check "$name"; done
 commit=$(commit)
+built=()
 while read -r core triple line; do
+    case " ${CORES:-$core} " in *" $core "*) built+=("$core") ;; *) continue ;; esac
     read -ra words <<<"$line"
     words+=("${more[@]}")
     mkdir -p "$folder/$core"
@@ -84,4 +86,5 @@ while read -r core triple line; do
     compiled handheld host/programmer.h
     about >"$folder/$core/ABOUT.txt"
 done <firmware/cores.txt
-echo "build.sh: both libraries for $(cut -d ' ' -f 1 firmware/cores.txt | paste -sd ' '), in $folder"
+[ ${#built[@]} -gt 0 ] || fail "no core of cores.txt is among $CORES"
+echo "build.sh: both libraries for ${built[*]}, in $folder"

@@ -101,6 +101,11 @@ def is_wanted(row: str) -> bool:
     return not row.endswith("is refused") and (not row.endswith(" while codes wait") or row.startswith("character that is kept"))
 
 
+def is_request(row: str) -> bool:
+    """Rows of the page among the frames that are closed: the commands, not what is no request."""
+    return re.match(r"[0-9A-F]{2}h ", row) is not None
+
+
 def costs_of(bare: arm.Bare, stack: bool) -> Costs:
     counter = Counter(bare)
     by_entry = {entry: on_both_boards(counter, "calls", entry) for entry in ENTRIES}
@@ -112,4 +117,5 @@ def costs_of(bare: arm.Bare, stack: bool) -> Costs:
         most["qs_poll"] = max(most["qs_poll"], closing.stack)
         most["qs_character"] = max(most["qs_character"], by_character.stack)
         most["qs_restart"] = max(call.stack for call in counter.run(arm.HERE / "test" / "restart.c", "restart")[1])
-    return Costs(calls, dict(sorted(rows_of(closing.calls).items())), most if stack else {})
+    requests = {name: row for name, row in sorted(rows_of(closing.calls).items()) if is_request(name)}
+    return Costs(calls, requests, most if stack else {})

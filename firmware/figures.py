@@ -11,6 +11,7 @@ the compiled code; instructions and the stack that was used are measured on emul
 import argparse
 import datetime
 import difflib
+import os
 import pathlib
 import re
 import sys
@@ -25,10 +26,11 @@ from objects import Readers
 
 LIBRARIES = ("quicksetter", "handheld")
 BOARD = tuple(f"qs_{entry}" for entry in ("fresh", "restart", "character", "poll", "measured", "fault", "power_on"))
-PARTS = ("identity", "sizes", "stack", "instructions")
+PARTS = ("identity", "sizes", "stack", "instructions", "levels")
 STACK_CORES = ("cortex-m0plus", "cortex-m3", "cortex-m4", "cortex-m7")
 COUNTED_CORES = ("cortex-m3", "cortex-m4")
 STACK_MEASURED_ON = "cortex-m3"
+OTHER_LEVEL, LEVELS_ON, LEVEL_COMMANDS = "-O3", "cortex-m3", ("46h", "4Ah", "4Dh", "4Eh")
 NONE = "-"
 MOST_DIFFERENCES = 20
 
@@ -186,6 +188,25 @@ def instructions(by_core: Dict[str, Costs]) -> List[str]:
             *costs_table("Poll that closes a frame", [its.closing for its in costs])]
 
 
+# --- levels of optimisation -----------------------------------------------------------------
+
+
+def level_row(libraries: Libraries, level: str, archive: str, costs: Costs) -> List[object]:
+    closing = {name.split()[0]: row.library for name, row in costs.closing.items()}
+    most = objects.code_of(libraries.readers, archive).most("qs_poll")
+    return [f"`{level}`", flash_of(libraries, archive), costs.calls["character that is kept"].library, *[closing[command] for command in LEVEL_COMMANDS], most]
+
+
+def levels(libraries: Libraries, chosen: Costs) -> List[str]:
+    """What another level of optimisation would give on one core: the same module, compiled so."""
+    folder = libraries.work / OTHER_LEVEL.strip("-")
+    arm.run(["bash", str(arm.HERE / "build.sh"), str(folder), OTHER_LEVEL], env={**os.environ, "CORES": LEVELS_ON})
+    other = level_row(libraries, OTHER_LEVEL, str(folder / LEVELS_ON / "libquicksetter.a"), costs_of(arm.Bare(LEVELS_ON, folder, folder), False))
+    words = arm.cores()[LEVELS_ON].words
+    ours = level_row(libraries, next(word for word in words if word.startswith("-O")), libraries.archive(LEVELS_ON, "quicksetter"), chosen)
+    return table([LEVELS_ON, "bytes", "kept character", *[f"poll closes {command}" for command in LEVEL_COMMANDS], "bound of `qs_poll`'s stack"], [ours, other])
+
+
 # --- the page -------------------------------------------------------------------------------
 
 
@@ -235,7 +256,7 @@ def measured(libraries: Libraries, with_emulator: bool) -> Dict[str, List[str]]:
     used = costs[STACK_MEASURED_ON].stack
     if set(used) != set(BOARD):
         raise Failure(f"the stack was measured of {', '.join(sorted(used))} only")
-    return {**parts, "stack": stack(by_core, used), "instructions": instructions(costs)}
+    return {**parts, "stack": stack(by_core, used), "instructions": instructions(costs), "levels": levels(libraries, costs[LEVELS_ON])}
 
 
 def without_last_column(lines: Sequence[str]) -> List[str]:

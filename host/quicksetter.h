@@ -80,7 +80,7 @@
  *   - the buffers of one call do not overlap; those that are only read may;
  *   - a board's buffers are in one call at a time: no interrupt calls on them while another call runs.
  * Any alignment will do. The library keeps nothing of its own, allocates nothing, always returns and calls nothing of the host's; of the C library it needs
- * memset. docs/PERFORMANCE.md tells its size, its need of stack and the instructions of each call.
+ * memset, on 32-bit Arm memmove too. docs/PERFORMANCE.md tells its size, its need of stack and the instructions of each call, docs/FIRMWARE.md those on Arm.
  *
  * Refusals. A call refuses in the order of the numbers, and then it has done nothing: every buffer is as it was. */
 #ifndef QUICKSETTER_H
@@ -92,7 +92,7 @@
 extern "C" {
 #endif
 
-#define QS_VERSION "0.7.0" /* CHANGELOG.md tells what a host must change from one to the next */
+#define QS_VERSION "0.8.0" /* CHANGELOG.md tells what a host must change from one to the next */
 
 /* ---- sizes ---------------------------------------------------------------------------------------------------------------------------------------------- */
 

@@ -409,8 +409,16 @@ static void run_line(void) {
         close(in.handle);
 }
 
+/* Some firmwares let every access to an odd place be a fault. */
+static void trap_unaligned(void) {
+#ifdef TRAP_UNALIGNED
+    *(volatile uint32_t *)0xE000ED14 |= 1u << 3;
+#endif
+}
+
 static void start(void) {
     uint32_t block[2] = {(uint32_t)(uintptr_t)line, sizeof line};
+    trap_unaligned();
     in.length = out.length = told.length = failures = 0;
     if (semihost(GET_CMDLINE, block) != 0)
         give_up("no plan");

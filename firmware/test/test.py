@@ -2,6 +2,7 @@
 """test.py ARM HERE ANSWER [KILLS]: the firmware's tests. ARM is a folder of build.sh, HERE has the libraries for this machine, ANSWER is the answer program; the bare board
 is killed so many times, 20 if left out. What needs the emulator is left out, and one line says so, where there is none. Ends with status 1 if anything is not as it must be."""
 
+import os
 import pathlib
 import shutil
 import subprocess
@@ -68,6 +69,17 @@ class Test:
                 self.checks.check(ran.returncode == 0 and said == wanted, f"{name} on {core}: status {ran.returncode}, {ran.stdout!r}, {said[-500:]!r}, not {wanted[-500:]!r}")
                 print(f"firmware: on {core}: {said.splitlines()[-1]}", flush=True)
 
+    def check_unaligned(self):
+        """A firmware that lets an access to an odd place be a fault wants libraries that were built for that: the others end in one."""
+        strict = self.folder / "strict"
+        run(["bash", str(HERE.parent / "build.sh"), str(strict), "-mno-unaligned-access"], env={**os.environ, "CORES": "cortex-m3"})
+        for libraries, good in ((self.libraries, False), (strict, True)):
+            bare = Bare("cortex-m3", libraries, self.folder / "trap")
+            out = self.folder / "trap.out"
+            ran = bare.run_plan(bare.program("trap", [ROOT / "host" / "example.c"], "-DTRAP_UNALIGNED", "-mno-unaligned-access"), f"- {out} example\n")
+            said = (ran.returncode == 0 and out.read_text() == self.on_host("example"), b"a fault" in ran.stdout)
+            self.checks.check(said == (good, not good), f"faults on odd places, {libraries.name}: status {ran.returncode}, {ran.stdout!r}")
+
     def check_linux(self):
         for core, (compiler, emulator) in LINUX.items():
             if not shutil.which(compiler) or not shutil.which(emulator):
@@ -125,6 +137,7 @@ class Test:
     def with_emulator(self) -> int:
         self.check_programs()
         self.check_tapes()
+        self.check_unaligned()
         self.check_linux()
         return self.checks.ended()
 
