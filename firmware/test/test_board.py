@@ -16,7 +16,7 @@ sys.path[:0] = [str(HERE.parent), str(ROOT / "host" / "line"), str(ROOT / "tools
 
 import test_kill  # noqa: E402
 from arm import MACHINES, Bare, functions_of  # noqa: E402
-from emulate import Board, Port, blank_flash, flash_of  # noqa: E402
+from emulate import PC, Board, Port, blank_flash, flash_of  # noqa: E402
 from rig import DONE, ERROR_CODE, Checks, Tools, bytes_told, hear, sealed  # noqa: E402
 from test_bench import SESSION  # noqa: E402
 
@@ -118,16 +118,17 @@ def check_session(bench: Bench):
 
 
 def check_program(bench: Bench):
-    """The shop's program puts a label onto the board, and finds it there after a power cut."""
+    """The shop's program puts a label onto the board, and bench reads it after a power cut."""
     firmware = bench.firmware("cortex-m0plus", SLOW)
     flash = bench.flash("program")
-    label = str(ROOT / "tools" / "labels" / "spindle.txt")
-    for said in ("done", "done"):
-        with running(firmware, flash) as board:
-            ran = bench.tools.run("program", Port(board).name, label, *RATE, "--save", str(bench.folder / f"{said}-{time.monotonic_ns()}.tape"))
-            bench.checks.check(ran.status == DONE and said in ran.out, f"program: {ran}")
-    # All of the label is in the newer page: the board of the pair that holds.
-    bench.checks.check(newer(flash_of(flash))[4] == 112, "the page has the plate's total")
+    with running(firmware, flash) as board:
+        ran = bench.tools.run("program", Port(board).name, str(ROOT / "tools" / "labels" / "spindle.txt"), *RATE)
+        bench.checks.check(ran.status == DONE and ran.out.endswith("done: the board holds 4 fields, 9 blocks\n"), f"program: {ran}")
+    with running(firmware, flash) as board:
+        port = Port(board).name
+        for words, said in (("memory-status", "free blocks 103, fields 4\n"), ("read-field 0 0 16", "SPINDLE MOTOR SM\n"), ("store-field 2 0 00", "error 0Eh ")):
+            ran = bench.tools.run("bench", port, *RATE, *words.split())
+            bench.checks.check(said in ran.out, f"after program and a power cut: bench {words}: {ran}")
 
 
 # --- power cuts -------------------------------------------------------------------------------
@@ -313,6 +314,21 @@ def check_worn(bench: Bench):
     bench.checks.check(newer(flash_of(flash)) != held, "the next change is kept")
 
 
+def check_fault(bench: Bench):
+    """The processor runs into nowhere, as after a disturbance: the board starts anew, and what was acknowledged is there."""
+    firmware = bench.firmware("cortex-m3", "-DTOTAL=4", SLOW)
+    flash = counted_twice(bench, firmware, "fault")
+    with stopping(firmware, flash) as board:
+        line = Serial(board)
+        line.send(sealed(0x40, 0x46))
+        bench.checks.check(steps_done(board, firmware, 0), "a reply is about to be sent")
+        board.debugger.set_register(PC, 0xF0000000)
+        board.debugger.go_free([firmware.places[name] for name in STEPS])
+        time.sleep(0.5)  # what is sent before its receiver is on again is lost
+        told = line.ask(sealed(0x40, 0x46), 6)
+        bench.checks.check(told == sealed(0x40, 0x46, 0, 0, 2), f"after a fault: {bytes_told(told)}")
+
+
 def check_noise(bench: Bench):
     """Any bytes at any pace, frames longer than any: afterwards it answers as before, and asleep it takes no processor time."""
     firmware = bench.firmware("cortex-m3", SLOW)
@@ -358,6 +374,7 @@ def test(bench: Bench, kills: int) -> str:
     more = check_cuts(bench)
     check_damage(bench)
     check_worn(bench)
+    check_fault(bench)
     check_noise(bench)
     check_emulate(bench)
     return more + check_kills(bench, kills, 2024)
