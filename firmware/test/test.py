@@ -4,6 +4,7 @@ is killed so many times, 20 if left out. What needs the emulator is left out, an
 
 import os
 import pathlib
+import re
 import shutil
 import subprocess
 import sys
@@ -15,9 +16,10 @@ HERE = pathlib.Path(__file__).resolve().parent
 ROOT = HERE.parent.parent
 sys.path[:0] = [str(HERE.parent), str(ROOT / "host" / "line"), str(ROOT / "second"), str(ROOT / "tapes")]
 
+import counted  # noqa: E402
 import generate  # noqa: E402
 import test_build  # noqa: E402
-from arm import EMULATOR, PACKAGE, STRICT, Bare, has_emulator, run  # noqa: E402
+from arm import EMULATOR, PACKAGE, STRICT, Bare, functions_of, has_emulator, run  # noqa: E402
 from make import TAPES  # noqa: E402
 from rig import Checks, Tools  # noqa: E402
 
@@ -31,8 +33,34 @@ PROGRAMS = {
     "cortex-m4-hard": ("example",),
 }
 OVER_32_BITS = {"test": 26, "test_program": 6}
+TRACED = re.compile(r"Trace \d+: 0x[0-9a-f]+ \[[0-9a-f]+/([0-9a-f]+)/")
+LONGEST_VENEER = 128  # of test/counted.c
 # 32-bit and 64-bit Arm Linux, where a cross compiler and an emulator of programs are there.
 LINUX = {"arm-linux": ("arm-linux-gnueabihf-gcc", "qemu-arm"), "aarch64-linux": ("aarch64-linux-gnu-gcc", "qemu-aarch64")}
+
+
+def one_by_one() -> List[str]:
+    """The emulator's words for a trace in which each instruction stands."""
+    known = run([EMULATOR, "-help"]).stdout.decode()
+    return ["-singlestep"] if "-singlestep" in known else ["-accel", "tcg,one-insn-per-tb=on"]
+
+
+def traced_calls(log: pathlib.Path, entry: int, veneer: int) -> List[int]:
+    """The instructions of each call, from an entry's first until the veneer around it goes on."""
+    counts: List[int] = []
+    inside = False
+    with open(log, encoding="ascii", errors="replace") as lines:
+        for line in lines:
+            found = TRACED.match(line)
+            place = int(found[1], 16) if found else -1
+            if place == entry and not inside:
+                inside = True
+                counts.append(0)
+            elif inside and veneer <= place < veneer + LONGEST_VENEER:
+                inside = False
+            if inside and found:
+                counts[-1] += 1
+    return counts
 
 
 class Test:
@@ -79,6 +107,19 @@ class Test:
             ran = bare.run_plan(bare.program("trap", [ROOT / "host" / "example.c"], "-DTRAP_UNALIGNED", "-mno-unaligned-access"), f"- {out} example\n")
             said = (ran.returncode == 0 and out.read_text() == self.on_host("example"), b"a fault" in ran.stdout)
             self.checks.check(said == (good, not good), f"faults on odd places, {libraries.name}: status {ran.returncode}, {ran.stdout!r}")
+
+    def check_counts(self):
+        """What figures.py has of the emulator's time is what a trace of every instruction has."""
+        counter = counted.Counter(Bare("cortex-m3", self.libraries, self.folder / "counted"))
+        source, entry = HERE / "restart.c", "restart"
+        told = [call.instructions for call in counter.run(source, entry)[1]]
+        elf, log = counter.program(source, entry), self.folder / "trace"
+        places = functions_of(elf)
+        ran = counter.bare.run_plan(elf, f"- {self.folder / 'trace.out'} restart {entry}\n", *one_by_one(), "-d", "exec,nochain", "-D", str(log))
+        traced = traced_calls(log, places["qs_restart"], places["__wrap_qs_restart"])
+        self.checks.check(ran.returncode == 0 and len(told) == 10 and traced == told, f"{len(told)} calls counted, {len(traced)} traced, and not the same")
+        print(f"firmware: instructions of {len(told)} calls counted as in a trace of every instruction", flush=True)
+        log.unlink()
 
     def check_linux(self):
         for core, (compiler, emulator) in LINUX.items():
@@ -138,6 +179,7 @@ class Test:
         self.check_programs()
         self.check_tapes()
         self.check_unaligned()
+        self.check_counts()
         self.check_linux()
         return self.checks.ended()
 

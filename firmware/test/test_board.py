@@ -25,6 +25,7 @@ SLOW = "-DTICKS_A_BIT=16"  # 2400 baud: a pause of 23 ms, which a busy machine d
 RATE = ("--rate", "2400", "--patience", "50")
 ANSWER = 2.0  # seconds for a reply, which a busy machine may need
 CHARACTER = 11 / 2400
+PAUSE_BITS = 55
 FLASH_FAULT = 0x06
 
 INTERFACE = "interface E4h (9600 baud, 8 data bits, even parity, timeout 55 bit times, standard slave), encoder type 07h, "
@@ -129,6 +130,27 @@ def check_program(bench: Bench):
         for words, said in (("memory-status", "free blocks 103, fields 4\n"), ("read-field 0 0 16", "SPINDLE MOTOR SM\n"), ("store-field 2 0 00", "error 0Eh ")):
             ran = bench.tools.run("bench", port, *RATE, *words.split())
             bench.checks.check(said in ran.out, f"after program and a power cut: bench {words}: {ran}")
+
+
+def check_pause(bench: Bench):
+    """A reply never comes before the pause is over, by the clock of this machine, and among many one comes soon after; a gap of more than the pause makes two frames."""
+    for words, baud in (((SLOW,), 2400), ((), 9600)):
+        firmware = bench.firmware("cortex-m3", *words)
+        with running(firmware, bench.flash("pause")) as board:
+            line = Serial(board)
+            waits = []
+            for _ in range(20):
+                time.sleep(CHARACTER)
+                begun = time.monotonic()
+                os.write(line.fd, sealed(0xFF, 0x46))
+                if line.hear(1):
+                    waits.append(time.monotonic() - begun)
+                line.hear(5)
+            bench.checks.check(len(waits) > 10 and min(waits) >= PAUSE_BITS / baud, f"{baud} baud: a reply after {min(waits, default=0)} s")
+            bench.checks.check(min(waits, default=9) < PAUSE_BITS / baud + 0.02, f"{baud} baud: no reply before {min(waits, default=9)} s")
+            line.send(b"\x40")
+            time.sleep(3 * PAUSE_BITS / baud)
+            bench.checks.check(line.ask(b"\x46\x06", 1, 0.3) == b"", f"{baud} baud: two parts of a request are none")
 
 
 # --- power cuts -------------------------------------------------------------------------------
@@ -371,6 +393,7 @@ def check_emulate(bench: Bench):
 def test(bench: Bench, kills: int) -> str:
     check_session(bench)
     check_program(bench)
+    check_pause(bench)
     more = check_cuts(bench)
     check_damage(bench)
     check_worn(bench)
