@@ -1,5 +1,6 @@
 """What the tests and figures of the firmware share: the kit's compiler, the cores of cores.txt, programs for bare boards, and the emulator that runs them."""
 
+import functools
 import os
 import pathlib
 import platform
@@ -56,6 +57,7 @@ def run(words: Sequence[str], **more) -> subprocess.CompletedProcess:
     return found
 
 
+@functools.lru_cache(maxsize=None)
 def functions_of(elf: str) -> Dict[str, int]:
     """Where each function of a program begins."""
     with tempfile.TemporaryDirectory() as folder:

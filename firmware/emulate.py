@@ -2,6 +2,7 @@
 """emulate.py ELF FLASH: the bare board in the emulator. FLASH is the file that its flash is, made anew where it is not there; its serial line's name is printed, to be opened
 by bench, program, or any master. The board runs until it is ended, by Ctrl-C for one: what it acknowledged is in the file."""
 
+import fcntl
 import os
 import pathlib
 import pty
@@ -12,17 +13,16 @@ import socket
 import subprocess
 import sys
 import threading
-import time
 import tty
-from typing import List
+from typing import BinaryIO, List
 
-from arm import EMULATOR, PACKAGE, Failure, has_emulator
+from arm import EMULATOR, PACKAGE, Failure, functions_of, has_emulator
 
 MACHINE = "mps2-an385"
 MEMORY = 16 << 20  # the emulated board's dynamic RAM, of which the first bytes are the flash
 FLASH_LENGTH = 2 * 2048
 PATIENCE = 30.0
-START = 0.5
+MAIN_LOOP = "clock_ticks"  # nothing before it looks at the clock
 PC = 15
 
 
@@ -36,6 +36,22 @@ def blank_flash(path: pathlib.Path, content: bytes = b"\xff" * FLASH_LENGTH):
 def flash_of(path: pathlib.Path) -> bytes:
     with open(path, "rb") as file:
         return file.read(FLASH_LENGTH)
+
+
+def held_flash(path: pathlib.Path) -> BinaryIO:
+    """The flash file, made anew where there is none, and locked against another board until it is closed."""
+    if not path.exists():
+        blank_flash(path)
+    file = open(path, "rb")
+    try:
+        fcntl.flock(file, fcntl.LOCK_EX | fcntl.LOCK_NB)
+    except OSError:
+        file.close()
+        raise Failure(f"{path}: another board has it") from None
+    if os.path.getsize(path) != MEMORY:
+        file.close()
+        raise Failure(f"{path}: not a board's flash, which has {MEMORY} bytes")
+    return file
 
 
 class Debugger:
@@ -106,11 +122,10 @@ class Board:
     """A running board. Killed, it leaves its flash as it was at that moment. `line` is its serial line's other end."""
 
     def __init__(self, elf: str, flash: pathlib.Path, debugged: bool = False, machine: str = MACHINE):
-        if not flash.exists():
-            blank_flash(flash)
+        self.flash = held_flash(flash)
         self.line, its_line = socket.socketpair()
         debugger, its_debugger = socket.socketpair()
-        words = [EMULATOR, "-M", f"{machine},memory-backend=flash", "-object", f"memory-backend-file,id=flash,size={MEMORY},mem-path={flash},share=on",
+        words = [EMULATOR, "-M", f"{machine},memory-backend=flash", "-object", f"memory-backend-file,id=flash,size={MEMORY},mem-path={str(flash).replace(',', ',,')},share=on",
                  "-display", "none", "-monitor", "none", "-chardev", f"socket,id=line,fd={its_line.fileno()}", "-serial", "chardev:line", "-kernel", elf]
         if debugged:
             words += ["-chardev", f"socket,id=debugger,fd={its_debugger.fileno()}", "-gdb", "chardev:debugger", "-S"]
@@ -132,7 +147,18 @@ class Board:
         said = self.process.communicate()[0].decode()
         self.line.close()
         self.debugger.socket.close()
+        self.flash.close()
         return said
+
+
+def started(elf: str, flash: pathlib.Path, machine: str = MACHINE) -> Board:
+    """A board whose main loop is reached, and which goes on by its debugger: what is sent before its receiver is on is lost."""
+    place = functions_of(elf).get(MAIN_LOOP)
+    if place is None:
+        raise Failure(f"{elf} has no {MAIN_LOOP}, by which its main loop is known")
+    board = Board(elf, flash, debugged=True, machine=machine)
+    board.debugger.go_to(place)
+    return board
 
 
 class Port(threading.Thread):
@@ -171,8 +197,8 @@ def main() -> int:
         return 1
     signal.signal(signal.SIGTERM, lambda *_: sys.exit(0))
     try:
-        with Board(sys.argv[1], pathlib.Path(sys.argv[2])) as board:
-            time.sleep(START)  # what is sent before its receiver is on is lost
+        with started(sys.argv[1], pathlib.Path(sys.argv[2])) as board:
+            board.debugger.go()
             print(Port(board).name, flush=True)
             board.process.wait()
             print(f"emulate.py: the emulator ended: {board.kill()}", file=sys.stderr)

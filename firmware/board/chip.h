@@ -10,7 +10,7 @@ struct uart_registers {
     volatile uint32_t data, state, control, interrupts, divider;
 };
 #define UART0 ((struct uart_registers *)0x40004000)
-enum { UART_TX_FULL = 1, UART_RX_FULL = 2 };                                                     /* state */
+enum { UART_RX_FULL = 2 };                                                                       /* state */
 enum { UART_TX_ON = 1, UART_RX_ON = 2, UART_TX_INTERRUPT = 4, UART_RX_INTERRUPT = 8 };           /* control */
 enum { UART_SENT = 1, UART_RECEIVED = 2 };                                                       /* interrupts; a one written takes one back */
 

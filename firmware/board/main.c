@@ -106,7 +106,7 @@ static void sleep_until_due(void) {
 int main(void) {
     clock_start();
     start_board();
-    uart_start(BAUD);
+    uart_start(TICKS_A_BIT);
     for (;;) {
         sleep_until_due();
         turn();

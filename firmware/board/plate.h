@@ -11,7 +11,7 @@
 #define TICKS_A_BIT 4
 #endif
 
-enum { BITS = 24, PLATE_ADDRESS = 0, PAUSE = 55, BAUD = 38400 / TICKS_A_BIT };
+enum { BITS = 24, PLATE_ADDRESS = 0, PAUSE = 55 };
 
 /* What the drive is told by 52h and 56h. E4h is 9600 baud, even parity, the long pause; 80h blocks are all of a part of 2048 bytes, of which 70h are for fields. Each
  * board's own serial number would stand in a part of the flash that is written once. */

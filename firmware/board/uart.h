@@ -10,7 +10,7 @@ struct character {
     uint8_t value, parity;
 };
 
-void uart_start(uint32_t baud);
+void uart_start(uint32_t ticks_a_bit);
 
 /* Whether a character waits that nobody took. */
 bool uart_waits(void);
@@ -18,7 +18,7 @@ bool uart_waits(void);
 /* The oldest one that waits. Only where one does. */
 struct character uart_take(void);
 
-/* Sends a reply and sleeps until its last character is out. What the line brings meanwhile is the own echo, and is thrown away. */
+/* Sends a reply and sleeps until its last character has ended. What the line brings meanwhile is the own echo, and is thrown away. */
 void uart_send(const uint8_t *bytes, uint32_t length);
 
 #endif

@@ -16,7 +16,7 @@ sys.path[:0] = [str(HERE.parent), str(ROOT / "host" / "line"), str(ROOT / "tools
 
 import test_kill  # noqa: E402
 from arm import MACHINES, Bare, functions_of  # noqa: E402
-from emulate import PC, Board, Port, blank_flash, flash_of  # noqa: E402
+from emulate import PC, Board, Port, blank_flash, flash_of, started  # noqa: E402
 from rig import DONE, ERROR_CODE, Checks, Tools, bytes_told, hear, sealed  # noqa: E402
 from test_bench import SESSION  # noqa: E402
 
@@ -24,8 +24,8 @@ PAGE = 2048
 SLOW = "-DTICKS_A_BIT=16"  # 2400 baud: a pause of 23 ms, which a busy machine does not make of two characters that belong together
 RATE = ("--rate", "2400", "--patience", "50")
 ANSWER = 2.0  # seconds for a reply, which a busy machine may need
-CHARACTER = 11 / 2400
 PAUSE_BITS = 55
+STILL = PAUSE_BITS / 2400
 FLASH_FAULT = 0x06
 
 INTERFACE = "interface E4h (9600 baud, 8 data bits, even parity, timeout 55 bit times, standard slave), encoder type 07h, "
@@ -43,8 +43,8 @@ class Serial:
         self.fd = board.line.fileno()
 
     def send(self, data: bytes):
-        """The emulated line takes no time: the time of one character is left before each frame, in which a real one could not have ended yet."""
-        time.sleep(CHARACTER)
+        """As bench does, when nobody has spoken for the pause. The emulated line takes no time: on a real one the board's last character would end, and the frame's first."""
+        time.sleep(STILL)
         try:
             os.write(self.fd, data)
         except BrokenPipeError:  # the board was killed: nobody hears it
@@ -66,15 +66,8 @@ class Firmware(NamedTuple):
     machine: str
 
 
-def started(firmware: Firmware, flash: pathlib.Path) -> Board:
-    """A board whose main loop is reached: what is sent before its receiver is on is lost. It goes on by its debugger."""
-    board = Board(firmware.elf, flash, debugged=True, machine=firmware.machine)
-    board.debugger.go_to(firmware.places["clock_ticks"])
-    return board
-
-
 def running(firmware: Firmware, flash: pathlib.Path) -> Board:
-    board = started(firmware, flash)
+    board = started(firmware.elf, flash, firmware.machine)
     board.debugger.go()
     return board
 
@@ -140,7 +133,7 @@ def check_pause(bench: Bench):
             line = Serial(board)
             waits = []
             for _ in range(20):
-                time.sleep(CHARACTER)
+                time.sleep(STILL)
                 begun = time.monotonic()
                 os.write(line.fd, sealed(0xFF, 0x46))
                 if line.hear(1):
@@ -151,6 +144,20 @@ def check_pause(bench: Bench):
             line.send(b"\x40")
             time.sleep(3 * PAUSE_BITS / baud)
             bench.checks.check(line.ask(b"\x46\x06", 1, 0.3) == b"", f"{baud} baud: two parts of a request are none")
+
+
+def check_echo(bench: Bench):
+    """On two wires the board hears itself. The reply to 47h is the request's own bytes: a board that took it would count for ever."""
+    firmware = bench.firmware("cortex-m3", SLOW)
+    with running(firmware, bench.flash("echo")) as board:
+        line = Serial(board)
+        for counted in range(1, 4):
+            line.send(sealed(0x40, 0x47))
+            for byte in sealed(0x40, 0x47):
+                bench.checks.check(line.hear(1) == bytes([byte]), f"with an echo: a reply to request {counted}")
+                os.write(line.fd, bytes([byte]))
+            bench.checks.check(line.hear(1, 0.2) == b"", "the own reply is not answered")
+            bench.checks.check(line.ask(sealed(0x40, 0x46), 6) == sealed(0x40, 0x46, 0, 0, counted), f"with an echo: it counted to {counted}")
 
 
 # --- power cuts -------------------------------------------------------------------------------
@@ -205,7 +212,7 @@ def steps_done(board: Board, firmware: Firmware, steps: int) -> bool:
 
 
 def stopping(firmware: Firmware, flash: pathlib.Path) -> Board:
-    board = started(firmware, flash)
+    board = started(firmware.elf, flash, firmware.machine)
     board.debugger.stop_before([firmware.places[name] for name in STEPS])
     board.debugger.go()
     return board
@@ -381,19 +388,25 @@ def check_emulate(bench: Bench):
     bench.checks.check(bad.returncode == 2 and "emulate.py ELF FLASH" in bad.stderr, f"no words: {bad}")
     gone = subprocess.run([sys.executable, script, str(bench.folder / "none.elf"), str(bench.flash("none"))], capture_output=True, text=True, timeout=60, check=False)
     bench.checks.check(gone.returncode == 1 and gone.stderr.startswith("emulate.py: "), f"no such program: {gone}")
-    running = subprocess.Popen([sys.executable, script, firmware.elf, str(bench.flash("asked"))], stdout=subprocess.PIPE, text=True)
-    port = running.stdout.readline().strip()
-    time.sleep(0.5)
+    foreign, asked = bench.flash("foreign"), bench.flash("asked")
+    foreign.write_bytes(b"somebody's")
+    given = subprocess.Popen([sys.executable, script, firmware.elf, str(asked)], stdout=subprocess.PIPE, text=True)
+    port = given.stdout.readline().strip()
+    for file, why in ((foreign, "not a board's flash"), (asked, "another board has it")):
+        other = subprocess.run([sys.executable, script, firmware.elf, str(file)], capture_output=True, text=True, timeout=60, check=False)
+        bench.checks.check(other.returncode == 1 and why in other.stderr, f"{file.name}: {other}")
+    bench.checks.check(foreign.read_bytes() == b"somebody's", "a foreign file is left alone")
     ran = bench.tools.run("bench", port, *RATE, "memory-status")
-    running.terminate()
-    running.communicate()
-    bench.checks.check((ran.status, ran.out) == (DONE, "free blocks 112, fields 0\n") and running.returncode == 0, f"a board to be asked: {ran}, {running.returncode}")
+    given.terminate()
+    given.communicate()
+    bench.checks.check((ran.status, ran.out) == (DONE, "free blocks 112, fields 0\n") and given.returncode == 0, f"a board to be asked: {ran}, {given.returncode}")
 
 
 def test(bench: Bench, kills: int) -> str:
     check_session(bench)
     check_program(bench)
     check_pause(bench)
+    check_echo(bench)
     more = check_cuts(bench)
     check_damage(bench)
     check_worn(bench)
