@@ -3,8 +3,8 @@
 #define PROGRAM "test_keep.c"
 #include "testing.h"
 
-#include "../board/flash.h"
-#include "../board/keep.h"
+#include "flash.h"
+#include "keep.h"
 
 #include <setjmp.h>
 
