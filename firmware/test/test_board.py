@@ -16,6 +16,7 @@ sys.path[:0] = [str(HERE.parent), str(ROOT / "host" / "line"), str(ROOT / "tools
 
 import test_kill  # noqa: E402
 from arm import MACHINES, Bare, functions_of  # noqa: E402
+from commands import BY_NAME  # noqa: E402
 from emulate import PC, Board, Port, blank_flash, flash_of, started  # noqa: E402
 from rig import DONE, ERROR_CODE, Checks, Tools, bytes_told, hear, sealed  # noqa: E402
 from test_bench import SESSION  # noqa: E402
@@ -100,6 +101,7 @@ class Bench:
 
 def check_session(bench: Bench):
     """bench at the board: the session that it has with the encoder, word for word."""
+    bench.checks.check({line.split()[0] for line, *_ in SESSION}.issuperset(BY_NAME), "every command is asked")
     firmware = bench.firmware("cortex-m3", "-DTOTAL=8", SLOW)
     with running(firmware, bench.flash("session")) as board:
         port = Port(board)
