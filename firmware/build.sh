@@ -23,7 +23,7 @@ may_need='mem(cpy|move|set)|__aeabi_mem(cpy|move|set|clr)[48]?|__aeabi_(llsl|lls
 
 # Each export as its name and its types, of a module's definitions or of declarations: what stands beside a type, a name or a word of the ABI, is left out.
 exports() {
-    sed -nE 's/^(define|declare) +(dso_local |noundef |zeroext |local_unnamed_addr )*([a-z0-9]+) @([a-z]+_[a-z_]+)\(([^)]*)\).*/\4: \3 (\5)/p' |
+    sed -nE 's/^(define|declare) +(dso_local |noundef |zeroext |local_unnamed_addr )*([a-z0-9]+) @([A-Za-z0-9_]+)\(([^)]*)\).*/\4: \3 (\5)/p' |
         sed -E 's/ (noundef|zeroext|signext)//g; s/ %[A-Za-z0-9_.]+//g; s/, +/, /g' | sort
 }
 
@@ -45,6 +45,7 @@ compiled() {
     local name=$1 header=$2
     exports <"target/module/$name.ll" >"$work/defined"
     declared "$header" >"$work/declared"
+    [ -s "$work/defined" ] || fail "$core: no export of $name was found"
     diff "$work/defined" "$work/declared" >&2 || fail "$core: above, what $name exports (<) and what $header declares (>) differ"
     bash tools/module.sh --compile "$name" "$triple" "$work/$name.o" "${words[@]}" -fstack-size-section
     "$work/llvm-nm" -u "$work/$name.o" | sed 's/.* //' | sort >"$work/$name.needs"
