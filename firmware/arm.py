@@ -6,7 +6,6 @@ import pathlib
 import platform
 import shutil
 import subprocess
-import tempfile
 from typing import Dict, List, NamedTuple, Sequence
 
 HERE = pathlib.Path(__file__).resolve().parent
@@ -17,8 +16,6 @@ LONGEST_RUN = 600
 STRICT = ["-std=c11", "-O2", "-Wall", "-Wextra", "-Werror"]
 # The emulated boards: Arm's MPS2, of one make but for the core.
 MACHINES = {"cortex-m0plus": "mps2-an385", "cortex-m3": "mps2-an385", "cortex-m4": "mps2-an386", "cortex-m4-hard": "mps2-an386", "cortex-m7": "mps2-an500"}
-
-
 # What has the memory functions itself: no loop of theirs may become a call of them.
 NO_BUILTIN = (HERE / "board" / "memory.c", HERE / "test" / "bare.c")
 
@@ -57,13 +54,15 @@ def run(words: Sequence[str], **more) -> subprocess.CompletedProcess:
     return found
 
 
+def text_by(name: str, *words: str) -> str:
+    """What one of the kit's readers of compiled code says: they are one program with the compiler, which goes by its name."""
+    return run([name, *words], executable=kit_tool("clang")).stdout.decode("utf-8", "replace")
+
+
 @functools.lru_cache(maxsize=None)
 def functions_of(elf: str) -> Dict[str, int]:
     """Where each function of a program begins."""
-    with tempfile.TemporaryDirectory() as folder:
-        nm = os.path.join(folder, "llvm-nm")
-        os.symlink(kit_tool("clang"), nm)  # one program, which goes by its name
-        lines = run([nm, elf]).stdout.decode().splitlines()
+    lines = text_by("llvm-nm", elf).splitlines()
     return {name: int(place, 16) & ~1 for place, kind, name in (line.split() for line in lines) if kind in "tT"}
 
 
@@ -95,11 +94,11 @@ class Bare:
         run([kit_tool("ld.lld"), "--gc-sections", "--fatal-warnings", "-e", "0", "-T", str(script), *words, *objects, *archives, "-o", made])
         return made
 
-    def program(self, name: str, sources: Sequence[pathlib.Path], *words: str, link: Sequence[str] = ()) -> str:
+    def program(self, name: str, sources: Sequence[pathlib.Path], *words: str) -> str:
         """A program with standard input and output, by test/bare.c; it runs under a plan."""
         own = ["-isystem", str(HERE / "test" / "include"), "-isystem", str(HERE / "include")]
         objects = [self.object(source, *own, *words) for source in (*sources, HERE / "test" / "bare.c", HERE / "board" / "memory.c")]
-        return self.linked(name, HERE / "test" / "bare.ld", objects, *link)
+        return self.linked(name, HERE / "test" / "bare.ld", objects)
 
     def board(self, name: str, *words: str) -> str:
         """The firmware of the bare board; words may define TOTAL and TICKS_A_BIT."""

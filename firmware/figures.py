@@ -22,7 +22,6 @@ import arm
 import objects
 from arm import Failure
 from counted import Costs, Row, costs_of
-from objects import Readers
 
 LIBRARIES = ("quicksetter", "handheld")
 BOARD = tuple(f"qs_{entry}" for entry in ("fresh", "restart", "character", "poll", "measured", "fault", "power_on"))
@@ -38,8 +37,8 @@ MOST_DIFFERENCES = 20
 class Libraries:
     """A folder of build.sh, made by the kit at hand."""
 
-    def __init__(self, folder: pathlib.Path, readers: Readers, work: pathlib.Path):
-        self.folder, self.readers, self.work = folder, readers, work
+    def __init__(self, folder: pathlib.Path, work: pathlib.Path):
+        self.folder, self.work = folder, work
         for core in arm.cores():
             about = folder / core / "ABOUT.txt"
             if not about.exists():
@@ -80,7 +79,7 @@ def identity() -> List[str]:
 
 def flash_of(libraries: Libraries, file: str) -> int:
     """Bytes of code and constants; what needs RAM of its own fails."""
-    sections = objects.sections_of(libraries.readers, file)
+    sections = objects.sections_of(file)
     if sections.data or sections.zeroed:
         raise Failure(f"{file} has {sections.data} bytes of data and {sections.zeroed} zeroed ones of its own: the libraries keep nothing")
     return sections.read_only
@@ -91,7 +90,7 @@ def board_alone(libraries: Libraries, core: str) -> str:
     made = str(libraries.work / f"{core}-board.o")
     wanted = [word for entry in BOARD for word in ("-u", entry)]
     arm.run([arm.kit_tool("ld.lld"), "-r", "--gc-sections", *wanted, libraries.archive(core, "quicksetter"), "-o", made])
-    missing = set(BOARD) - objects.symbols_of(libraries.readers, made, "T")
+    missing = set(BOARD) - objects.symbols_of(made, "T")
     if missing:
         raise Failure(f"{core}: the library has no {', '.join(sorted(missing))}")
     return made
@@ -102,8 +101,8 @@ def example(libraries: Libraries, core: str) -> List[object]:
     if "-none-" not in arm.cores()[core].triple:
         return [NONE] * 3
     elf = libraries.bare(core).board("board")
-    stack = sum(size for (name, _, _), size in objects.section_sizes(libraries.readers, elf).items() if name == ".stack")
-    sections = objects.sections_of(libraries.readers, elf, without=".stack")
+    stack = sum(size for (name, _, _), size in objects.section_sizes(elf).items() if name == ".stack")
+    sections = objects.sections_of(elf, without=".stack")
     return [sections.read_only + sections.data, sections.data + sections.zeroed, stack]
 
 
@@ -111,7 +110,7 @@ def needs(libraries: Libraries) -> List[str]:
     """A line for each set of functions that cores need."""
     cores_by_needs: Dict[Tuple[str, ...], List[str]] = {}
     for core in arm.cores():
-        found = [objects.symbols_of(libraries.readers, libraries.archive(core, library), "U") for library in LIBRARIES]
+        found = [objects.symbols_of(libraries.archive(core, library), "U") for library in LIBRARIES]
         cores_by_needs.setdefault(tuple(", ".join(f"`{name}`" for name in sorted(names)) or "nothing" for names in found), []).append(core)
     rows = [[", ".join(cores), *names] for names, cores in cores_by_needs.items()]
     return ["| Core | libquicksetter.a needs | libhandheld.a needs |", "| --- | --- | --- |", *table([""] * 3, rows)[2:]]
@@ -138,16 +137,16 @@ class Bounds(NamedTuple):
 
 
 def bounds(libraries: Libraries, core: str) -> Bounds:
-    readers, bare = libraries.readers, libraries.bare(core)
+    bare = libraries.bare(core)
     needed: Set[str] = set()
     alone: Dict[str, int] = {}
     with_memory: Dict[str, int] = {}
-    memory = objects.code_of(readers, bare.object(arm.HERE / "board" / "memory.c", "-isystem", str(arm.HERE / "include"), "-fstack-size-section"))
+    memory = objects.code_of(bare.object(arm.HERE / "board" / "memory.c", "-isystem", str(arm.HERE / "include"), "-fstack-size-section"))
     for library in LIBRARIES:
         archive = libraries.archive(core, library)
-        code = objects.code_of(readers, archive)
-        needed |= objects.symbols_of(readers, archive, "U")
-        for entry in sorted(objects.symbols_of(readers, archive, "T")):
+        code = objects.code_of(archive)
+        needed |= objects.symbols_of(archive, "U")
+        for entry in sorted(objects.symbols_of(archive, "T")):
             alone[entry] = code.most(entry)
             with_memory[entry] = code.with_(memory).most(entry)
     if needed - set(memory.frames):
@@ -193,7 +192,7 @@ def instructions(by_core: Dict[str, Costs]) -> List[str]:
 
 def level_row(libraries: Libraries, level: str, archive: str, costs: Costs) -> List[object]:
     closing = {name.split()[0]: row.library for name, row in costs.closing.items()}
-    most = objects.code_of(libraries.readers, archive).most("qs_poll")
+    most = objects.code_of(archive).most("qs_poll")
     return [f"`{level}`", flash_of(libraries, archive), costs.calls["character that is kept"].library, *[closing[command] for command in LEVEL_COMMANDS], most]
 
 
@@ -304,7 +303,7 @@ def main(words: Optional[Sequence[str]] = None) -> int:
         with tempfile.TemporaryDirectory() as folder:
             work = pathlib.Path(folder)
             page = Page(given.page)
-            libraries = Libraries(given.libraries.resolve(), Readers(work), work)
+            libraries = Libraries(given.libraries.resolve(), work)
             (check if given.check else write)(page, libraries)
     except Failure as failure:
         print(f"figures.py: {failure}", file=sys.stderr)

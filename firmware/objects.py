@@ -1,6 +1,5 @@
 """What compiled code is, by the kit's own readers: bytes of its sections, what it needs from outside, and the most stack that each function can take."""
 
-import pathlib
 import re
 from typing import Dict, List, NamedTuple, Sequence, Set, Tuple
 
@@ -8,20 +7,6 @@ import arm
 from arm import Failure
 
 NOT_LOADED = (".ARM.exidx", ".ARM.extab", ".eh_frame")  # for unwinding, which no board does
-
-
-class Readers:
-    """The kit has nm, objdump and readelf in one program with the compiler, which goes by its name."""
-
-    def __init__(self, work: pathlib.Path):
-        self.folder = work / "readers"
-        self.folder.mkdir()
-
-    def text_of(self, name: str, *words: str) -> str:
-        program = self.folder / name
-        if not program.exists():
-            program.symlink_to(arm.kit_tool("clang"))
-        return arm.run([str(program), *words]).stdout.decode("utf-8", "replace")
 
 
 # --- sections and symbols -------------------------------------------------------------------
@@ -38,10 +23,10 @@ class Sections(NamedTuple):
 SECTION = re.compile(r"^ +\[ *\d+\] (.*?) +([A-Z_0-9]+) +[0-9a-f]+ [0-9a-f]+ ([0-9a-f]+) [0-9a-f]{2} +([A-Za-z]*) +\d+ +\d+ +\d+$", re.M)
 
 
-def section_sizes(readers: Readers, file: str) -> Dict[Tuple[str, str, str], int]:
+def section_sizes(file: str) -> Dict[Tuple[str, str, str], int]:
     """The loaded sections of an object, an archive or a program: name, type and flags, with their bytes."""
     sizes: Dict[Tuple[str, str, str], int] = {}
-    for name, kind, size, flags in SECTION.findall(readers.text_of("llvm-readelf", "-SW", file)):
+    for name, kind, size, flags in SECTION.findall(arm.text_by("llvm-readelf", "-SW", file)):
         if "A" in flags and not name.startswith(NOT_LOADED):
             sizes[name, kind, flags] = sizes.get((name, kind, flags), 0) + int(size, 16)
     if not sizes:
@@ -49,16 +34,16 @@ def section_sizes(readers: Readers, file: str) -> Dict[Tuple[str, str, str], int
     return sizes
 
 
-def sections_of(readers: Readers, file: str, without: str = "") -> Sections:
-    sizes = {key: size for key, size in section_sizes(readers, file).items() if key[0] != without}
-    common = sum(int(size, 16) for size in re.findall(r"^[0-9a-f]+ ([0-9a-f]+) C ", readers.text_of("llvm-nm", "-S", file), re.M))
+def sections_of(file: str, without: str = "") -> Sections:
+    sizes = {key: size for key, size in section_sizes(file).items() if key[0] != without}
+    common = sum(int(size, 16) for size in re.findall(r"^[0-9a-f]+ ([0-9a-f]+) C ", arm.text_by("llvm-nm", "-S", file), re.M))
     writable = {key: size for key, size in sizes.items() if "W" in key[2]}
     zeroed = sum(size for key, size in writable.items() if key[1] == "NOBITS")
     return Sections(sum(sizes.values()) - sum(writable.values()), sum(writable.values()) - zeroed, zeroed + common)
 
 
-def symbols_of(readers: Readers, file: str, letters: str) -> Set[str]:
-    return set(re.findall(rf"^[0-9a-f ]+ [{letters}] (.+)$", readers.text_of("llvm-nm", file), re.M))
+def symbols_of(file: str, letters: str) -> Set[str]:
+    return set(re.findall(rf"^[0-9a-f ]+ [{letters}] (.+)$", arm.text_by("llvm-nm", file), re.M))
 
 
 # --- the most stack, of a Cortex-M ----------------------------------------------------------
@@ -161,15 +146,15 @@ def functions_in(listing: str) -> Dict[str, Function]:
     return functions
 
 
-def code_of(readers: Readers, file: str) -> Code:
+def code_of(file: str) -> Code:
     """An object or archive that was compiled with -fstack-size-section; a function without a size there, as one that takes stack as it goes, fails."""
-    found = re.findall(r"Functions: \[(.+)\]\s+Size: (0x[0-9A-F]+)", readers.text_of("llvm-readobj", "--stack-sizes", file))
+    found = re.findall(r"Functions: \[(.+)\]\s+Size: (0x[0-9A-F]+)", arm.text_by("llvm-readobj", "--stack-sizes", file))
     frames = {name: int(size, 16) for names, size in found for name in names.split(", ")}
-    functions = functions_in(readers.text_of("llvm-objdump", "-dr", "--no-show-raw-insn", file))
+    functions = functions_in(arm.text_by("llvm-objdump", "-dr", "--no-show-raw-insn", file))
     calls = {name: functions[its].calls for names, _ in found for its in names.split(", ") if its in functions for name in names.split(", ")}
     if not frames or set(functions) - set(frames) or set(frames) - set(calls):
         raise Failure(f"stack: {file}: its functions and those whose stack is told are not the same: {sorted(set(functions) ^ set(frames))}")
-    outside = symbols_of(readers, file, "U")
+    outside = symbols_of(file, "U")
     unknown = {aim for function in functions.values() for aim in function.calls} - set(frames) - outside
     if unknown:
         raise Failure(f"stack: {file}: calls of what is neither in it nor outside: {sorted(unknown)}")

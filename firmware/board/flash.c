@@ -2,8 +2,6 @@
  * flash does. On a real chip they are its flash controller's, and the linker script keeps the two pages free. */
 #include "flash.h"
 
-#include <string.h>
-
 #define PAGES ((volatile uint32_t *)0x21000000)
 enum { PAGE_WORDS = FLASH_PAGE_LENGTH / FLASH_WORD };
 

@@ -96,16 +96,6 @@ int fputs(const char *text, FILE *file) {
     return 0;
 }
 
-/* A compiler makes these of a printf. */
-int putchar(int c) {
-    return fputc(c, stdout);
-}
-
-int puts(const char *text) {
-    (void)fputs(text, stdout);
-    return fputc('\n', stdout);
-}
-
 size_t fwrite(const void *from, size_t size, size_t number, FILE *file) {
     const char *at = from;
     for (size_t i = 0; i < size * number; i++)
@@ -213,15 +203,6 @@ static int format(struct text *text, const char *form, va_list words) {
 
 int fprintf(FILE *file, const char *form, ...) {
     struct text text = {.file = file};
-    va_list words;
-    va_start(words, form);
-    int number = format(&text, form, words);
-    va_end(words);
-    return number;
-}
-
-int printf(const char *form, ...) {
-    struct text text = {.file = stdout};
     va_list words;
     va_start(words, form);
     int number = format(&text, form, words);

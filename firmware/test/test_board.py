@@ -233,6 +233,13 @@ def cut_after(bench: Bench, firmware: Firmware, flash: pathlib.Path, change: Cha
         return steps_done(board, firmware, steps)
 
 
+def check_tells(bench: Bench, firmware: Firmware, flash: pathlib.Path, change: Change, when: str):
+    """The board started again tells the change."""
+    with running(firmware, flash) as board:
+        told = Serial(board).ask(change.probe, len(change.after))
+        bench.checks.check(told == change.after, f"{bytes_told(change.request)} {when}: {bytes_told(told)}, not {bytes_told(change.after)}")
+
+
 def cut_between_steps(bench: Bench, firmware: Firmware, flash: pathlib.Path, change: Change) -> int:
     """The change cut before its first step of the flash, between any two, and after the last, each cut on a flash that the one before left. Returns how many steps
     there are. With the last but one, the checksum, the change holds; the last one is the page's mark."""
@@ -242,9 +249,11 @@ def cut_between_steps(bench: Bench, firmware: Firmware, flash: pathlib.Path, cha
         bench.checks.check(not cut_after(bench, firmware, flash, change, steps), f"{bytes_told(change.request)}: a reply after {steps} steps, and nothing is kept")
         steps += 1
     held = newer(flash_of(flash))
+    check_tells(bench, firmware, flash, change, f"cut after {steps - 1} steps")
     blank_flash(flash, before)
     bench.checks.check(cut_after(bench, firmware, flash, change, steps), f"{bytes_told(change.request)}: no reply after {steps} steps")
     bench.checks.check(newer(flash_of(flash)) == held, f"{bytes_told(change.request)}: the last step changes what holds")
+    check_tells(bench, firmware, flash, change, "cut before its reply")
     blank_flash(flash, before)
     return steps
 
@@ -267,9 +276,7 @@ def acknowledged(bench: Bench, firmware: Firmware, flash: pathlib.Path, change: 
     with running(firmware, flash) as board:
         reply = Serial(board).ask(change.request, len(change.reply))
         bench.checks.check(reply == change.reply, f"{bytes_told(change.request)}: {bytes_told(reply)}")
-    with running(firmware, flash) as board:
-        told = Serial(board).ask(change.probe, len(change.after))
-        bench.checks.check(told == change.after, f"{bytes_told(change.request)} acknowledged and cut: {bytes_told(told)}, not {bytes_told(change.after)}")
+    check_tells(bench, firmware, flash, change, "acknowledged and cut")
 
 
 def check_kills(bench: Bench, kills: int, seed: int) -> str:

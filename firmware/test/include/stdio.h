@@ -8,14 +8,12 @@ typedef struct file FILE;
 extern FILE *const stdin, *const stdout, *const stderr;
 enum { _IOFBF };
 
-int printf(const char *form, ...);
+#define printf(...) fprintf(stdout, __VA_ARGS__)
 int fprintf(FILE *file, const char *form, ...);
 int snprintf(char *to, size_t room, const char *form, ...);
 int sprintf(char *to, const char *form, ...);
 int sscanf(const char *from, const char *form, ...);
 int fputs(const char *text, FILE *file);
-int putchar(int c);
-int puts(const char *text);
 int fputc(int c, FILE *file);
 int setvbuf(FILE *file, char *buffer, int mode, size_t size);
 int fflush(FILE *file);
