@@ -1,6 +1,8 @@
 // The answer program: reads a tape on standard input and prints the replies (01, "The answer program"). The bytes at hand lie in a window of
 // 65,536 bytes and the lines are gathered in an output of as many, so a tape may have any length. What is printed of a window is proved in the
 // crate `passes`; what is read and written is tested. Where input or output fails, `streams` has told it, and the program stops.
+#![tactic(auto)]
+
 mod streams;
 
 ghost use Rattle.std.specs.Prelude.{◌≡◌, [], ◌+◌, ◌-◌, ◌≤◌, ◌<◌, length};

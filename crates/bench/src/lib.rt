@@ -1,4 +1,6 @@
 // The bench: it writes requests, tells how long a reply will be, and judges it (01, "The bench").
+#![tactic(auto)]
+
 mod length;
 mod reply;
 mod request;

@@ -1,4 +1,6 @@
 // The board: characters and times in, reply bytes out (01, "What belongs to the board and to the bench").
+#![tactic(auto)]
+
 mod calls;
 mod closing;
 mod faults;

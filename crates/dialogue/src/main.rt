@@ -1,4 +1,6 @@
 // Dialogues of the bench with the board, told line by line: the example of document 002, the pallet night, and others on the bus.
+#![tactic(auto)]
+
 ghost use Rattle.std.specs.Prelude.{◌≤◌};
 ghost use Rattle.meaning.specs.State.{last_address};
 

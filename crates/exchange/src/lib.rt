@@ -1,4 +1,6 @@
 // The exchange: one request of the bench sent to the board, and its reply judged. It stands above both and sees neither one's insides.
+#![tactic(auto)]
+
 mod asking;
 mod hearing;
 mod sending;

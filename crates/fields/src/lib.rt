@@ -1,4 +1,6 @@
 // The lent memory: 16T data bytes, then T status bytes, and the commands 4Ah to 4Eh that work on it (01, "Memory").
+#![tactic(auto)]
+
 mod access;
 mod cells;
 mod change;

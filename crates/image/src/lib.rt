@@ -1,4 +1,6 @@
 // The board as the 212 bytes that a host lends: a head, which tells the plate, and a core, which holds the state (01, "written in C and calls on numbers and byte slices").
+#![tactic(auto)]
+
 mod head;
 mod layout;
 mod read;

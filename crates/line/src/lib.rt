@@ -1,4 +1,6 @@
 // The line: the plate, stamps and gaps, the open frame's numbers, and the judge of a closed frame (01, "Characters become frames").
+#![tactic(auto)]
+
 mod characters;
 mod judge;
 mod plate;

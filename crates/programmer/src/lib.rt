@@ -1,4 +1,6 @@
 // The handheld programmer (02, Req 04): a label tape is checked, then requests are due one after another until the board holds the tape's fields.
+#![tactic(auto)]
+
 mod count;
 mod possible;
 mod request;

@@ -1,4 +1,6 @@
 // The fault queue, the board's state, and the commands that work on it alone or tell the label bytes (01, "Fresh state", "Faults", "The commands").
+#![tactic(auto)]
+
 mod effects;
 mod faults;
 mod labels;

@@ -1,4 +1,6 @@
 // The answer program's tape: the kinds of its records, and the lines that are printed (01, "The answer program").
+#![tactic(auto)]
+
 mod kinds;
 mod text;
 

@@ -1,4 +1,6 @@
 // What board and bench share of the wire: the frame of 000, 2.3.3, its bytes and numbers, the error codes, the status byte, the table of the commands, and what a command comes to.
+#![tactic(auto)]
+
 mod address;
 mod answer;
 mod bytes;
