@@ -215,8 +215,8 @@ pub fn judge(request: &[u8], reply: &[u8]) -> Verdict
 
 // 01, "the data part is handed back as a piece of the reply itself, and on refusal as the empty piece at its front".
 pub fn data_of<'a>(request: &[u8], reply: &'a [u8]) -> &'a [u8]
-    ensures result_value { result.now ≡ part reply.now (handed request.now reply.now).from (handed request.now reply.now).count }
-    ensures ref_ptr_value { result.ref_ptr ≡ (reply.entry.ref_ptr.0, (handed request.now reply.now).from + reply.entry.ref_ptr.1) }
+    ensures value { result.now ≡ part reply.now (handed request.now reply.now).from (handed request.now reply.now).count }
+    ensures place { result.ref_ptr ≡ (reply.entry.ref_ptr.0, (handed request.now reply.now).from + reply.entry.ref_ptr.1) }
 {
     let verdict = judge(request, reply);
     let piece = verdict.piece(reply.len());

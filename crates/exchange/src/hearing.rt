@@ -6,8 +6,8 @@ use crate::asking::Ended;
 
 // A piece of the reply itself, by the bench; where nothing was sent, the empty piece. The request's buffer and the room are those that the exchange left.
 pub fn data_heard<'a>(ended: Ended, request: &[u8], room: &'a [u8]) -> &'a [u8]
-    ensures result_value { result.now ≡ data_heard ended request.now room.now }
-    ensures ref_ptr_value { result.ref_ptr ≡ (room.entry.ref_ptr.0, place_heard ended request.now room.now + room.entry.ref_ptr.1) }
+    ensures value { result.now ≡ data_heard ended request.now room.now }
+    ensures place { result.ref_ptr ≡ (room.entry.ref_ptr.0, place_heard ended request.now room.now + room.entry.ref_ptr.1) }
 {
     let Ended::Heard {
         request: asked,

@@ -16,8 +16,8 @@ pub fn byte_at(s: &[u8], i: usize) -> u8
 
 // The first n bytes, or all where there are fewer.
 pub fn front(s: &[u8], n: usize) -> &[u8]
-    ensures result_value { result.now ≡ take n s.now }
-    ensures ref_ptr_value { result.ref_ptr ≡ s.entry.ref_ptr }
+    ensures value { result.now ≡ take n s.now }
+    ensures place { result.ref_ptr ≡ s.entry.ref_ptr }
 {
     if n < s.len() {
         return &s[..n];
@@ -26,10 +26,11 @@ pub fn front(s: &[u8], n: usize) -> &[u8]
 }
 
 // 01, "A frame is address, command, data, checksum".
+#[tactic(auto, unfolding(meaning::specs::Frames::data_of))]
 pub fn data_part(frame: &[u8]) -> &[u8]
     requires { 3 ≤ length frame.now }
-    ensures result_value { result.now ≡ data_of frame.now }
-    ensures ref_ptr_value { result.ref_ptr ≡ (frame.entry.ref_ptr.0, 2 + frame.entry.ref_ptr.1) }
+    ensures value { result.now ≡ data_of frame.now }
+    ensures place { result.ref_ptr ≡ (frame.entry.ref_ptr.0, 2 + frame.entry.ref_ptr.1) }
 {
     let end = frame.len() - 1;
     &frame[2..end]

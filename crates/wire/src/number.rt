@@ -3,6 +3,7 @@ ghost use Rattle.std.specs.Prelude.{◌≡◌, ◌∷◌, [], ◌+◌, ◌≤◌
 ghost use Rattle.meaning.specs.Bytes.{part, little};
 ghost use Rattle.wire.specs.Numbers.{low4};
 
+#[tactic(auto, unfolding(meaning::specs::Bytes::little))]
 fn low_first(a: u8, b: u8, c: u8, d: u8) -> u32
     ensures { result ≡ little (a ∷ b ∷ c ∷ d ∷ []) }
 {

@@ -3,6 +3,7 @@ ghost use Rattle.std.specs.Prelude.{◌≡◌, ◌<◌};
 ghost use Rattle.meaning.specs.Fields.{blocks, code_no, writable, exists, attributes};
 
 // Bits 0 to 2: blocks less one.
+#[tactic(auto, unfolding(meaning::specs::Fields::blocks))]
 pub fn blocks_in(status: u8) -> u8
     ensures { result ≡ blocks status }
 {
@@ -10,6 +11,7 @@ pub fn blocks_in(status: u8) -> u8
 }
 
 // Bits 4 and 5.
+#[tactic(auto, unfolding(meaning::specs::Fields::code_no))]
 pub fn code_number(status: u8) -> u8
     ensures { (result ≡ code_no status) × (result < 4) }
 {
@@ -17,6 +19,7 @@ pub fn code_number(status: u8) -> u8
 }
 
 // Bit 6: write-enabled.
+#[tactic(auto, unfolding(meaning::specs::Fields::writable))]
 pub fn is_writable(status: u8) -> bool
     ensures { result ≡ writable status }
 {
@@ -24,6 +27,7 @@ pub fn is_writable(status: u8) -> bool
 }
 
 // Bit 7: exists.
+#[tactic(auto, unfolding(meaning::specs::Fields::exists))]
 pub fn has_field(status: u8) -> bool
     ensures { result ≡ exists status }
 {
@@ -31,6 +35,7 @@ pub fn has_field(status: u8) -> bool
 }
 
 // Bits 0 to 6: all that a status tells of its field beside that it exists (000, "all status bits (except bit 7)").
+#[tactic(auto, unfolding(meaning::specs::Fields::attributes))]
 pub fn attributes_in(status: u8) -> u8
     ensures { result ≡ attributes status }
 {

@@ -35,6 +35,7 @@ fn known_row(request: Length, reply: Length, repeats: usize) -> Row
 }
 
 // 53h has no reply (000, "Encoder Reset"). 52h, 55h and 56h by 000, tables 28, 30 and 31 (02, Req 01).
+#[tactic(auto, unfolding(meaning::specs::Commands::command_of, meaning::specs::Commands::row))]
 pub fn row_of(command: u8) -> Row
     ensures { row_of result ≡ row (command_of command) }
 {
@@ -84,6 +85,7 @@ fn counted_fits(base: usize, count: u8, n: usize) -> bool
 }
 
 // `request` is the request's data, whose third byte is the count; `n` the length that is looked at.
+#[tactic(auto, unfolding(meaning::specs::Commands::length_fits))]
 pub fn length_fits(wanted: Length, request: &[u8], n: usize) -> bool
     ensures { (x : List ℕ) → length x ≡ n → result ≡ length_fits (length_of wanted) request.now x }
 {
