@@ -54,6 +54,7 @@ fn is_over(session: Session) -> bool
 // Eats what the window has, and writes the output whenever it is full. Each pass that is stopped for want of space has read a record, so the
 // window's length bounds the turns. Where the output cannot be written, no more is eaten.
 fn feed(
+    rt: HostRuntime,
     first: Session,
     window: &[u8],
     kept: &mut [u8],
@@ -83,7 +84,7 @@ fn feed(
         let Stop::Full = stop else {
             return halt(session, at, used, Output::Written);
         };
-        let output = flush(out, used);
+        let output = flush(rt, out, used);
         let Output::Written = output else {
             return halt(session, at, used, output);
         };
@@ -106,22 +107,29 @@ fn shift(window: &mut [u8], from: usize, to: usize) -> usize
 }
 
 // The end of the tape: what is left is a record cut short, and the output is written.
-fn end(session: Session, rest: &[u8], out: &mut [u8], used: usize)
+fn end(rt: HostRuntime, session: Session, rest: &[u8], out: &mut [u8], used: usize)
     requires { (used ≤ length out.old) × (longest_bad_line ≤ length out.old) }
 {
     if out.len() - used < LONGEST_BAD_LINE {
-        let Output::Written = flush(out, used) else {
+        let Output::Written = flush(rt, out, used) else {
             return;
         };
         let last = passes::finish(session, rest, out, 0);
-        flush(out, last);
+        flush(rt, out, last);
         return;
     }
     let last = passes::finish(session, rest, out, used);
-    flush(out, last);
+    flush(rt, out, last);
 }
 
-fn run(window: &mut [u8], kept: &mut [u8], memory: &mut [u8], reply: &mut [u8], out: &mut [u8])
+fn run(
+    rt: HostRuntime,
+    window: &mut [u8],
+    kept: &mut [u8],
+    memory: &mut [u8],
+    reply: &mut [u8],
+    out: &mut [u8],
+)
     requires { Buffers window.old kept.old memory.old reply.old out.old }
 {
     let mut session = Session::start();
@@ -130,17 +138,26 @@ fn run(window: &mut [u8], kept: &mut [u8], memory: &mut [u8], reply: &mut [u8], 
     let mut turns = u64::MAX;
     while 0 < turns {
         turns -= 1;
-        let input = refill(window, have);
+        let input = refill(rt, window, have);
         // What was answered so far is written. The tape has not ended, so that the rest is no record cut short.
         if let Input::Failed = input {
-            flush(out, used);
+            flush(rt, out, used);
             return;
         }
         let Input::More { total } = input else {
-            end(session, &window[..have], out, used);
+            end(rt, session, &window[..have], out, used);
             return;
         };
-        let fed = feed(session, &window[..total], kept, memory, reply, out, used);
+        let fed = feed(
+            rt,
+            session,
+            &window[..total],
+            kept,
+            memory,
+            reply,
+            out,
+            used,
+        );
         session = fed.session;
         used = fed.used;
         let at = fed.at;
@@ -150,18 +167,25 @@ fn run(window: &mut [u8], kept: &mut [u8], memory: &mut [u8], reply: &mut [u8], 
         }
         let phase = session.phase;
         if let Phase::Ended = phase {
-            flush(out, used);
+            flush(rt, out, used);
             return;
         }
         have = shift(window, at, total);
     }
 }
 
-fn main() {
-    let mut window = io::large_buffer();
-    let mut out = io::large_buffer();
+fn main(rt: HostRuntime) {
+    let mut window = [0u8; 65536];
+    let mut out = [0u8; 65536];
     let mut kept = [0u8; LONGEST_REQUEST];
     let mut memory = [0u8; 1904];
     let mut reply = [0u8; LONGEST_REPLY];
-    run(&mut window, &mut kept, &mut memory, &mut reply, &mut out);
+    run(
+        rt,
+        &mut window,
+        &mut kept,
+        &mut memory,
+        &mut reply,
+        &mut out,
+    );
 }

@@ -1,8 +1,9 @@
-// Standard input and standard output. What cannot be read or written is told on standard error at once, while errno has the reason.
+// Standard input and standard output. What cannot be read or written is told on standard error at once.
 ghost use Rattle.std.specs.Prelude.{◌≤◌, length};
 ghost use Rattle.answer.specs.Streams.{Refills, total_after, taken_by};
 
-use libc::{EINTR, STDIN_FILENO, STDOUT_FILENO};
+use std::io;
+use std::io::{Cursor, ErrorKind, Read, Write};
 
 // What a read came to: so many bytes in the window, the end of the tape, or a failure.
 #[derive(Drop)]
@@ -27,54 +28,73 @@ enum Taken {
 }
 
 // A signal came before a byte was moved. That is no failure, and no end: the call is made again.
-fn is_interrupted(answer: isize) -> bool {
-    if 0 <= answer {
-        return false;
+fn is_interrupted(why: &io::Error) -> bool {
+    why.kind() == ErrorKind::Interrupted
+}
+
+// The reason as text, without its number, which std puts behind it in brackets.
+fn reason(why: &io::Error, text: &mut [u8; 128]) -> usize
+    ensures { result ≤ 128 }
+{
+    if write!(Cursor::new(text.as_mut_slice()), "{why}").is_err() {
+        return 0;
     }
-    os::errno() == EINTR
+    match text.iter().position(|b| *b == b'(') {
+        Some(bracket) => bracket.saturating_sub(1),
+        None => 0,
+    }
+}
+
+// A line on standard error: what failed, and why. Nobody is left to be told of one that cannot be written.
+fn tell(rt: HostRuntime, what: &str, why: &io::Error) {
+    let mut text = [0u8; 128];
+    let count = reason(why, &mut text);
+    let mut errors = rt.stderr();
+    let _what = errors.write_all(what.as_bytes());
+    let _why = errors.write_all(&text[..count]);
+    let _end = errors.write_all(b"\n");
 }
 
 // One read behind the bytes that the window has. It need not fill the window: a failure is then seen by the read that failed, and no bytes that
 // came before it wait for it.
-pub(crate) fn refill(window: &mut [u8], have: usize) -> Input
+pub(crate) fn refill(rt: HostRuntime, window: &mut [u8], have: usize) -> Input
     requires { have ≤ length window.old }
     ensures { Refills window.old have (total_after have result) window.new }
 {
-    let got = libc::read(STDIN_FILENO, &mut window[have..]);
-    if 0 < got {
-        let count = io::count(got, window);
-        return Input::More {
+    match rt.stdin().read(&mut window[have..]) {
+        Ok(0) => Input::End,
+        Ok(count) => Input::More {
             total: have + count,
-        };
+        },
+        Err(why) => {
+            if is_interrupted(&why) {
+                return Input::More { total: have };
+            }
+            tell(rt, "answer: standard input cannot be read: ", &why);
+            Input::Failed
+        }
     }
-    if got == 0 {
-        return Input::End;
-    }
-    if is_interrupted(got) {
-        return Input::More { total: have };
-    }
-    os::fail(b"answer: standard input cannot be read");
-    Input::Failed
 }
 
-// One write. As in the kit's `io`, one that takes nothing has failed.
-fn put(rest: &[u8]) -> Taken
+// One write. One that takes nothing has failed.
+fn put(rt: HostRuntime, rest: &[u8]) -> Taken
     ensures { taken_by result ≤ length rest.now }
 {
-    let took = libc::write(STDOUT_FILENO, rest);
-    if 0 < took {
-        let count = io::count(took, rest);
-        return Taken::Bytes { count };
+    match rt.stdout().write(rest) {
+        Ok(0) => Taken::Failed,
+        Ok(count) => Taken::Bytes { count },
+        Err(why) => {
+            if is_interrupted(&why) {
+                return Taken::Bytes { count: 0 };
+            }
+            tell(rt, "answer: standard output cannot be written: ", &why);
+            Taken::Failed
+        }
     }
-    if is_interrupted(took) {
-        return Taken::Bytes { count: 0 };
-    }
-    os::fail(b"answer: standard output cannot be written");
-    Taken::Failed
 }
 
 // Writes the front of the output. The turns are counted only because a loop has to end.
-pub(crate) fn flush(out: &[u8], used: usize) -> Output
+pub(crate) fn flush(rt: HostRuntime, out: &[u8], used: usize) -> Output
     requires { used ≤ length out.now }
 {
     let mut at = 0;
@@ -84,7 +104,7 @@ pub(crate) fn flush(out: &[u8], used: usize) -> Output
         if at == used {
             return Output::Written;
         }
-        let Taken::Bytes { count } = put(&out[at..used]) else {
+        let Taken::Bytes { count } = put(rt, &out[at..used]) else {
             return Output::Failed;
         };
         at += count;

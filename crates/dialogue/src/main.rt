@@ -8,6 +8,7 @@ mod words;
 
 use board::Board;
 use line::Plate;
+use std::io;
 use wire::codes::{LABEL_LENGTH, LONGEST_REPLY, LONGEST_REQUEST};
 use words::say;
 
@@ -26,7 +27,14 @@ fn plate() -> Plate
 
 // One request and what came of it. The tick count wraps around within it; a character has 11 bits, 44 ticks. Between requests no frame is
 // open, so that the kept bytes need not last.
-fn ask(board: Board, address: u32, command: u8, body: &[u8], memory: &mut [u8; 136]) -> Board {
+fn ask(
+    rt: HostRuntime,
+    board: Board,
+    address: u32,
+    command: u8,
+    body: &[u8],
+    memory: &mut [u8; 136],
+) -> io::Result<Board> {
     let label = [0u8; LABEL_LENGTH];
     let mut request = [0u8; LONGEST_REQUEST];
     let mut kept = [0u8; LONGEST_REQUEST];
@@ -46,72 +54,76 @@ fn ask(board: Board, address: u32, command: u8, body: &[u8], memory: &mut [u8; 1
         &mut room,
     );
     let ended = passed.ended;
-    words::say_ended(ended, &request, &room);
-    passed.board
+    words::say_ended(rt, ended, &request, &room)?;
+    Ok(passed.board)
 }
 
 // 002, "Example: Data Field Definition": two fields are made, code 2 becomes 66h, two bytes are stored. Its checksum 69 in the third request is
 // a misprint for B9.
-fn example() {
-    say(b"Document 002, data field definition\n");
+fn example(rt: HostRuntime) -> io::Result<()> {
+    say(rt, b"Document 002, data field definition\n")?;
     let mut memory = [0u8; 136];
     let mut board = board::fresh(plate());
-    board = ask(board, 0, 0x4E, b"", &mut memory);
-    board = ask(board, 0, 0x4D, b"\x00\xC9\x55", &mut memory);
-    board = ask(board, 0, 0x4D, b"\x01\xE0\x55", &mut memory);
-    board = ask(board, 0, 0x4F, b"\x02\x55\x66", &mut memory);
-    ask(board, 0, 0x4B, b"\x01\x05\x02\x66\x08\x15", &mut memory);
+    board = ask(rt, board, 0, 0x4E, b"", &mut memory)?;
+    board = ask(rt, board, 0, 0x4D, b"\x00\xC9\x55", &mut memory)?;
+    board = ask(rt, board, 0, 0x4D, b"\x01\xE0\x55", &mut memory)?;
+    board = ask(rt, board, 0, 0x4F, b"\x02\x55\x66", &mut memory)?;
+    ask(rt, board, 0, 0x4B, b"\x01\x05\x02\x66\x08\x15", &mut memory)?;
+    Ok(())
 }
 
 // The label field takes all eight blocks and gives six back, which the next field gets: seven are one too many.
-fn label(memory: &mut [u8; 136]) -> Board {
+fn label(rt: HostRuntime, memory: &mut [u8; 136]) -> io::Result<Board> {
     let mut board = board::fresh(plate());
-    board = ask(board, 0, 0x4E, b"", memory);
-    board = ask(board, 0, 0x4D, b"\x00\xC7\x55", memory);
-    board = ask(board, 0, 0x4E, b"", memory);
-    board = ask(board, 0, 0x4D, b"\x00\xC1\x55", memory);
-    board = ask(board, 0, 0x4E, b"", memory);
-    board = ask(board, 0, 0x4D, b"\x01\xC6\x55", memory);
-    ask(board, 0, 0x4D, b"\x01\xC5\x55", memory)
+    board = ask(rt, board, 0, 0x4E, b"", memory)?;
+    board = ask(rt, board, 0, 0x4D, b"\x00\xC7\x55", memory)?;
+    board = ask(rt, board, 0, 0x4E, b"", memory)?;
+    board = ask(rt, board, 0, 0x4D, b"\x00\xC1\x55", memory)?;
+    board = ask(rt, board, 0, 0x4E, b"", memory)?;
+    board = ask(rt, board, 0, 0x4D, b"\x01\xC6\x55", memory)?;
+    ask(rt, board, 0, 0x4D, b"\x01\xC5\x55", memory)
 }
 
 // The commutation data in those six: blank, stored, read back. Pole pairs 4, offset angle 300, gain 1500, lag 180, two bytes each.
-fn pallet_night() {
-    say(b"The pallet night\n");
+fn pallet_night(rt: HostRuntime) -> io::Result<()> {
+    say(rt, b"The pallet night\n")?;
     let mut memory = [0u8; 136];
-    let mut board = label(&mut memory);
-    board = ask(board, 0, 0x4E, b"", &mut memory);
-    board = ask(board, 0, 0x4A, b"\x01\x00\x08\x55", &mut memory);
+    let mut board = label(rt, &mut memory)?;
+    board = ask(rt, board, 0, 0x4E, b"", &mut memory)?;
+    board = ask(rt, board, 0, 0x4A, b"\x01\x00\x08\x55", &mut memory)?;
     board = ask(
+        rt,
         board,
         0,
         0x4B,
         b"\x01\x00\x08\x55\x00\x04\x01\x2C\x05\xDC\x00\xB4",
         &mut memory,
-    );
-    board = ask(board, 0, 0x4A, b"\x01\x00\x08\x55", &mut memory);
-    ask(board, 0, 0x4E, b"", &mut memory);
+    )?;
+    board = ask(rt, board, 0, 0x4A, b"\x01\x00\x08\x55", &mut memory)?;
+    ask(rt, board, 0, 0x4E, b"", &mut memory)?;
+    Ok(())
 }
 
 // Broadcast, another board's address and one that is none. Then, while a code waits, every reply warns; 50h fetches it; 53h has no reply.
-fn others() {
-    say(b"Others on the bus\n");
+fn others(rt: HostRuntime) -> io::Result<()> {
+    say(rt, b"Others on the bus\n")?;
     let mut memory = [0u8; 136];
     let mut board = board::fresh(plate());
-    board = ask(board, 255, 0x4E, b"", &mut memory);
-    board = ask(board, 1, 0x4E, b"", &mut memory);
-    board = ask(board, 32, 0x4E, b"", &mut memory);
+    board = ask(rt, board, 255, 0x4E, b"", &mut memory)?;
+    board = ask(rt, board, 1, 0x4E, b"", &mut memory)?;
+    board = ask(rt, board, 32, 0x4E, b"", &mut memory)?;
     let label = [0u8; LABEL_LENGTH];
     let noted = board::fault(plate(), &label, board, 0x1E);
     board = noted.board;
-    board = ask(board, 0, 0x46, b"", &mut memory);
-    board = ask(board, 0, 0x4C, b"\x05", &mut memory);
-    board = ask(board, 0, 0x50, b"", &mut memory);
-    ask(board, 0, 0x53, b"", &mut memory);
+    board = ask(rt, board, 0, 0x46, b"", &mut memory)?;
+    board = ask(rt, board, 0, 0x4C, b"\x05", &mut memory)?;
+    board = ask(rt, board, 0, 0x50, b"", &mut memory)?;
+    ask(rt, board, 0, 0x53, b"", &mut memory)?;
+    Ok(())
 }
 
-fn main() {
-    example();
-    pallet_night();
-    others();
+fn main(rt: HostRuntime) -> io::Result<()> {
+    example(rt)?;
+    pallet_night(rt)?;
+    others(rt)
 }

@@ -1,9 +1,11 @@
 // What an exchange came to, in words on standard output.
 use bench::Verdict;
 use exchange::Ended;
+use std::io;
+use std::io::Write;
 
-pub(crate) fn say(text: &[u8]) {
-    io::write_all(1, text);
+pub(crate) fn say(rt: HostRuntime, text: &[u8]) -> io::Result<()> {
+    rt.stdout().write_all(text)
 }
 
 // The last hexadecimal digit.
@@ -15,92 +17,97 @@ fn digit(value: u8) -> u8 {
     0x37 + low
 }
 
-fn say_byte(value: u8) {
+fn say_byte(rt: HostRuntime, value: u8) -> io::Result<()> {
     let text = [0x20, digit(value / 16), digit(value)];
-    say(&text);
+    say(rt, &text)
 }
 
 // The first bytes, so many.
-fn say_bytes(bytes: &[u8], count: usize) {
+fn say_bytes(rt: HostRuntime, bytes: &[u8], count: usize) -> io::Result<()> {
     let mut left = count;
     while 0 < left {
         let at = count - left;
         if at < bytes.len() {
-            say_byte(bytes[at]);
+            say_byte(rt, bytes[at])?;
         }
         left -= 1;
     }
+    Ok(())
 }
 
-fn say_check(why: bench::Refusal) {
+fn say_check(rt: HostRuntime, why: bench::Refusal) -> io::Result<()> {
     match why {
-        bench::Refusal::B0 => say(b"refused B0"),
-        bench::Refusal::B1 => say(b"refused B1"),
-        bench::Refusal::B2 => say(b"refused B2"),
-        bench::Refusal::B3 => say(b"refused B3"),
-        bench::Refusal::B4 => say(b"refused B4"),
-        bench::Refusal::B5 => say(b"refused B5"),
-        bench::Refusal::B6 => say(b"refused B6"),
+        bench::Refusal::B0 => say(rt, b"refused B0"),
+        bench::Refusal::B1 => say(rt, b"refused B1"),
+        bench::Refusal::B2 => say(rt, b"refused B2"),
+        bench::Refusal::B3 => say(rt, b"refused B3"),
+        bench::Refusal::B4 => say(rt, b"refused B4"),
+        bench::Refusal::B5 => say(rt, b"refused B5"),
+        bench::Refusal::B6 => say(rt, b"refused B6"),
     }
 }
 
-fn say_error(code: u8) {
-    say(b"error code");
-    say_byte(code);
+fn say_error(rt: HostRuntime, code: u8) -> io::Result<()> {
+    say(rt, b"error code")?;
+    say_byte(rt, code)
 }
 
-fn say_verdict(verdict: Verdict) {
+fn say_verdict(rt: HostRuntime, verdict: Verdict) -> io::Result<()> {
     match verdict {
-        Verdict::Done => say(b"done"),
-        Verdict::DoneWithWarning => say(b"done with warning"),
-        Verdict::Error(code) => say_error(code),
+        Verdict::Done => say(rt, b"done"),
+        Verdict::DoneWithWarning => say(rt, b"done with warning"),
+        Verdict::Error(code) => say_error(rt, code),
         Verdict::ErrorWithWarning(code) => {
-            say_error(code);
-            say(b" with warning");
+            say_error(rt, code)?;
+            say(rt, b" with warning")
         }
-        Verdict::Refused(why) => say_check(why),
+        Verdict::Refused(why) => say_check(rt, why),
     }
 }
 
-fn say_refusal(why: exchange::Refusal) {
+fn say_refusal(rt: HostRuntime, why: exchange::Refusal) -> io::Result<()> {
     match why {
-        exchange::Refusal::R1 => say(b"R1"),
-        exchange::Refusal::R2 => say(b"R2"),
-        exchange::Refusal::R3 => say(b"R3"),
-        exchange::Refusal::R4 => say(b"R4"),
-        exchange::Refusal::R5 => say(b"R5"),
-        exchange::Refusal::FrameOpen => say(b"a frame is open"),
-        exchange::Refusal::TooSlow => say(b"too slow"),
+        exchange::Refusal::R1 => say(rt, b"R1"),
+        exchange::Refusal::R2 => say(rt, b"R2"),
+        exchange::Refusal::R3 => say(rt, b"R3"),
+        exchange::Refusal::R4 => say(rt, b"R4"),
+        exchange::Refusal::R5 => say(rt, b"R5"),
+        exchange::Refusal::FrameOpen => say(rt, b"a frame is open"),
+        exchange::Refusal::TooSlow => say(rt, b"too slow"),
     }
 }
 
-fn say_reply(room: &[u8], reply: usize) {
+fn say_reply(rt: HostRuntime, room: &[u8], reply: usize) -> io::Result<()> {
     if reply == 0 {
-        say(b", silence");
-        return;
+        return say(rt, b", silence");
     }
-    say(b", reply");
-    say_bytes(room, reply);
+    say(rt, b", reply")?;
+    say_bytes(rt, room, reply)
 }
 
 // The request and its reply as bytes, and the verdict; or why nothing was sent.
-pub(crate) fn say_ended(ended: Ended, request: &[u8], room: &[u8]) {
+pub(crate) fn say_ended(
+    rt: HostRuntime,
+    ended: Ended,
+    request: &[u8],
+    room: &[u8],
+) -> io::Result<()> {
     match ended {
         Ended::Heard {
             request: sent,
             reply,
             verdict,
         } => {
-            say(b"request");
-            say_bytes(request, sent);
-            say_reply(room, reply);
-            say(b": ");
-            say_verdict(verdict);
+            say(rt, b"request")?;
+            say_bytes(rt, request, sent)?;
+            say_reply(rt, room, reply)?;
+            say(rt, b": ")?;
+            say_verdict(rt, verdict)?;
         }
         Ended::Refused(why) => {
-            say(b"not sent: ");
-            say_refusal(why);
+            say(rt, b"not sent: ")?;
+            say_refusal(rt, why)?;
         }
     }
-    say(b"\n");
+    say(rt, b"\n")
 }
