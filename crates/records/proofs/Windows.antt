@@ -44,6 +44,9 @@ module _ (longest at n : ℕ) (s : List ℕ) (left : 4 ≤ length s - at) (count
       let m : 2 + n - 4 ≡ n - 2 = omega arith in
       rw (length-drop at s, le-ltb (length s - at) 4 left, same_length, le-ltb n 2 h, le-ltb longest n k, le-ltb (length s - at) (2 + n) l, part-drop s at 2 2, e, m)
 
+-- what `read` cites
+pub ruleset readings = (few-left, no_kind, too_long, wants_more, all_there)
+
 -- a whole record that was read: its kind, where its body lies, and the place past it
 pub record Whole (at : ℕ) (t : List ℕ) (kind start n next : ℕ) : Type 0 where
   pub kind_is : kind ≡ little (part t 2 2)

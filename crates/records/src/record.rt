@@ -37,6 +37,7 @@ fn wide64(x: u16) -> usize
     x as usize
 }
 
+#[tactic(auto, using(crate::proofs::Bytes::little_two))]
 fn get16(s: &[u8], at: usize) -> u16
     requires { at + 2 ≤ length s.now }
     ensures { result ≡ little (part s.now at 2) }
@@ -46,6 +47,7 @@ fn get16(s: &[u8], at: usize) -> u16
 
 impl Cursor {
     // A length over the longest that the caller's kinds have is bad at once, so that no more than that has to be at hand.
+    #[tactic(auto, using(crate::proofs::Windows::readings))]
     pub fn read(self, s: &[u8], longest: u16) -> Read
         ensures { result ≡ read_at longest self.at (drop self.at s.now) }
     {
