@@ -17,7 +17,7 @@ use tape::LONGEST_BAD_LINE;
 use wire::codes::{LONGEST_REPLY, LONGEST_REQUEST};
 
 // What a window came to: where the tape stands, how far the window was read, how much of the output is used, and whether it could be written.
-#[derive(Drop)]
+#[derive(Clone, Copy)]
 struct Fed {
     session: Session,
     at: usize,

@@ -6,7 +6,7 @@ use std::io;
 use std::io::{Cursor, ErrorKind, Read, Write};
 
 // What a read came to: so many bytes in the window, the end of the tape, or a failure.
-#[derive(Drop)]
+#[derive(Clone, Copy)]
 pub(crate) enum Input {
     More { total: usize },
     End,
@@ -14,14 +14,14 @@ pub(crate) enum Input {
 }
 
 // Whether all of the output could be written.
-#[derive(Drop)]
+#[derive(Clone, Copy)]
 pub(crate) enum Output {
     Written,
     Failed,
 }
 
 // What a write came to: so many bytes taken, or a failure.
-#[derive(Drop)]
+#[derive(Clone, Copy)]
 enum Taken {
     Bytes { count: usize },
     Failed,

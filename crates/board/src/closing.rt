@@ -13,7 +13,7 @@ use wire::Answer;
 use wire::codes::ERROR_REPLY;
 
 // The state after a frame is closed, and how many reply bytes stand at the room's front, 0 being silence.
-#[derive(Drop)]
+#[derive(Clone, Copy)]
 pub struct Closed {
     pub state: State,
     pub sent: u8,

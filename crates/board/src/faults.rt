@@ -7,7 +7,7 @@ use crate::limits::Board;
 use line::OpenFrame;
 
 // The oldest waiting code, or 00h, and the board without it.
-#[derive(Drop)]
+#[derive(Clone, Copy)]
 pub struct Oldest {
     pub code: u8,
     pub board: Board,

@@ -10,7 +10,7 @@ use state::State;
 use wire::codes::{LABEL_LENGTH, LONGEST_REPLY, LONGEST_REQUEST};
 
 // All that the board keeps, but for the lent memory and the lent places of the kept bytes.
-#[derive(Drop)]
+#[derive(Clone, Copy)]
 pub struct Board {
     pub state: State,
     pub frame: OpenFrame,
@@ -18,7 +18,7 @@ pub struct Board {
 
 // 01, "Named refusals": R1 to R3, and nothing is changed; no frame closed; a frame closed, and so many reply bytes at the room's front, 0 being
 // silence.
-#[derive(Drop)]
+#[derive(Clone, Copy)]
 pub enum Outcome {
     R1,
     R2,
@@ -56,13 +56,13 @@ impl Outcome {
 
 // 02, Req 03: what an answer carries of the open frame's pause: that of a character and a poll how much remains, as it stands after the call; a
 // refused one, and that of any other call, nothing.
-#[derive(Drop)]
+#[derive(Clone, Copy)]
 pub enum Carried {
     Nothing,
     Carries(Remaining),
 }
 
-#[derive(Drop)]
+#[derive(Clone, Copy)]
 pub struct Stepped {
     pub board: Board,
     pub outcome: Outcome,

@@ -11,7 +11,7 @@ use line::Plate;
 
 // Why nothing was sent, in the order of the tests: R1 to R3 of the board; a frame is open already; the spacing is not below the pause, so
 // that it would close the frame; R4 and R5 of the bench, last because the request is then written.
-#[derive(Drop)]
+#[derive(Clone, Copy)]
 pub enum Refusal {
     R1,
     R2,
@@ -23,7 +23,7 @@ pub enum Refusal {
 }
 
 // Refused, and nothing is changed; or heard: the lengths of request and reply, which stand at the fronts of their buffers, and the verdict.
-#[derive(Drop)]
+#[derive(Clone, Copy)]
 pub enum Ended {
     Refused(Refusal),
     Heard {
@@ -33,7 +33,7 @@ pub enum Ended {
     },
 }
 
-#[derive(Drop)]
+#[derive(Clone, Copy)]
 pub struct Exchanged {
     pub board: Board,
     pub ended: Ended,

@@ -6,7 +6,7 @@ use board::Board;
 use line::Plate;
 
 // The board after the last character, and that character's stamp.
-#[derive(Drop)]
+#[derive(Clone, Copy)]
 pub(crate) struct Sent {
     pub board: Board,
     pub last: u32,

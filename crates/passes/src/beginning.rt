@@ -9,7 +9,7 @@ use tape::LONGEST_LINE;
 use turns::{Opened, open};
 
 // It stops at once, for want of space or of bytes; the first record is bad; or a board works from a place of the window on.
-#[derive(Drop)]
+#[derive(Clone, Copy)]
 pub(crate) enum Way {
     Stops { why: Stop },
     Bad,
@@ -17,7 +17,7 @@ pub(crate) enum Way {
 }
 
 // .. and the board that works, if one does.
-#[derive(Drop)]
+#[derive(Clone, Copy)]
 pub(crate) struct Begun {
     pub plate: Plate,
     pub board: Board,

@@ -14,7 +14,7 @@ use tape::{Event, LONGEST_LINE};
 use turns::{Heard, closes_none, hear, turn};
 
 // A running board after a pass: how far the window was read, how much of the output is used.
-#[derive(Drop)]
+#[derive(Clone, Copy)]
 pub(crate) struct Played {
     pub board: Board,
     pub at: usize,
@@ -22,7 +22,7 @@ pub(crate) struct Played {
     pub stop: Stop,
 }
 
-#[derive(Drop)]
+#[derive(Clone, Copy)]
 pub struct Eaten {
     pub session: Session,
     pub read: usize,

@@ -5,7 +5,7 @@ use board::Board;
 use line::Plate;
 
 // 01, "plate .., first and once": before the plate; a board at work; ended by a bad record.
-#[derive(Drop)]
+#[derive(Clone, Copy)]
 pub enum Phase {
     Opening,
     Running,
@@ -13,7 +13,7 @@ pub enum Phase {
 }
 
 // Why a pass stopped: no whole record is left, no space for a line is left, or a record was bad.
-#[derive(Drop)]
+#[derive(Clone, Copy)]
 pub enum Stop {
     More,
     Full,
@@ -21,7 +21,7 @@ pub enum Stop {
 }
 
 // Before the plate its numbers and the board carry no meaning. The place is that of the next record.
-#[derive(Drop)]
+#[derive(Clone, Copy)]
 pub struct Session {
     pub phase: Phase,
     pub plate: Plate,

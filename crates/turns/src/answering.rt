@@ -13,7 +13,7 @@ use line::Plate;
 use tape::{Event, NO_LABEL};
 
 // The board after a record, how much of the output is used, and whether the record was bad.
-#[derive(Drop)]
+#[derive(Clone, Copy)]
 pub struct Turned {
     pub board: Board,
     pub used: usize,
@@ -21,7 +21,7 @@ pub struct Turned {
 }
 
 // What the board's call brought, and the tick that its line begins with; or the record was bad and nothing was called.
-#[derive(Drop)]
+#[derive(Clone, Copy)]
 struct Called {
     stepped: Stepped,
     tick: u32,

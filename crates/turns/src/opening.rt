@@ -9,7 +9,7 @@ use line::Plate;
 use tape::Event;
 
 // A plate within its limits, and the place past it; not yet a whole record; anything else.
-#[derive(Drop)]
+#[derive(Clone, Copy)]
 pub enum Opened {
     Plate { plate: Plate, next: usize },
     More,

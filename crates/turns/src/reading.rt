@@ -6,7 +6,7 @@ use records::{Cursor, Read};
 use tape::{Event, LONGEST_RECORD};
 
 // What stands at a place of the window: not yet a whole record; what it says, and the place past it. Where no record begins it is unfit.
-#[derive(Drop)]
+#[derive(Clone, Copy)]
 pub enum Heard {
     Nothing,
     Said { event: Event, next: usize },
