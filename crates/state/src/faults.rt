@@ -7,7 +7,7 @@ ghost use Rattle.meaning.specs.Demands.{waits};
 ghost use Rattle.state.specs.Queue.{queue_of, waiting, no_faults, holding, Queues, Reads};
 ghost use Rattle.state.specs.Effects.{place_for, noting_of, noted_as};
 
-#[derive(Drop)]
+#[derive(Clone, Copy)]
 pub struct Faults {
     pub first: u8,
     pub second: u8,

@@ -13,7 +13,7 @@ use wire::codes::{COUNTER_OVERFLOW, LAST_ADDRESS};
 // 01, "counter at most FFFFFFh".
 pub const LAST_COUNT: u32 = 0xFFFFFF;
 
-#[derive(Drop)]
+#[derive(Clone, Copy)]
 pub struct State {
     pub codes: [u8; 4],
     pub counter: u32,
@@ -45,6 +45,7 @@ impl State {
         }
     }
 
+    #[tactic(auto, unfolding(meaning::specs::State::with_codes))]
     fn with_code(self, number: usize, code: u8) -> State
         requires { number < 4 }
         ensures { (l : Line) → state_with result l ≡ with_codes (state_with self l) (set self.codes number code) }
@@ -54,6 +55,7 @@ impl State {
         next
     }
 
+    #[tactic(auto, unfolding(meaning::specs::State::with_counter))]
     fn with_counter(self, counter: u32) -> State
         ensures { (l : Line) → state_with result l ≡ with_counter (state_with self l) counter }
     {
@@ -62,6 +64,7 @@ impl State {
         next
     }
 
+    #[tactic(auto, unfolding(meaning::specs::State::with_address))]
     fn with_address(self, address: u8) -> State
         ensures { (l : Line) → state_with result l ≡ with_address (state_with self l) address }
     {
@@ -70,6 +73,7 @@ impl State {
         next
     }
 
+    #[tactic(auto, unfolding(meaning::specs::State::with_offset))]
     fn with_offset(self, offset: u32) -> State
         ensures { (l : Line) → state_with result l ≡ with_offset (state_with self l) offset }
     {
@@ -78,6 +82,7 @@ impl State {
         next
     }
 
+    #[tactic(auto, unfolding(meaning::specs::State::with_measured))]
     pub fn with_measured(self, measured: u32) -> State
         ensures { (l : Line) → state_with result l ≡ with_measured (state_with self l) measured }
     {
@@ -86,6 +91,7 @@ impl State {
         next
     }
 
+    #[tactic(auto, unfolding(crate::specs::Queue::holding, meaning::specs::State::with_lock, meaning::specs::State::with_queue))]
     fn with_faults(self, faults: Faults) -> State
         ensures { (l : Line) → state_with result l ≡ holding (state_with self l) faults }
     {
