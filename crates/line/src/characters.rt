@@ -10,7 +10,7 @@ use wire::codes::LONGEST_REQUEST;
 
 // Whether a frame is open, the stamp of its last character, how many of its bytes are kept, the XOR of all of them, whether more than
 // 135 came, and whether a character had a parity fault.
-#[derive(Drop)]
+#[derive(Clone, Copy)]
 pub struct OpenFrame {
     pub begun: bool,
     pub last: u32,
@@ -21,7 +21,7 @@ pub struct OpenFrame {
 }
 
 // 02, Req 03: how many ticks of the pause remain, 0 when it is over.
-#[derive(Drop)]
+#[derive(Clone, Copy)]
 pub enum Remaining {
     NoFrameOpen,
     TicksLeft(u64),
@@ -54,6 +54,7 @@ impl OpenFrame {
     }
 
     // The one number that character and poll share; `pause` is the plate's full pause. Ruling of 01: equality closes, so that it is 0 then.
+    #[tactic(auto, unfolding(meaning::specs::Characters::remaining))]
     pub fn remaining(self, pause: u64, tick: u32) -> Remaining
         ensures { (p : Plate) (s : State) (kept : List ℕ) → pause ≡ full_pause p → s.line ≡ line_of self kept → remaining_of result ≡ remaining p s tick }
     {
@@ -71,6 +72,7 @@ impl OpenFrame {
 
 impl OpenFrame {
     // With no frame open a character starts from an empty one, whatever the unused numbers say.
+    #[tactic(auto, unfolding(meaning::specs::State::none))]
     fn current(self) -> OpenFrame
         ensures { Starts self result }
     {
@@ -81,6 +83,7 @@ impl OpenFrame {
     }
 
     // 01, "Up to 135 bytes are kept; of a longer frame the XOR of all its bytes, the fact that it is longer and any parity fault".
+    #[tactic(auto, using(crate::proofs::Kept::has_room, crate::proofs::Kept::has_none))]
     fn push(self, tick: u32, value: u8, parity: bool, kept: &mut [u8]) -> OpenFrame
         requires { Fits self kept.old }
         ensures { Extends (more (line_of self kept.old) tick value parity) kept.old result kept.new }

@@ -29,6 +29,7 @@ impl Judgement {
     }
 }
 
+#[tactic(auto, unfolding(crate::specs::Judge::addressed))]
 fn is_addressed(to: u8, own: u8) -> bool
     ensures { result ≡ addressed to own }
 {
@@ -42,6 +43,7 @@ fn is_addressed(to: u8, own: u8) -> bool
 }
 
 // 01, "judged in this order", 1: fewer than three bytes, or for another board, as most frames on a bus are.
+#[tactic(auto, unfolding(crate::specs::Judge::is_silent))]
 pub fn is_silent(own: u8, bytes: &[u8]) -> bool
     ensures { result ≡ is_silent own bytes.now }
 {

@@ -9,7 +9,7 @@ ghost use Rattle.line.specs.Line.{plate_of};
 use wire::codes::LAST_ADDRESS;
 
 // Total blocks, position bits, address, ticks per bit, pause in bit times: wide enough that a host loses no bits on the way.
-#[derive(Drop)]
+#[derive(Clone, Copy)]
 pub struct Plate {
     pub total: u32,
     pub bits: u32,
@@ -20,6 +20,7 @@ pub struct Plate {
 
 impl Plate {
     // R1 where it does not hold, whatever the 41 label bytes are.
+    #[tactic(auto, unfolding(meaning::specs::State::plate_ok))]
     pub fn is_ok(self) -> bool
         ensures { (l : List ℕ) → length l ≡ label_length → result ≡ plate_ok (plate_of self l) }
     {
@@ -45,6 +46,7 @@ impl Plate {
     }
 
     // 01, "pause × ticks-per-bit": the gap that closes a frame, in ticks.
+    #[tactic(auto, unfolding(meaning::specs::Characters::full_pause))]
     pub fn full_pause(self) -> u64
         ensures { (l : List ℕ) → result ≡ full_pause (plate_of self l) }
     {
@@ -61,6 +63,7 @@ impl Plate {
 }
 
 // A power of two has one bit set.
+#[tactic(auto, using(crate::proofs::Powers::one_bit, crate::proofs::Powers::too_few, crate::proofs::Powers::too_many))]
 fn ticks_ok(ticks: u32) -> bool
     ensures { result ≡ among ticks (1 ∷ 2 ∷ 4 ∷ 8 ∷ 16 ∷ 32 ∷ 64 ∷ []) }
 {
@@ -73,6 +76,7 @@ fn ticks_ok(ticks: u32) -> bool
     ticks & (ticks - 1) == 0
 }
 
+#[tactic(auto, unfolding(meaning::specs::Bytes::among))]
 fn pause_ok(pause: u32) -> bool
     ensures { result ≡ among pause (22 ∷ 55 ∷ []) }
 {

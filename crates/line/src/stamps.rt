@@ -3,6 +3,7 @@ ghost use Rattle.std.specs.Prelude.{◌≡◌, ◌+◌, ◌%◌, ◌^◌};
 ghost use Rattle.meaning.specs.Characters as characters;
 
 // 01, "a gap is taken modulo 2^32": a clock stepped back by one tick reads as a very long gap.
+#[tactic(auto, unfolding(meaning::specs::Characters::gap))]
 pub(crate) fn gap(from: u32, to: u32) -> u32
     ensures { result ≡ characters.gap from to }
 {
