@@ -1,5 +1,5 @@
 -- Laws of the bench's checks: what a request may have, an error reply and another. Assumes nothing.
-use mathlib.Core.Path.{◌≡◌, refl, sym, ap, ◌∙◌}
+use mathlib.Core.Path.{◌≡◌, refl, sym, ap, ap₂, ◌∙◌}
 use mathlib.Core.Bool.{Bool, true, false}
 use mathlib.Core.List.{List, ◌∷◌}
 use Prim.Native.Nat.{ℕ, ◌+◌, ◌-◌, ◌%◌, ◌≤◌, ◌<◌}
@@ -25,9 +25,9 @@ either_cases : (a b : Bool) → either a b ≡ true → b ≡ false → a ≡ tr
 either_cases true b e n = refl
 either_cases false b e n = sym n ∙ e
 
-pub address-small : (n : ℕ) → address_ok n ≡ true → (n ≡ 255 → ⊥) → n ≤ 31
+pub address_small : (n : ℕ) → address_ok n ≡ true → (n ≡ 255 → ⊥) → n ≤ 31
 unfolding address_ok
-address-small n e k = leb-true n 31 (either_cases (leb n 31) (eqb n 255) e (ne_eqb n 255 k))
+address_small n e k = leb-true n 31 (either_cases (leb n 31) (eqb n 255) e (ne_eqb n 255 k))
 
 -- the length of a request's data is right by the code's row just where it is by the meaning's
 pub fits-asked : (r : Row) (c : ℕ) (d : List ℕ) (b : Bool) → row_of r ≡ row (command_of c) → b ≡ length_fits (length_of r.request) d d
@@ -86,21 +86,21 @@ unfolding data_of
 data_length f = simp (length-take, length-drop) (omega arith)
 
 module _ (q r : List ℕ) (e : error_reply q r ≡ true) where
-  pub error-long : (length r ≡ 4 → ⊥) → content q r ≡ refusal 5
+  pub error_long : (length r ≡ 4 → ⊥) → content q r ≡ refusal 5
   unfolding content branch bad
-  error-long n = simp (e, ne_eqb (length (data_of r)) 1 (λ k. n (omega (arith, data_length r))))
+  error_long n = simp (e, ne_eqb (length (data_of r)) 1 (λ k. n (omega (arith, data_length r))))
 
   error-told : (w : Bool) → length r ≡ 4 → warning r ≡ w → content q r ≡ failed w (arg r 2)
   unfolding content branch bad
   error-told w n k = simp (e, eq-eqb (length (data_of r)) 1 (omega (arith, data_length r)), k)
 
-  pub error-calm : length r ≡ 4 → arg r 1 < 128 → content q r ≡ failed false (arg r 2)
+  pub error_calm : length r ≡ 4 → arg r 1 < 128 → content q r ≡ failed false (arg r 2)
   unfolding warning
-  error-calm n h = error-told false n (lt-leb 128 (arg r 1) h)
+  error_calm n h = error-told false n (lt-leb 128 (arg r 1) h)
 
-  pub error-warned : length r ≡ 4 → 128 ≤ arg r 1 → content q r ≡ failed true (arg r 2)
+  pub error_warned : length r ≡ 4 → 128 ≤ arg r 1 → content q r ≡ failed true (arg r 2)
   unfolding warning
-  error-warned n h = error-told true n (le-leb 128 (arg r 1) h)
+  error_warned n h = error-told true n (le-leb 128 (arg r 1) h)
 
 -- B5 and B6 by the code's row
 pub fits-reply : (r : Row) (q p : List ℕ) (b : Bool) → row_of r ≡ row (command_of (command_byte q)) → b ≡ length_fits (length_of r.reply) (data_of q) (data_of p)
@@ -112,6 +112,17 @@ pub fits-repeated : (r : Row) (q p : List ℕ) (b : Bool) → row_of r ≡ row (
     → b ≡ same (take r.repeats (data_of p)) (take r.repeats (data_of q)) → repeated q p ≡ b
 unfolding repeated
 fits-repeated r q p b e h = ap (λ (w : meaning.Row). same (take w.repeats (data_of p)) (take w.repeats (data_of q))) (sym e) ∙ sym h
+
+-- .. where the code looks at parts x and y that are the data of request and reply, and at fronts u and v of them
+pub right_by_row : (r : Row) (q p x y : List ℕ) (b : Bool) → row_of r ≡ row (command_of (command_byte q)) → x ≡ data_of q → y ≡ data_of p
+    → ((d : List ℕ) → length d ≡ length y → b ≡ length_fits (length_of r.reply) x d) → right_length q p ≡ b
+right_by_row r q p x y b e f g h =
+    fits-reply r q p b e (h (data_of p) (ap (λ (d : List ℕ). length d) (sym g)) ∙ ap (λ (d : List ℕ). length_fits (length_of r.reply) d (data_of p)) f)
+
+pub repeated_by_row : (r : Row) (q p x y u v : List ℕ) (b : Bool) → row_of r ≡ row (command_of (command_byte q)) → x ≡ data_of q → y ≡ data_of p
+    → u ≡ take r.repeats x → v ≡ take r.repeats y → b ≡ same v u → repeated q p ≡ b
+repeated_by_row r q p x y u v b e f g h k l =
+    fits-repeated r q p b e (l ∙ ap₂ same (k ∙ ap (take r.repeats) g) (h ∙ ap (take r.repeats) f))
 
 module _ (q r : List ℕ) (e : error_reply q r ≡ false) where
   pub wrong_length : right_length q r ≡ false → content q r ≡ refusal 5
@@ -149,17 +160,17 @@ module _ (n c : ℕ) (d buffer : List ℕ) where
   data_wrong h e f = simp (le-ltb (length buffer) 135 h, e, f)
 
   module _ (e : address_ok n ≡ true) (f : allowed (command_of c) d ≡ true) where
-    pub request-length : length (request (address_for n) c d) ≡ length d + 3
+    pub request_length : length (request (address_for n) c d) ≡ length d + 3
     unfolding request
-    request-length = omega (arith, length-sealed (address_for n ∷ c ∷ d))
+    request_length = omega (arith, length-sealed (address_for n ∷ c ∷ d))
 
-    pub request-fits : length d + 3 ≤ 135
-    request-fits = omega (arith, request-length, (writes_well n c d (rw e tt) (rw f tt)).1)
+    pub request_fits : length d + 3 ≤ 135
+    request_fits = omega (arith, request_length, (writes_well n c d (rw e tt) (rw f tt)).1)
 
     pub request-written : (after : List ℕ) → 135 ≤ length buffer → after ≡ put buffer 0 (request (address_for n) c d)
         → written_of (Request (length d + 3)) after ≡ writes n c d buffer
     unfolding writes
-    request-written after h k = simp (le-ltb (length buffer) 135 h, e, f, request-length, k)
+    request-written after h k = simp (le-ltb (length buffer) 135 h, e, f, request_length, k)
 
 -- 01, "Checks in order: B0 to B6"
 module _ (q r : List ℕ) where

@@ -33,6 +33,7 @@ fn done_length(command: u8, asked: &[u8]) -> Expected
 }
 
 // B0, B4 and B5 as far as the first two bytes decide them; the address, B3, tells nothing of the length. An error reply has one byte of data, its code.
+#[tactic(auto, unfolding(crate::specs::Lengths::expected_length, meaning::specs::Bench::written, meaning::specs::Bench::bare, meaning::specs::Bench::error_reply, meaning::specs::Frames::command_byte))]
 pub fn reply_length(request: &[u8], begun: &[u8]) -> Expected
     ensures { result ≡ expected_length request.now begun.now }
 {

@@ -73,6 +73,7 @@ impl Verdict {
     }
 }
 
+#[tactic(auto, unfolding(meaning::specs::Bench::address_byte))]
 fn is_address(address: u8) -> bool
     ensures { result ≡ address_byte address }
 {
@@ -83,6 +84,7 @@ fn is_address(address: u8) -> bool
 }
 
 // B0: the request is one that the bench writes.
+#[tactic(auto, unfolding(meaning::specs::Bench::written, meaning::specs::Frames::command_byte))]
 pub(crate) fn is_written(request: &[u8]) -> bool
     ensures { result ≡ written request.now }
 {
@@ -99,6 +101,7 @@ pub(crate) fn is_written(request: &[u8]) -> bool
 }
 
 // B3: "address not the asked one; for broadcast, not 40h to 5Fh".
+#[tactic(auto, unfolding(meaning::specs::Bench::from_asked))]
 fn from_asked(asked: u8, answering: u8) -> bool
     ensures { result ≡ from_asked asked answering }
 {
@@ -119,6 +122,7 @@ fn from_new(given: u8, answering: u8) -> bool
 }
 
 // B3, by the reply's command: of 55h to a request 55h the new address, else the asked one.
+#[tactic(auto, unfolding(meaning::specs::Bench::right_address, meaning::specs::Bench::bare, meaning::specs::Frames::command_byte))]
 fn address_fits(request: &[u8], reply: &[u8]) -> bool
     requires { (3 ≤ length request.now) × (3 ≤ length reply.now) }
     ensures { result ≡ right_address request.now reply.now }
@@ -154,6 +158,7 @@ pub(crate) fn is_error(asked: u8, answering: u8) -> bool
 }
 
 // B5 of an error reply.
+#[tactic(auto, using(crate::proofs::Laws::error_long, crate::proofs::Laws::error_calm, crate::proofs::Laws::error_warned))]
 fn error_verdict(reply: &[u8]) -> Verdict
     requires { 3 ≤ length reply.now }
     ensures { (q : List ℕ) → error_reply q reply.now ≡ true → verdict_of result ≡ without_data (content q reply.now) }
@@ -189,6 +194,7 @@ fn done_verdict(request: &[u8], reply: &[u8]) -> Verdict
 }
 
 // 01, "Checks in order: B0 to B6".
+#[tactic(auto, unfolding(meaning::specs::Bench::judge, meaning::specs::Bench::written, meaning::specs::Bench::bad, meaning::specs::Bench::bare, meaning::specs::Bench::error_reply, meaning::specs::Frames::command_byte))]
 pub fn judge(request: &[u8], reply: &[u8]) -> Verdict
     ensures { verdict_of result ≡ without_data (meaning.judge request.now reply.now) }
 {

@@ -15,6 +15,7 @@ pub enum Written {
 }
 
 // 01, "It writes a request for an address 0 to 31 or broadcast": broadcast is the number 255.
+#[tactic(auto, unfolding(meaning::specs::Bench::address_ok))]
 pub fn address_ok(address: u32) -> bool
     ensures { result ≡ address_ok address }
 {
@@ -24,6 +25,7 @@ pub fn address_ok(address: u32) -> bool
     address == 255
 }
 
+#[tactic(auto, using(crate::proofs::Laws::address_small), unfolding(meaning::specs::Bench::address_for))]
 fn address_byte(address: u32) -> u8
     requires { address_ok address ≡ true }
     ensures { result ≡ address_for address }
@@ -54,6 +56,7 @@ pub(crate) fn is_allowed(command: u8, body: &[u8]) -> bool
 }
 
 // R4 before R5. `address` is 0 to 31, or 255 for broadcast.
+#[tactic(auto, using(crate::proofs::Laws::request_fits, crate::proofs::Laws::request_length), unfolding(meaning::specs::Bench::writes, meaning::specs::Bench::request))]
 pub fn write_request(address: u32, command: u8, body: &[u8], buffer: &mut [u8]) -> Written
     ensures { written_of result buffer.new ≡ writes address command body.now buffer.old }
 {
