@@ -130,7 +130,7 @@ module _ (q r : List ℕ) where
       done_length_lem q r (told-true (written q) g.fit.asked_well) (omega (arith, g.fit.long))
       (rw (g.command, eq-eqb (arg q 1) (arg q 1) refl))
       (rw g.command (own-passes (eqb (arg q 1) 0x50)))
-      ∙ own g.fit.long g.right_length_lem
+      ∙ own g.fit.long g.length_right
     where
       own : 3 ≤ length r → T (length_fits (row (command_of (arg q 1))).reply (data_of q) (data_of r)) → done_length (arg q 1) (data_of q) ≡ Bytes (length r)
       own l k = unfold done_length in (fits-framed (row (command_of (arg q 1))).reply (data_of q) (data_of r) k ∙ ap Bytes (whole_length_lem l))

@@ -266,7 +266,7 @@ pub noted-few : (b next : Board) (c : ℕ) → ((kept : List ℕ) → state_of n
 noted-few b next c e h =
     rw (same_len next b (λ kept. ap (λ (s : meaning.State). s.line.kept) (e kept) ∙ ap (λ (l : meaning.Line). l.kept) (noted-line (state_of b kept) c))) h
 
--- power_on leaves none
+-- power-on leaves none
 pub dropped_few : (b next : Board) → ((kept : List ℕ) → state_of next kept ≡ meaning.powered_on (state_of b kept)) → next.frame.len ≤ 135
 unfolding meaning.powered_on with_line none
 dropped_few b next e =

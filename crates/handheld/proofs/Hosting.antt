@@ -34,7 +34,7 @@ use Rattle.programmer.proofs.Replies.{data_byte, Few, few_checks, stands_after, 
 use Rattle.programmer.proofs.Whole.{good-is-whole}
 use Rattle.handheld.specs.Numbers.{field_part, status_part, number_part, standing_bytes, run_number, run_in}
 use Rattle.handheld.specs.Entries.{request_of, given_by, handed_on, bit31, QpRuns, QpWrites, QpToldApart, QpRefusals}
-use Rattle.handheld.specs.declared.given.Given.TheVariants as goal
+use Rattle.handheld.specs.declared.given.Given.TheVariants as given
 use Rattle.handheld.proofs.Numbers.{Small, five_small, as_seven, run-back, is_run_lem}
 
 -- ---- statuses and codes that replies told are bytes
@@ -127,7 +127,7 @@ module _ (t : List ℕ) (good : checked_tape t ≡ Good) where
   l = wish_of t
 
   -- what is possible, with told parts that are bytes, is taken by its number
-  taken_back : (x : Programmer) → T (is_possible l x) → Told x.standing → given_by t (run_number x) ≡ goal.Run x
+  taken_back : (x : Programmer) → T (is_possible l x) → Told x.standing → given_by t (run_number x) ≡ given.Run x
   taken_back x could told =
       let few = few_present l x could in
       let stands = can_stand_lem l x could in

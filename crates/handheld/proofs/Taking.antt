@@ -25,7 +25,7 @@ use Rattle.programmer.proofs.Counting.{few_present, progress-few}
 use Rattle.handheld.specs.Numbers.{run_number, run_in, is_run}
 use Rattle.handheld.specs.Entries.{refused_with, tape_number, start_number, NextAnswer, asked_number, request_of, given_by, next_by}
 use Rattle.handheld.specs.declared.given.Given.{Given}
-use Rattle.handheld.specs.declared.given.Given.TheVariants as goal
+use Rattle.handheld.specs.declared.given.Given.TheVariants as given
 
 -- ---- the place of a fault has 32 bits
 
@@ -85,10 +85,10 @@ good-tape (BadRecord at) e = absurd (omega (arith, e))
 good-tape (WrongSize at) e = absurd (omega (arith, e))
 
 module _ (t : List ℕ) (n : ℕ) where
-  pub given_bad : (k : ℕ) → k ≡ tape_number (checked_tape t) → (k ≡ 0 → ⊥) → goal.Refused k ≡ given_by t n
+  pub given_bad : (k : ℕ) → k ≡ tape_number (checked_tape t) → (k ≡ 0 → ⊥) → given.Refused k ≡ given_by t n
   given_bad k e z = go (checked_tape t) refl
     where
-      go : (c : Checked) → checked_tape t ≡ c → goal.Refused k ≡ given_by t n
+      go : (c : Checked) → checked_tape t ≡ c → given.Refused k ≡ given_by t n
       go Good q = absurd (z (e ∙ ap tape_number q))
       go (BadRecord at) q = rw (q, e ∙ ap tape_number q)
       go (WrongSize at) q = rw (q, e ∙ ap tape_number q)
@@ -97,7 +97,7 @@ module _ (t : List ℕ) (n : ℕ) where
     good : checked_tape t ≡ Good
     good = good-tape (checked_tape t) (sym e ∙ z)
 
-    pub given_other : (r : ℕ) → r ≡ run_number x → (r ≡ n → ⊥) → goal.Refused (refused_with 3) ≡ given_by t n
+    pub given_other : (r : ℕ) → r ≡ run_number x → (r ≡ n → ⊥) → given.Refused (refused_with 3) ≡ given_by t n
     unfolding is_run
     given_other r h d =
         let f : eqb (run_number (run_in n)) n ≡ false = ne_eqb (run_number (run_in n)) n (λ q. d (h ∙ ap run_number is ∙ q)) in
@@ -107,13 +107,13 @@ module _ (t : List ℕ) (n : ℕ) where
       its_number : eqb (run_number (run_in n)) n ≡ true
       its_number = eq-eqb (run_number (run_in n)) n (sym (h ∙ ap run_number is) ∙ same)
 
-      pub given_impossible : (q : Bool) → q ≡ is_possible (wish_of t) x → q ≡ false → goal.Refused (refused_with 3) ≡ given_by t n
+      pub given_impossible : (q : Bool) → q ≡ is_possible (wish_of t) x → q ≡ false → given.Refused (refused_with 3) ≡ given_by t n
       unfolding is_run
       given_impossible q p f =
           let g : is_possible (wish_of t) (run_in n) ≡ false = ap (is_possible (wish_of t)) (sym is) ∙ sym p ∙ f in
           rw (good, its_number, g)
 
-      pub given_run : (q : Bool) → q ≡ is_possible (wish_of t) x → q ≡ true → goal.Run x ≡ given_by t n
+      pub given_run : (q : Bool) → q ≡ is_possible (wish_of t) x → q ≡ true → given.Run x ≡ given_by t n
       unfolding is_run
       given_run q p f =
           let g : is_possible (wish_of t) (run_in n) ≡ true = ap (is_possible (wish_of t)) (sym is) ∙ sym p ∙ f in
@@ -125,13 +125,13 @@ module _ (t : List ℕ) (n : ℕ) where
     pub could : T (is_possible (wish_of t) x)
 
   abbrev HeldBy : Given → Type 0
-  HeldBy (goal.Run x) = Held x
-  HeldBy (goal.Refused k) = Unit
+  HeldBy (given.Run x) = Held x
+  HeldBy (given.Refused k) = Unit
 
   held_by : HeldBy (given_by t n)
   held_by = go (checked_tape t) refl
     where
-      choose : (q : Bool) → checked_tape t ≡ Good → both (is_run n) (is_possible (wish_of t) (run_in n)) ≡ q → HeldBy (pick q (goal.Run (run_in n)) (goal.Refused (refused_with 3)))
+      choose : (q : Bool) → checked_tape t ≡ Good → both (is_run n) (is_possible (wish_of t) (run_in n)) ≡ q → HeldBy (pick q (given.Run (run_in n)) (given.Refused (refused_with 3)))
       choose true g e = record { whole = g; could = true-told (is_possible (wish_of t) (run_in n)) (both_right (is_run n) (is_possible (wish_of t) (run_in n)) e) }
       choose false g e = tt
 
@@ -140,7 +140,7 @@ module _ (t : List ℕ) (n : ℕ) where
       go (BadRecord at) q = rw q tt
       go (WrongSize at) q = rw q tt
 
-  pub held-run : (v : Given) (x : Programmer) → v ≡ given_by t n → v ≡ goal.Run x → Held x
+  pub held-run : (v : Given) (x : Programmer) → v ≡ given_by t n → v ≡ given.Run x → Held x
   held-run v x e h = rw (sym e ∙ h) at held_by
 
 -- ---- qp_next
@@ -152,10 +152,10 @@ asked_as asked.R4 buffer = refl
 asked_as asked.R5 buffer = refl
 
 module _ (t : List ℕ) (n : ℕ) (v : Given) (e : v ≡ given_by t n) (buffer : List ℕ) where
-  pub next-refused : (k : ℕ) → v ≡ goal.Refused k → ◌≡◌ {A = NextAnswer} (record { number = k; buffer = buffer }) (next_by (given_by t n) (wish_of t) buffer)
+  pub next-refused : (k : ℕ) → v ≡ given.Refused k → ◌≡◌ {A = NextAnswer} (record { number = k; buffer = buffer }) (next_by (given_by t n) (wish_of t) buffer)
   next-refused k h = rw (← e, h)
 
-  module _ (x : Programmer) (h : v ≡ goal.Run x) where
+  module _ (x : Programmer) (h : v ≡ given.Run x) where
     pub next-short : length buffer < 135 → ◌≡◌ {A = NextAnswer} (record { number = refused_with 4; buffer = buffer }) (next_by (given_by t n) (wish_of t) buffer)
     next-short s = rw (← e, h, lt-ltb (length buffer) 135 s)
 
@@ -165,7 +165,7 @@ module _ (t : List ℕ) (n : ℕ) (v : Given) (e : v ≡ given_by t n) (buffer :
 
 -- ---- qp_progress
 
-pub progress-low : (t : List ℕ) (n : ℕ) (v : Given) (x : Programmer) (g : Progress) → v ≡ given_by t n → v ≡ goal.Run x → g ≡ progress_of (wish_of t) x
+pub progress-low : (t : List ℕ) (n : ℕ) (v : Given) (x : Programmer) (g : Progress) → v ≡ given_by t n → v ≡ given.Run x → g ≡ progress_of (wish_of t) x
     → (g.answered < 0x80000000) × (g.all < 0x80000000)
 progress-low t n v x g e h k =
     let H = held-run t n v x e h in

@@ -46,7 +46,7 @@ one_run-more : (j k a b : ℕ) → a / 2 ^ k % 2 ^ j ≡ b / 2 ^ k % 2 ^ j → a
 one_run-more j k a b h l =
     mod-pow-add a j k ∙ ap (λ (x : ℕ). x * 2 ^ k + a % 2 ^ k) h ∙ ap (λ (x : ℕ). b / 2 ^ k % 2 ^ j * 2 ^ k + x) l ∙ sym (mod-pow-add b j k)
 
--- bits 0 to 6 are size, code wanted, code number and write_enabled
+-- bits 0 to 6 are size, code wanted, code number and write-enabled
 pub all_but_bit_7 : AllButBit7
 unfolding attributes blocks coded code_no writable
 all_but_bit_7 a b = (

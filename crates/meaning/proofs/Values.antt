@@ -99,7 +99,7 @@ pub reset_values : (reset eight (with_lock (with_queue new (0x1E ∷ [])) true) 
 unfolding reset powered_on fresh with_queue with_lock with_line
 reset_values = (refl, refl)
 
--- power_on empties the queue, unlocks and drops the frame unjudged; codes, counter, address, offset and measured position stay
+-- power-on empties the queue, unlocks and drops the frame unjudged; codes, counter, address, offset and measured position stay
 pub power_on_values : step eight (with_line full (record { begun = true; kept = 9 ∷ []; sum = 9; longer = true; parity = true; last = 9 })) [] power_on
     ≡ still (record { codes = 1 ∷ 2 ∷ 3 ∷ 4 ∷ []; counter = 5; address = 7; offset = 6; measured = 7; queue = []; locked = false; line = none }) []
 unfolding step still powered_on with_queue with_lock with_line

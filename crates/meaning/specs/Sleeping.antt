@@ -21,7 +21,7 @@ pub record Stamped (s : State) (g : Call) : Type 0 where
   pub last : s.line.last < 2 ^ 32
   pub tick : tick_of g < 2 ^ 32
 
--- 02, Req 03, "with no character, closing poll or power_on between": so measured positions, faults and polls that close nothing
+-- 02, Req 03, "with no character, closing poll or power-on between": so measured positions, faults and polls that close nothing
 pub record Between (p : Plate) (s : State) (m : List ℕ) (gs : List Call) : Type 0 where
   pub silent : spoken gs ≡ []
   pub unclosed : T (unbroken p s m gs)

@@ -226,7 +226,7 @@ module _ (s : List ℕ) where
         walk_found q =
             let z : start + 0 ≡ start = omega arith in
             let y : get_or (take n (drop start s)) 0 0 ≡ get_or s start 0 = part-byte s start n 0 h.some ∙ rw z in
-            let f : wanted l k ≡ field_in (part s start n) = sym (get_d_drop-zero k l.fields) ∙ rw at-k in
+            let f : wanted l k ≡ field_in (part s start n) = sym (get_or-drop-zero k l.fields) ∙ rw at-k in
             let b : drop 1 (part s start n) ≡ part s (start + 1) (n - 1) = drop-part s start n h.some in
             let g : n ≡ 1 + 16 * (get_or (take n (drop start s)) 0 0 % 8 + 1)
             = sym (length_part s start n h.inside) ∙ eqb-true (length (part s start n)) (1 + 16 * (get_or (take n (drop start s)) 0 0 % 8 + 1)) e in
@@ -238,10 +238,10 @@ module _ (s : List ℕ) where
               low = omega arith;
             }
           where
-            get_d_drop-zero : (k : ℕ) (fs : List Field) → get_or (drop k fs) 0 no_field ≡ get_or fs k no_field
-            get_d_drop-zero zero fs = refl
-            get_d_drop-zero (suc k) [] = refl
-            get_d_drop-zero (suc k) (f ∷ fs) = get_d_drop-zero k fs
+            get_or-drop-zero : (k : ℕ) (fs : List Field) → get_or (drop k fs) 0 no_field ≡ get_or fs k no_field
+            get_or-drop-zero zero fs = refl
+            get_or-drop-zero (suc k) [] = refl
+            get_or-drop-zero (suc k) (f ∷ fs) = get_or-drop-zero k fs
 
             drop-take : (n : ℕ) (l : List ℕ) → 1 ≤ n → drop 1 (take n l) ≡ take (n - 1) (drop 1 l)
             drop-take zero l h = absurd (omega arith)

@@ -16,7 +16,7 @@ pub record Due : Type 0 where
   pub command : ℕ
   pub body : List ℕ
 
--- "Read-only fields are created write_enabled": the status with bit 6 set
+-- "Read-only fields are created write-enabled": the status with bit 6 set
 unfoldable pub enabled : ℕ → ℕ
 enabled st = pick (writable st) st (st + 64)
 

@@ -107,7 +107,7 @@ qs_restart_is-power_on img old img' f =
     let e : img' ≡ image_of p (rested l) (zeros 135) = t.image ∙ ap (λ (b : Bool). pick b (image_of p (rested l) (zeros 135)) old) k in
     record { plate = ap plate_held e ∙ plate_again p (rested l) (zeros 135) ok; state = restart_holds p l old img' f ∙ rested_as img }
 
--- power_on and a measured position stay within the limits
+-- power-on and a measured position stay within the limits
 off-within : (p : Plate) (s : meaning.State) → state_ok p s ≡ true → state_ok p (with_measured (powered_on s) 0) ≡ true
 unfolding step still
 off-within p s h =

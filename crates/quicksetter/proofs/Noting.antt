@@ -1,4 +1,4 @@
--- What a host tells besides characters and the time, in a core that R1 does not refuse: a measured position, a fault code, power_on. Assumes nothing.
+-- What a host tells besides characters and the time, in a core that R1 does not refuse: a measured position, a fault code, power-on. Assumes nothing.
 use Prim.Native.Nat.{ℕ, ◌<◌, ◌≤◌}
 use native.Mathlib.Omega.{arith}
 use mathlib.Core.Path.{◌≡◌, refl}

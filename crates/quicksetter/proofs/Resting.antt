@@ -1,4 +1,4 @@
--- What lasted of a board that was off: the state after power_on, but for the measured position. Assumes nothing.
+-- What lasted of a board that was off: the state after power-on, but for the measured position. Assumes nothing.
 use Prim.Native.Nat.{ℕ, ◌<◌}
 use native.Mathlib.Omega.{arith}
 use mathlib.Core.Path.{◌≡◌, refl}

@@ -26,7 +26,7 @@ abbrev pub QsLasts : Type 0
 QsLasts = (img m w : List ℕ) (g : Call) (r : ℕ) (img' m' w' : List ℕ) → Called img m w g r img' m' w' → ((i : ℕ) → arg img i < 256) → stores_by r w' ≡ false
     → Lasts img m img' m'
 
--- an image made from a plate and lasting bytes holds that plate, and the state after power_on but for the measured position
+-- an image made from a plate and lasting bytes holds that plate, and the state after power-on but for the measured position
 pub record PoweredOn (img img' : List ℕ) : Type 0 where
   pub plate : plate_held img' ≡ plate_held img
   pub state : state_held img' ≡ with_measured (powered_on (state_held img)) 0

@@ -48,7 +48,7 @@ QsNeverRefused = (p : Plate) (img m w : List ℕ) (g : Call) (r : ℕ) (img' m' 
 
 -- Demand 3: a host that starts with a fresh image and blank memory, and then only calls, with room enough: its calls, newest first; the traffic, each frame that a
 -- call closed with the reply that the call left; image, memory and last reply. Where it was off it restarts from memory and lasting bytes and gives the measured
--- position: that is a power_on and a measured position
+-- position: that is a power-on and a measured position
 pub data Ran (p : Plate) : List Call → List Heard → List ℕ → List ℕ → List ℕ → Type 0 where
   began : (old img : List ℕ) → Freshens p old 0 img → Ran p [] [] img (zeros (memory_length p.total)) []
   called : (gs : List Call) (t : List Heard) (img m x w : List ℕ) (g : Call) (r : ℕ) (img' m' w' : List ℕ) → Ran p gs t img m x → longest_reply ≤ length w → Called img m w g r img' m' w'

@@ -18,7 +18,7 @@ use Rattle.meaning.specs.Frames.{outcome}
 use Rattle.meaning.specs.Demands.{meant, concluded}
 use Rattle.meaning.proofs.Choices.{told-true}
 use Rattle.meaning.proofs.Wire.{verdict_follows, same_refl}
-use Rattle.meaning.proofs.Puts.{put_in, part-put, get_d_zeros}
+use Rattle.meaning.proofs.Puts.{put_in, part-put, get_or-zeros}
 use Rattle.meaning.proofs.Tables.{used-nil, used-before, used_snoc, count_le, blocks_pos}
 use Rattle.programmer.specs.Wishes.{Field, Wish, no_field, wanted, code_for}
 use Rattle.programmer.specs.Steps.{due, enabled, making, clearing, locking, onto, on_verdict, bytes_due, after_reply, requests_for, in_all}
@@ -34,7 +34,7 @@ use Rattle.shop.proofs.Answers.{told-count, told-status, deleted, made, changed,
 use Rattle.shop.proofs.Kept.{statuses, statuses-length, statuses-at, statuses_snoc, enabled-exists, enabled-blocks, enabled-code, enabled-writable, Kept, kept-none, kept_more}
 
 past_end : (sts : List ℕ) (k g : ℕ) → get_or (sts ++ zeros k) g 0 ≡ get_or sts g 0
-past_end [] k g = get_d_zeros k g
+past_end [] k g = get_or-zeros k g
 past_end (x ∷ sts) k zero = refl
 past_end (x ∷ sts) k (suc g) = past_end sts k g
 
@@ -196,7 +196,7 @@ module _ (p : board.Plate) (home : length p.label ≡ label_length) (n : ℕ) (g
         put_in m₁ (16 * used sts) f.bytes fits₂ (16 * used sts + j) (omega arith) (omega arith)
         ∙ ap (λ (x : ℕ). get_or f.bytes x 0) (omega arith)
 
-    -- it stays write_enabled
+    -- it stays write-enabled
     K₂ : enabled st ≡ st → Kept t m₂ (fs ++ (f ∷ []))
     K₂ o = kept_more t m fs f m₂ K (subst (λ (x : ℕ). Laid t m₂ (sts ++ (x ∷ []))) o I₂) low₂ own₂
 

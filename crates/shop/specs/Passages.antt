@@ -42,7 +42,7 @@ after_passages p l [] x = x
 after_passages p l (e ∷ es) x = after_passages p l es (after_passage p l e x)
 
 -- "no other master and requests sent as in demand 2": the calls say the request that is due (meaning, `Told`: no frame open before, without a gap,
--- power_on or parity fault; faults, positions and polls that close nothing may come in between), and the poll closes it. Nothing is sent once it is over
+-- power-on or parity fault; faults, positions and polls that close nothing may come in between), and the poll closes it. Nothing is sent once it is over
 abbrev pub Carries : board.Plate → ℕ → Wish → Passage → Standing → board.State → List ℕ → Type 0
 Carries p n l e (At st) s m =
     Told p s m e.calls (address_for n) (due l st).command (due l st).body × T (closes p (run_from p s m e.calls).state (poll e.closing))

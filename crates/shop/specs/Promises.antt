@@ -25,7 +25,7 @@ talked p n l s (At st) m =
 talked p n l s Done m = record { standing = Done; memory = m }
 talked p n l s (Failed st w) m = record { standing = Failed st w; memory = m }
 
--- as many requests as states are listed. The state at each may be any: faults, positions, polls and power_on may come in between
+-- as many requests as states are listed. The state at each may be any: faults, positions, polls and power-on may come in between
 unfoldable pub talked_on : board.Plate → ℕ → Wish → List board.State → Talk → Talk
 talked_on p n l [] x = x
 talked_on p n l (s ∷ ss) x = talked_on p n l ss (talked p n l s x.standing x.memory)

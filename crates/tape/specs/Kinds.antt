@@ -23,7 +23,7 @@ character_in b = pick (leb (arg b 5) 1) (call (character (little (take 4 b)) (ar
 unfoldable pub sized : ℕ → List ℕ → Said → Said
 sized n b x = pick (eqb (length b) n) x unfit
 
--- 01, "Kinds: 1 plate ..; 2 character ..; 3 poll (tick 4); 4 measured (4); 5 fault (1); 6 power_on"
+-- 01, "Kinds: 1 plate ..; 2 character ..; 3 poll (tick 4); 4 measured (4); 5 fault (1); 6 power-on"
 unfoldable pub call_of : ℕ → List ℕ → Said
 call_of k b =
     pick (eqb k 1) (sized 5 b (plate (plate_in b)))
