@@ -26,7 +26,8 @@ pub enum Read {
 }
 
 fn wide16(b: u8) -> u16
-    ensures { (result ≡ b) × (result < 256) }
+    ensures value { result ≡ b }
+    ensures byte { result < 256 }
 {
     b as u16
 }

@@ -39,6 +39,9 @@ module _ (b : List ℕ) where
   unfolding part
   number-said tick f h e = ap f (e ∙ ap little (take_all 4 b (omega arith))) ∙ fitted 4 (f (little b)) h
 
+-- what the functions of each kind cite
+pub ruleset kinds_read = (unfitted, fitted, character-unfit, character-said, number-said)
+
 -- 02, Req 01, "on the tape they are all zero": the label bytes of every plate that a record says
 abbrev Unlabelled : Said → Type 0
 Unlabelled (plate p) = p.label ≡ zeros label_length

@@ -36,7 +36,9 @@ prints = tt
 
 -- the poll's record, cut by a byte: its place is 39
 pub cut_short : T (same (answers_of (take 46 tape)) (first_line ++ (98 ∷ 97 ∷ 100 ∷ 32 ∷ 51 ∷ 57 ∷ 10 ∷ [])))
-unfolding same part put blank xor_from xor_all among plate_ok fresh none with_line own_byte gap full_pause remaining over more taken up_to still step little length_at record_at sized character_in call_of said_by decimal_in decimal_of first_line bad_line printed_of bad_record begun stepped turn answers_from answers_of
+unfolding same part put blank xor_from xor_all among plate_ok fresh none with_line own_byte gap full_pause remaining over more taken up_to still step little
+    length_at record_at sized character_in call_of said_by decimal_in decimal_of first_line bad_line printed_of bad_record begun stepped turn answers_from
+    answers_of
 cut_short = tt
 
 -- 01, "first and once": a second plate is bad, at place 9

@@ -1,4 +1,6 @@
 // The kinds of the answer program's records (01, "Kinds").
+#![tactic(auto, using(crate::proofs::Events::kinds_read))]
+
 ghost use Rattle.std.specs.Prelude.{◌≡◌};
 ghost use Rattle.meaning.specs.Bytes.{arg, little};
 ghost use Rattle.meaning.specs.Run as run;
@@ -118,6 +120,7 @@ fn power_on_in(body: &[u8]) -> Event
 }
 
 // What a record of that kind says. Any kind and any body are taken: 01, "fits none of this", is Unfit.
+#[tactic(auto, unfolding(crate::specs::Kinds::call_of))]
 pub fn event_of(kind: u16, body: &[u8]) -> Event
     ensures { said_of result ≡ call_of kind body.now }
 {

@@ -12,7 +12,8 @@ pub const LONGEST_BAD_LINE: usize = 25;
 
 // How many decimal digits a tick has.
 fn places(n: u32) -> usize
-    ensures { IsDigitCount 10 1 n result × (result ≤ 10) }
+    ensures digits { IsDigitCount 10 1 n result }
+    ensures few { result ≤ 10 }
 {
     if n < 10 {
         return 1;
@@ -47,7 +48,8 @@ fn places(n: u32) -> usize
 // A tick in decimal, its last digit first.
 fn decimal(n: u32, out: &mut [u8], at: usize) -> usize
     requires { at + 10 ≤ length out.old }
-    ensures { Printed (decimal_of n) out.old at result out.new × (result ≤ at + 10) }
+    ensures printed { Printed (decimal_of n) out.old at result out.new }
+    ensures few { result ≤ at + 10 }
 {
     let k = places(n);
     let mut i = k;
@@ -60,6 +62,7 @@ fn decimal(n: u32, out: &mut [u8], at: usize) -> usize
     at + k
 }
 
+#[tactic(auto, unfolding(crate::specs::Text::digit_of))]
 fn digit(n: u8) -> u8
     requires { n < 16 }
     ensures { result ≡ digit_of n }
@@ -104,6 +107,7 @@ fn copy(s: &[u8], out: &mut [u8], at: usize) -> usize
     at + s.len()
 }
 
+#[tactic(auto, unfolding(crate::specs::Text::first_line))]
 pub fn first_line(out: &mut [u8], at: usize) -> usize
     requires { at + first_length ≤ length out.old }
     ensures { Printed first_line out.old at result out.new }
@@ -114,7 +118,8 @@ pub fn first_line(out: &mut [u8], at: usize) -> usize
 // The place of a record may have more digits than a tick.
 fn long_decimal(n: u64, out: &mut [u8], at: usize) -> usize
     requires { at + 20 ≤ length out.old }
-    ensures { Printed (decimal_of n) out.old at result out.new × (result ≤ at + 20) }
+    ensures printed { Printed (decimal_of n) out.old at result out.new }
+    ensures few { result ≤ at + 20 }
 {
     let mut digits = [0u8; 20];
     let k = io::decimal(n, &mut digits);
