@@ -9,7 +9,7 @@ LIB = target/lib
 LINE = target/line
 ARM = target/firmware
 MODULES = target/module/quicksetter.ll target/module/handheld.ll
-CRATES = crates.txt $(shell find crates -name '*.rt' -o -name '*.antt' -o -type d)
+CRATES = crates.txt $(shell find crates -mindepth 2 -name out -prune -o \( -name '*.rt' -o -name '*.antt' -o -type d \) -print)
 
 help:
 	@echo 'make demo    a first session at the bench: the pallet night, run and told in words'
@@ -31,15 +31,14 @@ help:
 demo: $(ANSWER) $(SHARED)
 	@python3 tools/explain.py --run $(ANSWER) tools/sessions/pallet-night.txt
 
-# rt looks itself whether anything changed, which takes it a moment: the program is never older than the crates. Programs are for x86-64; here.sh makes them
-# run on any machine that the kit is for.
+# rt looks itself whether anything changed, which takes it a moment, and runs the program, here on no tape at all: it is never older than the crates.
 $(ANSWER): always
 	@mkdir -p target
 	@test -e $@ || echo 'The answer program is proved from nothing, which takes some minutes.'
-	@rt check answer >target/answer.log 2>&1 || { cat target/answer.log; exit 1; }
+	@cd crates/answer && rt run </dev/null >../../target/answer.log 2>&1 || { cat ../../target/answer.log; exit 1; }
 	@bash tools/here.sh answer
 
-# here.sh proves anew each time, so make looks whether a file of the crates, or a folder where one went away, is newer.
+# here.sh compiles anew each time, over what rt has kept, so make looks whether a file of the crates, or a folder where one went away, is newer.
 $(ARCHIVE): $(CRATES)
 	bash tools/here.sh library
 	@touch $@

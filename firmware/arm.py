@@ -1,9 +1,7 @@
 """What the tests and figures of the firmware share: the kit's compiler, the cores of cores.txt, programs for bare boards, and the emulator that runs them."""
 
 import functools
-import os
 import pathlib
-import platform
 import shutil
 import subprocess
 from typing import Dict, List, NamedTuple, Sequence
@@ -38,12 +36,11 @@ def cores() -> Dict[str, Core]:
 
 
 def kit() -> pathlib.Path:
-    found = os.environ.get("RATTLE_HOME") or pathlib.Path(shutil.which("rt")).resolve().parent.parent
-    return pathlib.Path(found)
+    return pathlib.Path(shutil.which("rt")).resolve().parent.parent
 
 
 def kit_tool(name: str) -> str:
-    return str(kit() / "on" / platform.machine() / "toolchain" / "bin" / name)
+    return str(kit() / "toolchain" / "bin" / name)
 
 
 def run(words: Sequence[str], **more) -> subprocess.CompletedProcess:

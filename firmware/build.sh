@@ -10,8 +10,8 @@ folder=$(cd "$1" && pwd)
 shift
 more=("$@")
 cd "$(dirname "$0")/.."
-home=${RATTLE_HOME:-$(dirname "$(dirname "$(readlink -f "$(command -v rt)")")")}
-tools=$home/on/$(uname -m)/toolchain/bin
+home=$(dirname "$(dirname "$(readlink -f "$(command -v rt)")")")
+tools=$home/toolchain/bin
 clang=$tools/clang
 fail() { echo "build.sh: $*" >&2; exit 1; }
 work=$(mktemp -d)

@@ -11,7 +11,7 @@ from process import Failure, run
 ENTRIES = ("character", "poll", "measured", "fault", "power_on", "fresh")
 CLOSING = ("poll", "character")
 
-COUNTED_BY = "callgrind" if IS_MEASURED else "the kit's emulator on another processor"
+COUNTED_BY = "callgrind" if IS_MEASURED else "an emulator on another processor"
 CALLS_NOTE = f"""\
 Instructions from the entry's first to its return, with all that it calls. Each call is counted on its own, by {COUNTED_BY}; both boards start from the same
 bytes, and must return and leave the same. A row is every call of its kind in perf/calls.c, on two plates and with 0 to 4 fault codes waiting: the dearest call

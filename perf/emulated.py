@@ -1,4 +1,4 @@
-"""Single calls of a program for x86-64 counted on another processor: the kit's emulator tells each instruction that it runs, and trace.c counts them call by call."""
+"""Single calls of a program for x86-64 counted on another processor: the emulator tells each instruction that it runs, and trace.c counts them call by call."""
 
 import os
 import re

@@ -1,9 +1,8 @@
-"""The machine at hand, and what compiles, reads and runs machine code of x86-64 on it: there gcc's own tools, elsewhere Debian's cross compiler and the kit's emulator."""
+"""The machine at hand, and what compiles, reads and runs machine code of x86-64 on it: there gcc's own tools, elsewhere Debian's cross compiler and its emulator, qemu-x86_64."""
 
 import os
 import platform
 import shutil
-from pathlib import Path
 from typing import List
 
 from process import text_of
@@ -12,7 +11,8 @@ MEASURED = "x86_64"  # the figures, the stack's bound and the limits are about i
 IS_MEASURED = platform.machine() == MEASURED
 PREFIX = "" if IS_MEASURED else "x86_64-linux-gnu-"
 READERS = ("nm", "readelf", "objdump")
-PACKAGES = "" if IS_MEASURED else f" (this machine is {platform.machine()}; Debian has them as gcc-x86-64-linux-gnu and libc6-dev-amd64-cross)"
+EMULATOR = "qemu-x86_64"
+PACKAGES = "" if IS_MEASURED else f" (this machine is {platform.machine()}; Debian has them in gcc-x86-64-linux-gnu, libc6-dev-amd64-cross and qemu-user)"
 
 
 def tool(name: str) -> str:
@@ -21,8 +21,10 @@ def tool(name: str) -> str:
 
 
 def missing(*names: str) -> List[str]:
-    """Those of the tools that are not there; a cross compiler is not there without its C library."""
+    """Those of the tools that are not there; a cross compiler is not there without its C library, and without what runs its programs."""
     lacking = [tool(name) for name in names if shutil.which(tool(name)) is None]
+    if not IS_MEASURED and "gcc" in names and shutil.which(EMULATOR) is None:
+        lacking.append(EMULATOR)
     if not IS_MEASURED and "gcc" in names and not lacking and not os.path.isabs(text_of([tool("gcc"), "-print-file-name=libc.a"])):
         lacking.append("the C library for x86-64")
     return lacking
@@ -32,5 +34,4 @@ def emulator() -> List[str]:
     """The words in front of a program for x86-64; none on such a machine."""
     if IS_MEASURED:
         return []
-    kit = Path(shutil.which("rt")).resolve().parent.parent
-    return [str(kit / "on" / platform.machine() / "toolchain" / "bin" / "qemu-x86_64")]
+    return [EMULATOR]

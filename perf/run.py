@@ -6,10 +6,10 @@
                                                              instructions of every kind of call to their limits, and fails where one is over; the host
                                                              that sleeps to polls that each close a frame; and the cells that are written to those that change
 
-PROGRAM answers tapes and FOLDER has libquicksetter.a; those not named are built by rt, as target/bin/answer and in target/staticlib.
+PROGRAM answers tapes and FOLDER has libquicksetter.a; those not named are proved and built, as crates/answer/out/answer and in target/staticlib.
 Instructions are counted by valgrind's callgrind, writes by its lackey; without valgrind only times are measured, and those checks are left out. What the library is
 and needs comes from gcc's binutils (archive.py), the instructions of each call from costs.py, the cells that are written from writes.py. All of it is about the machine code of x86-64. On another processor the
-checks are made with a cross compiler and the kit's emulator (machine.py, emulated.py), and say that they were left out where there is none; of the page the same
+checks are made with a cross compiler and an emulator (machine.py, emulated.py), and say that they were left out where there is none; of the page the same
 parts are measured anew, and what is told of tapes, by whole programs, stays as it was.
 """
 
@@ -177,7 +177,7 @@ def found_library(library: Optional[str]) -> str:
     """The folder of libquicksetter.a."""
     if library:
         return library
-    run(["rt", "staticlib", "quicksetter"], cwd=ROOT)
+    run(["bash", os.path.join("tools", "module.sh"), "quicksetter"], cwd=ROOT)
     return os.path.join(ROOT, "target", "staticlib")
 
 
@@ -185,8 +185,9 @@ def found_answer(answer: Optional[str]) -> str:
     """The answer program."""
     if answer:
         return answer
-    run(["rt", "check", "answer"], cwd=ROOT)
-    return os.path.join(ROOT, "target", "bin", "answer")
+    crate = os.path.join(ROOT, "crates", "answer")
+    run(["rt", "run"], cwd=crate, stdin=subprocess.DEVNULL)  # on no tape at all: what is wanted is the program
+    return os.path.join(crate, "out", "answer")
 
 
 def tape_programs(answer: Optional[str], library: str) -> Dict[str, str]:

@@ -76,11 +76,10 @@ def case(test):
 
 
 def compiler():
-    """What compiles for x86-64: gcc, and on another processor the kit's clang, which stands beside the emulator."""
+    """What compiles for x86-64: gcc, and on another processor the kit's clang."""
     if IS_X86_64:
         return ["gcc"]
-    kit = pathlib.Path(shutil.which("rt")).resolve().parent.parent
-    tools = kit / "on" / platform.machine() / "toolchain" / "bin"
+    tools = pathlib.Path(shutil.which("rt")).resolve().parent.parent / "toolchain" / "bin"
     return [str(tools / "clang"), "--target=x86_64-unknown-linux-gnu", "--no-default-config", "-nostdlib", f"--ld-path={tools / 'ld.lld'}"]
 
 

@@ -17,8 +17,8 @@ ROOT = os.path.dirname(os.path.dirname(os.path.abspath(__file__)))
 TABLE = os.path.join(ROOT, "docs", "CONTRACTS.md")
 IMPL = re.compile(r"^impl (\w+) \{")
 FUNCTION = re.compile(r"^(\s*)pub (extern \"C\" )?fn (\w+)")
-PASSED_ON = re.compile(r"^pub use (\w+)::(\w+);")
-LAW = re.compile(r"^\s*(?:pub )?([a-z0-9-]+)(?: \{\S+\})? :", re.M)
+PASSED_ON = re.compile(r"^pub use (\w+)::(?:(\w+)|\{([^}]*)\});", re.M)
+LAW = re.compile(r"^\s*(?:pub )?([a-z0-9_-]+)(?: \{[^}]*\})* :", re.M)
 CITED = re.compile(r"[a-z0-9]+(?:[-_][a-z0-9]+)+")
 OPEN_MODULE = re.compile(r"^pub mod (\w+);")
 
@@ -26,7 +26,7 @@ OPEN_MODULE = re.compile(r"^pub mod (\w+);")
 def crates(root):
     """The crates that crates.txt lists and whose root is this module: lib for a library, main for a program."""
     with open(os.path.join(ROOT, "crates.txt"), encoding="utf-8") as file:
-        names = [line.split(":")[0].strip() for line in file if ":" in line.split("#")[0]]
+        names = [line.split(":")[0].split()[0] for line in file if ":" in line.split("#")[0]]
     return [name for name in names if os.path.exists(os.path.join(ROOT, "crates", name, "src", root + ".rt"))]
 
 
@@ -56,10 +56,9 @@ def functions_in(crate, module):
 
 def public_functions(crate):
     passed, opened = {}, []
+    for module, name, names in PASSED_ON.findall("\n".join(lines_of(crate, "lib"))):
+        passed.setdefault(module, set()).update(re.findall(r"\w+", name or names))
     for line in lines_of(crate, "lib"):
-        on = PASSED_ON.match(line)
-        if on:
-            passed.setdefault(on.group(1), set()).add(on.group(2))
         module = OPEN_MODULE.match(line)
         if module:
             opened.append(module.group(1))

@@ -1,28 +1,31 @@
 #!/usr/bin/env bash
 # here.sh answer | library: what the kit builds is for x86-64; this makes it usable on the machine at hand, in target/here. gcc, cargo and python3 take it from there.
-#   answer     the answer program itself; on another processor the kit's emulator with it
+#   answer     the answer program, as the last `rt ci` at the top or `rt run` in crates/answer left it; on another processor with Debian's emulator
 #   library    libquicksetter.a and libhandheld.a themselves; on another processor the module of each, compiled once more by the kit's clang. And
 #              target/libquicksetter.so of the first, which explain.py has its judge from
-# module.sh tells what that rests on.
+# module.sh tells what that rests on. Today's kit runs on x86-64 alone: the ways for another processor were taken with an older one.
 set -euo pipefail
 cd "$(dirname "$0")/.."
 machine=$(uname -m)
 here=target/here
-home=${RATTLE_HOME:-$(dirname "$(dirname "$(readlink -f "$(command -v rt)")")")}
-own=$home/on/$machine
+home=$(dirname "$(dirname "$(readlink -f "$(command -v rt)")")")
 fail() { echo "here.sh: $*" >&2; exit 1; }
 mkdir -p "$here"
 
 answer() {
-    rm -f "$here/answer"
+    local built=crates/answer/out/answer
+    [ -x "$built" ] || fail "there is no $built: rt ci, or rt run in crates/answer, makes it"
+    mkdir -p target/bin
+    rm -f "$here/answer" target/bin/answer
+    cp "$built" target/bin/answer
     if [ "$machine" = x86_64 ]; then
         ln -s ../bin/answer "$here/answer"
         return
     fi
-    local tools=$own/toolchain
-    [ -x "$tools/bin/qemu-x86_64" ] || fail "this machine is $machine, and the kit has no emulator for it"
+    local emulator lib=$home/toolchain/lib
+    emulator=$(command -v qemu-x86_64) || fail "this machine is $machine, and there is no qemu-x86_64 (of Debian's qemu-user)"
     printf '#!/bin/sh\nexec "%s" "%s" --library-path "%s" "%s" "$@"\n' \
-        "$tools/bin/qemu-x86_64" "$tools/lib/ld-linux-x86-64.so.2" "$tools/lib" "$PWD/target/bin/answer" >"$here/answer"
+        "$emulator" "$lib/ld-linux-x86-64.so.2" "$lib" "$PWD/target/bin/answer" >"$here/answer"
     chmod +x "$here/answer"
 }
 
@@ -32,7 +35,7 @@ compiled_here() {
     triple=$(gcc -dumpmachine)
     bash tools/module.sh --compile "$1" "$triple" "$work/$1.o" -O3 -fPIC
     rm -f "$here/lib$1.a"
-    "$own/toolchain/bin/llvm-ar" rcsD "$here/lib$1.a" "$work/$1.o"
+    "$home/toolchain/bin/llvm-ar" rcsD "$here/lib$1.a" "$work/$1.o"
     echo "here.sh: this machine is $machine: the module of the proved lib$1.a, compiled for $triple, stands in its place"
 }
 

@@ -29,7 +29,7 @@ def files(*patterns):
 
 
 def long_lines():
-    for name, lines in files("**/*.rt", "**/*.antt", "**/*.edit"):
+    for name, lines in files("*/src/**/*.rt", "*/specs/**/*.antt", "*/proofs/**/*.antt", "*/must-fail/*.edit"):
         for number, line in enumerate(lines, 1):
             if len(line) > LONGEST_LINE:
                 yield "%s:%d: a line of %d characters" % (name, number, len(line))

@@ -1,5 +1,5 @@
 #!/usr/bin/env bash
-# module.sh NAME: proves a library, and leaves the LLVM module of its archive as text, target/module/NAME.ll, to be compiled for other processors.
+# module.sh NAME: proves a library, and leaves its archive, target/staticlib/libNAME.a, and the LLVM module of that as text, target/module/NAME.ll, for other processors.
 # module.sh --check NAME: looks at that text once more.
 # module.sh --compile NAME TRIPLE OBJECT WORD...: compiles it for another processor; WORDs are the compiler's.
 # The module is the archive's own: compiled for x86-64 as rattle has it, the text must give the archive's object, byte for byte. And it must be as its compilation for
@@ -16,38 +16,47 @@ esac
 [ $# -ge 1 ] || use
 name=$1
 shift
-machine=$(uname -m)
-home=${RATTLE_HOME:-$(dirname "$(dirname "$(readlink -f "$(command -v rt)")")")}
-own=$home/on/$machine
-clang=$own/toolchain/bin/clang
+home=$(dirname "$(dirname "$(readlink -f "$(command -v rt)")")")
+clang=$home/toolchain/bin/clang
+archive=target/staticlib/lib$name.a
 text=target/module/$name.ll
 fail() { echo "module.sh: the module of $name: $*" >&2; exit 1; }
 work=$(mktemp -d)
 trap 'rm -rf "$work"' EXIT
 
-# A kit of links whose clang keeps a copy of each module that it is handed, and then is the kit's own.
+# A kit of links whose clang keeps a copy of each module that it is handed, and then is the kit's own. rt takes the kit from where its own two files lie: these are copied.
 kit_that_keeps() {
-    local kit=$1 kept=$2 tools=$1/on/$machine/toolchain file
-    mkdir -p "$tools/bin"
-    for file in "$home"/* "$own"/* "$own"/toolchain/* "$own"/toolchain/bin/*; do
-        case ${file#"$home"} in /on | */toolchain | */toolchain/bin | */toolchain/bin/clang) ;; *) ln -s "$file" "$kit${file#"$home"}" ;; esac
+    local kit=$1 kept=$2 file
+    mkdir -p "$kit/bin" "$kit/toolchain/bin"
+    for file in "$home"/* "$home"/bin/* "$home"/toolchain/* "$home"/toolchain/bin/*; do
+        case ${file#"$home"} in
+        /bin | /toolchain | /toolchain/bin | /toolchain/bin/clang) ;;
+        /bin/rt | /bin/rtlib.py) cp "$file" "$kit/bin/" ;;
+        *) ln -s "$file" "$kit${file#"$home"}" ;;
+        esac
     done
-    # The toolchain beside on/ is not one machine's, and is the kit's own.
-    [ ! -e "$home/toolchain" ] || [ -e "$kit/toolchain" ] || ln -s "$home/toolchain" "$kit/toolchain"
-    printf '#!/bin/sh\nfor word; do case $word in *.bc) cp "$word" "%s" ;; esac; done\nexec "%s" "$@"\n' "$kept" "$clang" >"$tools/bin/clang"
-    chmod +x "$tools/bin/clang"
+    printf '#!/bin/sh\nfor word; do case $word in *.bc) cp "$word" "%s" ;; esac; done\nexec "%s" "$@"\n' "$kept" "$clang" >"$kit/toolchain/bin/clang"
+    chmod +x "$kit/toolchain/bin/clang"
+}
+
+# The library, by the rt of a kit, for every x86-64: a static library does not look what its host's processor has, and the kit's default wants more.
+built_by() {
+    (cd "crates/$name" && "$1/bin/rt" lib --cpu x86-64)
 }
 
 # As rattle has clang called: TARGET FILE OBJECT WORD...
 compile() {
-    "$clang" --target="$1" -ffunction-sections -fdata-sections -mllvm -trap-unreachable -mllvm -no-trap-after-noreturn --no-default-config -Werror \
-        -c -x ir "$2" -o "$3" "${@:4}"
+    local more=()
+    case $1 in aarch64*) more=(-mllvm -aarch64-load-store-renaming=false) ;; esac
+    "$clang" --target="$1" -mllvm -no-trap-after-noreturn "${more[@]}" -ffunction-sections -fdata-sections -mllvm -trap-unreachable -mllvm -no-x86-call-frame-opt \
+        -mllvm -disable-machine-licm -mllvm -disable-postra-machine-licm -mllvm -sink-common-insts=false --no-default-config -no-canonical-prefixes \
+        -fno-crash-diagnostics -Werror -c -x ir "$2" -o "$3" "${@:4}"
 }
 
 # The archive's object once more, of the text.
 is_the_archives() {
     compile x86_64-unknown-linux-gnu "$text" "$work/again.o" -march=x86-64 -O3 -fPIC
-    "$own/toolchain/bin/llvm-ar" p "target/staticlib/lib$name.a" >"$work/archived.o"
+    "$home/toolchain/bin/llvm-ar" p "$archive" >"$work/archived.o"
     cmp "$work/archived.o" "$work/again.o" || fail "it does not give the archive's object"
 }
 
@@ -63,7 +72,7 @@ expect() {
 is_as_expected() {
     expect 2 'its head' '^target '
     expect 1 'its head' '^target triple = "x86_64-unknown-linux-gnu"$'
-    expect 1 'its attributes' '^attributes #0 = \{ nounwind "probe-stack"="inline-asm" "target-cpu"="x86-64" \}$'
+    expect 1 'its attributes' '^attributes #0 = \{ nounwind "probe-stack"="inline-asm" "stack-probe-size"="3072" "target-cpu"="x86-64" \}$'
     expect 1 'its attributes' '^attributes .*(target-|probe-)'
     expect 2 'x86' 'x86'
     expect 0 'a word that depends on the machine' 'ptrtoint|inttoptr|addrspacecast|byval|sret|inreg| asm |<[0-9]+ x '
@@ -77,11 +86,14 @@ check() {
     is_the_archives
 }
 
+# First by the kit itself, which begins with what checks here have kept. Over that the kit of links compiles once more, in seconds, and its clang has the module.
 prove() {
+    built_by "$home"
+    mkdir -p target/module target/staticlib
+    cp "crates/$name/out/lib$name.a" "$archive"
     kit_that_keeps "$work/kit" "$work/module.bc"
-    RATTLE_HOME=$work/kit rt staticlib "$name"
+    built_by "$work/kit" >"$work/log" 2>&1 || { cat "$work/log" >&2; fail "it was not compiled once more"; }
     [ -e "$work/module.bc" ] || fail "rattle compiled none"
-    mkdir -p target/module
     "$clang" --target=x86_64-unknown-linux-gnu --no-default-config -S -emit-llvm -Xclang -disable-llvm-passes -x ir "$work/module.bc" -o - |
         sed '/^; ModuleID = /d' >"$text" # it names this run's folder
     check

@@ -7,8 +7,7 @@ here=$(cd "$(dirname "$0")" && pwd)
 library=$1/$2
 core=$2
 elf=$3
-home=${RATTLE_HOME:-$(dirname "$(dirname "$(readlink -f "$(command -v rt)")")")}
-tools=$home/on/$(uname -m)/toolchain/bin
+tools=$(dirname "$(dirname "$(readlink -f "$(command -v rt)")")")/toolchain/bin
 work=$(mktemp -d)
 trap 'rm -rf "$work"' EXIT
 read -r triple line < <(sed -nE "s/^$core +//p" "$here/../cores.txt")
