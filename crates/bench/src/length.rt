@@ -6,7 +6,7 @@ use crate::reply::{Refusal, command_fits, is_error, is_written};
 use wire::{Length, data_part};
 
 // Not known yet; so many bytes; no reply that begins so is taken.
-#[derive(Drop)]
+#[derive(Clone, Copy)]
 pub enum Expected {
     Unknown,
     Bytes(usize),

@@ -11,7 +11,7 @@ use wire::codes::{BROADCAST, ERROR_REPLY};
 use wire::{data_part, front, same};
 
 // The refusals by their numbers in 01.
-#[derive(Drop)]
+#[derive(Clone, Copy)]
 pub enum Refusal {
     B0,
     B1,
@@ -39,7 +39,7 @@ impl Refusal {
 }
 
 // An error has its code.
-#[derive(Drop)]
+#[derive(Clone, Copy)]
 pub enum Verdict {
     Done,
     DoneWithWarning,
@@ -49,7 +49,7 @@ pub enum Verdict {
 }
 
 // Where a reply's data part starts, and its length.
-#[derive(Drop)]
+#[derive(Clone, Copy)]
 pub struct Piece {
     pub from: usize,
     pub count: usize,

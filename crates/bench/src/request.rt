@@ -7,7 +7,7 @@ ghost use Rattle.bench.specs.Outcomes.{written_of};
 use wire::codes::{BROADCAST, LAST_ADDRESS, LONGEST_REQUEST, MOST_COUNT};
 
 // The length of the request that fills the front of the buffer, or the refusal; refused, the buffer is untouched.
-#[derive(Drop)]
+#[derive(Clone, Copy)]
 pub enum Written {
     Request { len: usize },
     R4,
