@@ -16,7 +16,7 @@ pub const LONGEST_RECORD: u16 = 8;
 pub const NO_LABEL: [u8; LABEL_LENGTH] = [0; LABEL_LENGTH];
 
 // What a record says; Unfit where it fits no kind.
-#[derive(Drop)]
+#[derive(Clone, Copy)]
 pub enum Event {
     Plate {
         total: u8,
