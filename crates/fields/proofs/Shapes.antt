@@ -4,19 +4,19 @@ use mathlib.Core.Bool.{Bool, true, false, not}
 use mathlib.Core.Path.{◌≡◌, refl, sym, ap, ◌∙◌}
 use mathlib.Core.List.{List, [], ◌∷◌}
 use native.Mathlib.Omega.{arith}
-use lib.ListN.{length, length-replicate, replicate-append-replicate}
+use lib.ListN.{length, length-take, length-drop, length-replicate, replicate-append-replicate}
 use lib.Dec.{ltb, eqb}
 use borrow.Author.Tests.{lt-ltb, le-ltb, ltb-true, ltb-false, eq-eqb, ne_eqb}
-use borrow.Rule.Slice.PartMut.{put_mid}
+use borrow.Rule.Slice.PartMut.{put_mid, mid_of, Post-is}
 use types.Run.{OneOf, miss}
 use denote.Enum.Declared.{tag_of}
 use Rattle.meaning.specs.Bytes.{arg, both, differ, put, zeros}
 use Rattle.meaning.specs.State.{Plate, State}
 use Rattle.meaning.specs.Fields.{bytes_of, data_bytes, blocks, exists, attributes, clear, put_status, Survey, survey}
 use Rattle.meaning.specs.Commands.{Answer, refuse, accept, error, choose, wrong_code, create, modify, delete, resize, shape_field}
-use Rattle.meaning.proofs.Puts.{length-clear, put-nothing, put-put}
+use Rattle.meaning.proofs.Puts.{put_all, put-put}
 use Rattle.fields.specs.Memory.{Sits}
-use Rattle.fields.specs.Shape.{stored_as, shaped, grant_code, Clearable, Judged, Shapes}
+use Rattle.fields.specs.Shape.{stored_as, shaped, grant_code, Judged, Shapes}
 use Rattle.fields.specs.declared.change.Change.{Change}
 use Rattle.fields.specs.declared.shape.Grant.{Grant}
 use Rattle.fields.specs.declared.shape.Grant.TheVariants.{Granted, Refused}
@@ -24,44 +24,28 @@ use Rattle.fields.specs.contracts.shape.Grant as declared
 use Rattle.fields.proofs.Pieces.{mid_put}
 use Rattle.fields.proofs.Tables.{blocks-some}
 
--- one block more, lent and come back as 00h
-clear-more : (m : List ℕ) (b n at : ℕ) (ys : List ℕ) → at ≡ bytes_of (b + n) → at ≤ length m → ys ≡ zeros 16 → put_mid at (at + 16 - at) (clear m b n) ys ≡ clear m b (n + 1)
-unfolding clear
-clear-more m b n at ys p h e =
-    let k : length (zeros (bytes_of n)) ≡ bytes_of n = length-replicate _ _ in
-    let i : bytes_of n + 16 ≡ bytes_of (n + 1) = omega arith in
-    mid_put (clear m b n) at (at + 16) ys (omega arith) (rw e (omega arith)) ∙ ap (put (clear m b n) at) e
-    ∙ put-put m (bytes_of b) (zeros (bytes_of n)) (zeros 16) at (omega arith) (omega arith)
-    ∙ ap (put m (bytes_of b)) (replicate-append-replicate (bytes_of n) 16 0 ∙ ap zeros i)
+-- the front of a part is 00h up to i, and the piece after it comes back as 00h
+pub clear_more : (old : List ℕ) (i to : ℕ) (ys : List ℕ) → i ≤ to → to ≤ length old → ys ≡ zeros (to - i)
+    → put_mid i (to - i) (put old 0 (zeros i)) ys ≡ put old 0 (zeros to)
+clear_more old i to ys h k e =
+    let n : length (zeros i) ≡ i = length-replicate _ _ in
+    let j : i + (to - i) ≡ to = omega arith in
+    mid_put (put old 0 (zeros i)) i to ys h (rw e (length-replicate _ _)) ∙ ap (put (put old 0 (zeros i)) i) e
+    ∙ put-put old 0 (zeros i) (zeros (to - i)) i (omega arith) (omega arith)
+    ∙ ap (put old 0) (replicate-append-replicate i (to - i) 0 ∙ ap zeros j)
 
--- the loop over a run of blocks has come to this one: those before it are cleared
-pub record Cleared (old : List ℕ) (run : Change) (now : List ℕ) (block : ℕ) : Type 0 where
-  pub from : run.from ≤ block
-  pub to : block ≤ run.to
-  pub is : now ≡ clear old run.from (block - run.from)
-  pub long : length now ≡ length old
+-- .. up to its end
+pub clear_end : (old : List ℕ) (i : ℕ) → i ≡ length old → put old 0 (zeros i) ≡ zeros (length old)
+clear_end old i e = ap (λ (k : ℕ). put old 0 (zeros k)) e ∙ put_all old (zeros (length old)) (sym (length-replicate _ _))
 
-module _ {old : List ℕ} {run : Change} (h : Clearable old run) where
-  pub cleared-none : Cleared old run old run.from
-  unfolding clear
-  cleared-none =
-      let e : run.from - run.from ≡ 0 = omega arith in
-      record { from = omega arith; to = h.run; is = rw e (put-nothing old (bytes_of run.from)); long = refl }
-
-  pub cleared_more : {now : List ℕ} {block : ℕ} → Cleared old run now block → block < run.to → (at : ℕ) → at ≡ bytes_of block → (ys : List ℕ) → ys ≡ zeros 16
-      → Cleared old run (put_mid at (at + 16 - at) now ys) (block + 1)
-  cleared_more {now} {block} c l at p ys e =
-      let n : ℕ = block - run.from in
-      let i : n + 1 ≡ block + 1 - run.from = omega (arith, c.from) in
-      let w = h.within in
-      let is : put_mid at (at + 16 - at) now ys ≡ clear old run.from (block + 1 - run.from) =
-      rw c.is (clear-more old run.from n at ys (omega (arith, c.from)) (omega arith) e ∙ ap (clear old run.from) i) in
-      record {
-        from = omega (arith, c.from);
-        to = omega arith;
-        is = is;
-        long = ap length is ∙ length-clear old run.from (block + 1 - run.from) (omega (arith, c.from));
-      }
+-- a run lent from the middle and come back cleared
+pub part_cleared : (m : List ℕ) (b n from to : ℕ) (ys : List ℕ) → from ≡ bytes_of b → to ≡ bytes_of (b + n) → to ≤ length m
+    → ys ≡ zeros (length (mid_of from (to - from) m)) → put_mid from (to - from) m ys ≡ clear m b n
+unfolding clear put
+part_cleared m b n from to ys p q h e =
+    let k : length (mid_of from (to - from) m) ≡ bytes_of n = simp (length-take, length-drop) (omega arith) in
+    let i : from + bytes_of n ≡ to = omega arith in
+    rw (e, k, Post-is from to m (omega arith), length-replicate, ← p, i)
 
 -- the status, lent and come back as another
 pub status-put : (t : ℕ) (m : List ℕ) (f st at : ℕ) → at ≡ data_bytes t + f → put_mid at (at + 1 - at) m (st ∷ []) ≡ put_status t m f st

@@ -3,7 +3,7 @@ use Rattle.std.specs.Prelude.{ℕ, ◌-◌, ◌≤◌, ◌<◌, true, ◌≡◌,
 use Rattle.std.specs.Int.Signed.{mag}
 use Rattle.meaning.specs.Bytes.{pick, arg}
 use Rattle.meaning.specs.State.{Plate, State}
-use Rattle.meaning.specs.Fields.{bytes_of, exists, clear, Survey, survey, put_status}
+use Rattle.meaning.specs.Fields.{exists, clear, Survey, survey, put_status}
 use Rattle.meaning.specs.Commands.{Answer, refuse, accept, shape_field}
 use Rattle.fields.specs.declared.change.Change.{Change}
 use Rattle.fields.specs.declared.shape.Grant.{Grant}
@@ -38,12 +38,6 @@ pub record Room (t f : ℕ) (c : Change) : Type 0 where
 abbrev pub SitsIn : ℕ → ℕ → Grant → Type 0
 SitsIn t f (Granted c) = Room t f c
 SitsIn t f (Refused e) = Unit
-
--- the run of blocks lies in the memory
-pub record Clearable (m : List ℕ) (c : Change) : Type 0 where
-  pub run : c.from ≤ c.to
-  pub within : bytes_of c.to ≤ length m
-  pub few : c.to ≤ 65535
 
 -- .. for the field that a request's data d names
 pub record Settable (t : ℕ) (m d : List ℕ) (c : Change) : Type 0 where

@@ -1,8 +1,8 @@
 // A change in a field's blocks: counted with its sign, and done in memory (01, "The change in blocks is a signed number").
 ghost use Rattle.std.specs.Prelude.{◌≡◌, ◌+◌, ◌-◌, ◌≤◌, min, max, length, ltb, pos, ◌-ℤ◌};
-ghost use Rattle.meaning.specs.Bytes.{arg};
+ghost use Rattle.meaning.specs.Bytes.{arg, zeros};
 ghost use Rattle.meaning.specs.Fields as meaning;
-ghost use Rattle.fields.specs.Shape.{Chargeable, Clearable, Settable, stored_as};
+ghost use Rattle.fields.specs.Shape.{Chargeable, Settable, stored_as};
 
 use crate::cells::set_cells;
 use crate::sizes::{BLOCK, bytes_of, least, most};
@@ -37,22 +37,21 @@ pub(crate) fn lacks_room(free: usize, new: u8, old: u8) -> bool
     charged(free, change_of(new, old)) < 0
 }
 
-// 01, "Blocks granted and blocks given back are set to 00h", one after the other.
-fn clear(memory: &mut [u8], run: Change)
-    requires { Clearable memory.old run }
-    ensures { memory.new ≡ meaning.clear memory.old run.from (run.to - run.from) }
+// At most a block at a time, and only the cells that are not 00h (02, Req 05).
+fn clear(part: &mut [u8])
+    ensures { part.new ≡ zeros (length part.old) }
 {
     let blank = [0u8; BLOCK];
-    let mut block = run.from;
-    while block < run.to {
-        let from = bytes_of(block);
-        let to = from + BLOCK;
-        set_cells(&mut memory[from..to], &blank);
-        block += 1;
+    let mut i = 0;
+    while i < part.len() {
+        let to = i + least(part.len() - i, BLOCK);
+        set_cells(&mut part[i..to], &blank[..to - i]);
+        i = to;
     }
 }
 
 // The status that is stored: 00h where bit 7 is clear, for then the field goes (01, "00h where no field is").
+#[tactic(auto, unfolding(crate::specs::Shape::stored_as))]
 fn stored_as(asked: u8) -> u8
     ensures { result ≡ stored_as asked }
 {
@@ -62,13 +61,15 @@ fn stored_as(asked: u8) -> u8
     0
 }
 
-// The run of blocks is set to 00h, then the status is set. Field and status are read from the request when they are needed, so that nothing of it is held
-// meanwhile.
+// 01, "Blocks granted and blocks given back are set to 00h": that run of memory is lent on and cleared, then the status is stored. Field and status
+// are read from the request when they are needed, so that nothing of it is held meanwhile.
 pub(crate) fn apply(memory: &mut [u8], total: usize, request: &[u8], change: Change)
     requires { Settable total memory.old request.now change }
     ensures { memory.new ≡ meaning.put_status total (meaning.clear memory.old change.from (change.to - change.from)) (arg request.now 0) (stored_as (arg request.now 1)) }
 {
-    clear(memory, change);
+    let from = bytes_of(change.from);
+    let to = bytes_of(change.to);
+    clear(&mut memory[from..to]);
     let at = bytes_of(total) + request[0] as usize;
     let status = [stored_as(request[1])];
     set_cells(&mut memory[at..at + 1], &status);

@@ -3,7 +3,7 @@ ghost use Rattle.std.specs.Prelude.{◌≡◌};
 ghost use Rattle.fields.specs.Memory.{trust_of};
 
 // Of how many blocks; whether the table is sound; the number of fields; the free blocks; of the named field its first block and its status.
-#[derive(Drop)]
+#[derive(Clone, Copy)]
 pub struct Survey {
     pub total: usize,
     pub sound: bool,

@@ -6,6 +6,7 @@ ghost use Rattle.meaning.specs.Fields.{coded};
 ghost use Rattle.meaning.specs.Commands.{wrong_code};
 
 // Bit 3: code wanted.
+#[tactic(auto, unfolding(meaning::specs::Fields::coded))]
 pub(crate) fn wants_code(status: u8) -> bool
     ensures { result ≡ coded status }
 {
@@ -13,6 +14,7 @@ pub(crate) fn wants_code(status: u8) -> bool
 }
 
 // Whether the code is not the one that the status names.
+#[tactic(auto, unfolding(meaning::specs::Commands::wrong_code, meaning::specs::State::code))]
 pub(crate) fn is_wrong_code(codes: &[u8], status: u8, code: u8) -> bool
     requires { length codes.now ≡ 4 }
     ensures { (s : State) → s.codes ≡ codes.now → result ≡ wrong_code s status code }

@@ -8,7 +8,7 @@ use crate::seen::Survey;
 use crate::sizes::{bytes_of, less};
 
 // How many fields stand at the front, and their blocks.
-#[derive(Drop)]
+#[derive(Clone, Copy)]
 pub struct Tally {
     pub fields: usize,
     pub blocks: usize,

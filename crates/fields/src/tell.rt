@@ -34,6 +34,7 @@ pub fn field_status(seen: Survey, request: &[u8], room: &mut [u8]) -> Answer
 }
 
 // 4Eh: the byte that tells the free blocks.
+#[tactic(auto, unfolding(meaning::specs::Commands::free_byte))]
 fn free_byte(free: usize) -> u8
     requires { free ≤ 255 }
     ensures { result ≡ free_byte free }
