@@ -12,6 +12,7 @@ use line::Plate;
 use wire::codes::LABEL_LENGTH;
 
 // R1 of another length or another layout, before anything else is read.
+#[tactic(auto, unfolding(crate::specs::Image::is_ours))]
 pub fn is_ours(image: &[u8]) -> bool
     ensures { result ≡ is_ours image.now }
 {
@@ -27,6 +28,7 @@ fn number(byte: u8) -> u32
     byte as u32
 }
 
+#[tactic(auto, unfolding(crate::specs::Image::plate_of_head))]
 pub fn plate_in(image: &[u8]) -> Plate
     requires { image_length ≤ length image.now }
     ensures { result ≡ plate_of_head image.now }
@@ -42,8 +44,8 @@ pub fn plate_in(image: &[u8]) -> Plate
 
 // A possible plate's numbers are bytes. The label goes by an array, whose length is known, so that it is copied in a few steps.
 pub fn put_head(plate: Plate, label: &[u8], image: &mut [u8])
-    requires label_value { plate_ok (plate_of plate label.now) ≡ true }
-    requires image_length_in_bounds { image_length ≤ length image.old }
+    requires possible_plate { plate_ok (plate_of plate label.now) ≡ true }
+    requires whole_image { image_length ≤ length image.old }
     ensures { image.new ≡ put image.old 0 (head_of (plate_of plate label.now)) }
 {
     let numbers = [

@@ -30,6 +30,7 @@ fn flags_ok(core: &[u8]) -> bool
 }
 
 // 01, R1, of what a core may hold and the board's own state may not.
+#[tactic(auto, unfolding(crate::specs::Image::is_core))]
 pub fn is_core(core: &[u8]) -> bool
     ensures { result ≡ is_core core.now }
 {
@@ -61,6 +62,7 @@ fn counter_in(core: &[u8]) -> u32
 }
 
 // The waiting codes and the lock.
+#[tactic(auto, unfolding(crate::specs::Image::state_in))]
 pub fn faults_in(core: &[u8]) -> Faults
     requires { core_length ≤ length core.now }
     ensures { result ≡ (state_in core.now).faults }
@@ -74,6 +76,7 @@ pub fn faults_in(core: &[u8]) -> Faults
     }
 }
 
+#[tactic(auto, unfolding(crate::specs::Image::state_in))]
 pub fn state_in(core: &[u8]) -> State
     requires { core_length ≤ length core.now }
     ensures { result ≡ state_in core.now }
@@ -95,6 +98,7 @@ pub fn state_in(core: &[u8]) -> State
     }
 }
 
+#[tactic(auto, unfolding(crate::specs::Image::frame_in))]
 pub fn frame_in(core: &[u8]) -> OpenFrame
     requires { core_length ≤ length core.now }
     ensures { result ≡ frame_in core.now }
@@ -110,6 +114,7 @@ pub fn frame_in(core: &[u8]) -> OpenFrame
 }
 
 // The state of a board that was off, from the bytes that last.
+#[tactic(auto, unfolding(crate::specs::Image::rested_in))]
 pub fn lasting_in(lasting: &[u8]) -> State
     requires { lasting_length ≤ length lasting.now }
     ensures { result ≡ rested_in lasting.now }

@@ -19,6 +19,7 @@ use line::OpenFrame;
 use state::{Effect, Faults, Noting, State};
 use wire::codes::{COUNTER_OVERFLOW, LONGEST_REQUEST};
 
+#[tactic(auto, unfolding(crate::specs::Image::flag_byte))]
 fn flag_byte(on: bool) -> u8
     ensures { result ≡ flag_byte on }
 {
@@ -63,6 +64,7 @@ fn state_row(state: State, locked: u8) -> [u8; 21]
 }
 
 // The flags come as bytes.
+#[tactic(auto, unfolding(crate::specs::Writes::frame_row))]
 fn frame_row(frame: OpenFrame, begun: u8, longer: u8, parity: u8) -> [u8; 9]
     ensures { result ≡ frame_row frame begun longer parity }
 {
@@ -73,8 +75,8 @@ fn frame_row(frame: OpenFrame, begun: u8, longer: u8, parity: u8) -> [u8; 9]
 }
 
 fn put_state(state: State, core: &mut [u8])
-    requires counter_le_last_count { state.counter ≤ last_count }
-    requires frame_at_in_bounds { frame_at ≤ length core.old }
+    requires counter_limit { state.counter ≤ last_count }
+    requires room_for_state { frame_at ≤ length core.old }
     ensures { PutsState state core.old core.new }
 {
     let faults = state.faults;
@@ -140,7 +142,7 @@ pub fn note(code: u8, core: &mut [u8])
 }
 
 fn put_counter(counter: u32, core: &mut [u8])
-    requires counter_le_last_count { counter ≤ last_count }
+    requires counter_limit { counter ≤ last_count }
     requires holds_state { HoldsState core.old }
     ensures { PutsState (counter_set (state_in core.old) counter) core.old core.new }
 {
@@ -197,8 +199,8 @@ pub fn put_frame(frame: OpenFrame, core: &mut [u8])
 }
 
 pub fn put_board(state: State, frame: OpenFrame, core: &mut [u8])
-    requires counter_le_last_count { state.counter ≤ last_count }
-    requires core_len { length core.old ≡ core_length }
+    requires counter_limit { state.counter ≤ last_count }
+    requires whole_core { length core.old ≡ core_length }
     ensures { PutsBoard state frame core.old core.new }
 {
     put_state(state, core);
