@@ -5,8 +5,8 @@ vectors.py SECOND_PROGRAM [TAPES [EVENTS [SEED]]]
 
 Each generated tape of at most 16 blocks is cut after EVENTS records, answered by the second program, and written as two
 claims: the replies that `step` computes are those that the second program printed, and the ticks that `carried` computes after
-each character and poll are those that it printed with --remaining. The checker computes every claim, in a copy of
-crates/meaning, so nothing of the comparison is left in the project.
+each character and poll are those that it printed with --remaining. The checker computes every claim, in a crate over a copy of
+crates/meaning, so nothing of the comparison is left in the project. The copy has the library that rt built of meaning, where there is one: then meaning is not proved again.
 """
 
 import os
@@ -20,20 +20,24 @@ ROOT = os.path.dirname(os.path.dirname(os.path.abspath(__file__)))
 PLATE, CHARACTER, POLL, MEASURED, FAULT, POWER_ON = range(1, 7)
 MOST_BLOCKS = 16
 
+ROOT_FILE = """// The second program's lines, claimed of meaning's definitions (proofs/). There is no code here.
+#![tactic(auto)]
+"""
+
 HEADER = """-- Lines that the second program printed, claimed of the definitions. Assumes nothing.
 use Prim.Native.Nat.{ℕ}
 use mathlib.Core.Bool.{Bool, true, false}
-use mathlib.Core.List.{List, [], _∷_}
+use mathlib.Core.List.{List, [], ◌∷◌}
 use lib.Dec.{T}
 """
 
 DEFINITIONS = """
-abbrev tickOf : Call → ℕ
-tickOf (character now v bad) = now
-tickOf (poll now) = now
-tickOf (measured n) = 0
-tickOf (fault c) = 0
-tickOf power-on = 0
+abbrev stamp_of : Call → ℕ
+stamp_of (character now v bad) = now
+stamp_of (poll now) = now
+stamp_of (measured n) = 0
+stamp_of (fault c) = 0
+stamp_of power_on = 0
 
 unfoldable spoke : ℕ → List ℕ → List (List ℕ) → List (List ℕ)
 spoke n [] r = r
@@ -43,19 +47,19 @@ unfoldable lines : Plate → State → List ℕ → List Call → List (List ℕ
 lines p s m [] = []
 lines p s m (g ∷ gs) =
     let o = step p s m g in
-    spoke (tickOf g) (o .reply) (lines p (o .state) (o .memory) gs)
+    spoke (stamp_of g) o.reply (lines p o.state o.memory gs)
 
 -- the ticks that an answer carries, behind 1; 0 alone where no frame is open
-unfoldable carriedTicks : Carried → List (List ℕ) → List (List ℕ)
-carriedTicks nothing r = r
-carriedTicks (carries no-frame-open) r = (0 ∷ []) ∷ r
-carriedTicks (carries (ticks-left n)) r = (1 ∷ n ∷ []) ∷ r
+unfoldable carried_ticks : Carried → List (List ℕ) → List (List ℕ)
+carried_ticks nothing r = r
+carried_ticks (carries no_frame_open) r = (0 ∷ []) ∷ r
+carried_ticks (carries (ticks_left n)) r = (1 ∷ n ∷ []) ∷ r
 
 unfoldable sleeps : Plate → State → List ℕ → List Call → List (List ℕ)
 sleeps p s m [] = []
 sleeps p s m (g ∷ gs) =
     let o = step p s m g in
-    carriedTicks (carried p (o .state) g) (sleeps p (o .state) (o .memory) gs)
+    carried_ticks (carried p o.state g) (sleeps p o.state o.memory gs)
 
 unfoldable alike : List (List ℕ) → List (List ℕ) → Bool
 alike [] [] = true
@@ -64,14 +68,14 @@ alike (x ∷ xs) [] = false
 alike (x ∷ xs) (y ∷ ys) = both (same x y) (alike xs ys)
 
 unfoldable prints : Plate → List Call → List (List ℕ) → Bool
-prints p gs ls = alike (lines p (fresh p) (zeros (memoryLength (p .total))) gs) ls
+prints p gs ls = alike (lines p (fresh p) (zeros (memory_length p.total)) gs) ls
 
 unfoldable tells : Plate → List Call → List (List ℕ) → Bool
-tells p gs ls = alike (sleeps p (fresh p) (zeros (memoryLength (p .total))) gs) ls
+tells p gs ls = alike (sleeps p (fresh p) (zeros (memory_length p.total)) gs) ls
 """
 
-OWN = ["spoke", "lines", "carriedTicks", "sleeps", "alike", "prints", "tells"]
-CASES = {"Run": ["character", "poll", "measured", "fault", "power-on", "nothing", "carries"], "Characters": ["no-frame-open", "ticks-left"]}
+OWN = ["spoke", "lines", "carried_ticks", "sleeps", "alike", "prints", "tells"]
+CASES = {"Run": ["character", "poll", "measured", "fault", "power_on", "nothing", "carries"], "Characters": ["no_frame_open", "ticks_left"]}
 
 
 def records(tape):
@@ -96,7 +100,7 @@ def call(kind, body):
         return "measured %d" % struct.unpack("<I", body)
     if kind == FAULT:
         return "fault 0x%02X" % body[0]
-    return "power-on"
+    return "power_on"
 
 
 def as_list(items):
@@ -128,7 +132,7 @@ def case_of(second, tape, events):
     for line in printed[1:]:
         tick, *values = line.split(" ")
         replies.append("(%s)" % as_list([tick] + ["0x" + value for value in values]))
-    fields = "total = %d; bits = %d; address = %d; ticks = %d; pause = %d; label = zeros labelLength" % tuple(plate)
+    fields = "total = %d; bits = %d; address = %d; ticks = %d; pause = %d; label = zeros label_length" % tuple(plate)
     sleeps = [ticks_of(line) for line in answered(second, tape[:found[-1][2]], "--remaining")[1:]]
     claims = ["T (%s (record { %s }) (%s) (%s))" % (what, fields, as_list(calls), as_list(lines)) for what, lines in (("prints", replies), ("tells", sleeps))]
     return claims, len(calls), len(replies), len(sleeps)
@@ -143,9 +147,28 @@ def names_of(specs):
         shut = [w[2] for w in words if w[:2] == ["unfoldable", "pub"] and w[2] != "use"]
         types = [w[2] for w in words if w[:2] in (["pub", "record"], ["pub", "data"])]
         opened = [w[2] for w in words if w[:2] == ["abbrev", "pub"]]
-        imports.append("use Rattle·meaning·specs.specs.%s.{%s}\n" % (name, ", ".join(shut + opened + types + CASES.get(name, []))))
+        imports.append("use Rattle.meaning.specs.%s.{%s}\n" % (name, ", ".join(shut + opened + types + CASES.get(name, []))))
         unfolding += shut
     return "".join(imports), " ".join(OWN + unfolding)
+
+
+def crate_of(claims, work):
+    """A repository in the folder, of meaning and of a crate that claims these: that crate's folder."""
+    meaning, crate = (os.path.join(work, "crates", name) for name in ("meaning", "vectors"))
+    shutil.copytree(os.path.join(ROOT, "crates", "meaning"), meaning, ignore=shutil.ignore_patterns("incremental"))
+    imports, unfolding = names_of(os.path.join(meaning, "specs"))
+    lemmas = ["\ncase_%d : %s\nunfolding %s\ncase_%d = tt\n" % (number, claim, unfolding, number) for number, claim in enumerate(claims)]
+    files = {
+        os.path.join(work, "crates.txt"): "meaning:\nvectors: meaning\n",
+        os.path.join(crate, "src", "lib.rt"): ROOT_FILE,
+        os.path.join(crate, "proofs", "Lib.antt"): "-- The claims.\npub mod Vectors\n",
+        os.path.join(crate, "proofs", "Vectors.antt"): HEADER + imports + DEFINITIONS + "".join(lemmas),
+    }
+    for path, text in files.items():
+        os.makedirs(os.path.dirname(path), exist_ok=True)
+        with open(path, "w", encoding="utf-8") as file:
+            file.write(text)
+    return crate
 
 
 def main():
@@ -161,19 +184,8 @@ def main():
             with open(os.path.join(tapes, name), "rb") as file:
                 cases.append(case_of(second, file.read(), events))
         cases = [case for case in cases if case]
-        copy = os.path.join(work, "crates", "meaning")
-        shutil.copytree(os.path.join(ROOT, "crates", "meaning"), copy)
-        shutil.rmtree(os.path.join(copy, "must-fail"))
-        with open(os.path.join(work, "crates.txt"), "w") as file:
-            file.write("meaning:\n")
-        imports, unfolding = names_of(os.path.join(copy, "specs"))
-        with open(os.path.join(copy, "proofs", "Vectors.antt"), "w", encoding="utf-8") as file:
-            file.write(HEADER + imports + DEFINITIONS)
-            for number, claim in enumerate(claim for case in cases for claim in case[0]):
-                file.write("\ncase-%d : %s\nunfolding %s\ncase-%d = tt\n" % (number, claim, unfolding, number))
-        with open(os.path.join(copy, "proofs", "Lib.antt"), "a") as file:
-            file.write("pub mod Vectors\n")
-        checked = subprocess.run(["rt", "check", "meaning"], cwd=work, stdout=subprocess.PIPE, stderr=subprocess.STDOUT)
+        crate = crate_of([claim for case in cases for claim in case[0]], work)
+        checked = subprocess.run(["rt", "check"], cwd=crate, stdout=subprocess.PIPE, stderr=subprocess.STDOUT)
         if checked.returncode or not cases:
             sys.exit(checked.stdout.decode()[-3000:] + "\nvectors: the definitions differ from the second program")
         sums = [sum(case[place] for case in cases) for place in (1, 2, 3)]
