@@ -1,5 +1,5 @@
 -- The judgement of a closed frame, steps 1 to 6, and how the meaning's ending follows from it (01, "judged in this order"). Assumes nothing.
-use Rattle.std.specs.Prelude.{ℕ, Bool, not, List, length, ◌==◌, nat_lt}
+use Rattle.std.specs.Prelude.{ℕ, Bool, not, List, length, eqb, ltb}
 use Rattle.meaning.specs.Bytes.{pick, either, arg, differ}
 use Rattle.meaning.specs.State.{Plate, State}
 use Rattle.meaning.specs.Commands.{command_of, row, asked, refuse, worked}
@@ -10,16 +10,16 @@ use Rattle.line.specs.declared.judge.Judgement.TheVariants.{Short, Elsewhere, Fa
 
 -- 01, "Broadcast FFh is taken too"
 unfoldable pub addressed : ℕ → ℕ → Bool
-addressed to own = either (to == own) (to == 0xFF)
+addressed to own = either (eqb to own) (eqb to 0xFF)
 
 -- 01, "judged in this order", 1: a frame that is passed over in silence
 unfoldable pub is_silent : ℕ → List ℕ → Bool
-is_silent own bytes = either (nat_lt (length bytes) 3) (not (addressed (arg bytes 0) own))
+is_silent own bytes = either (ltb (length bytes) 3) (not (addressed (arg bytes 0) own))
 
 -- 01, "judged in this order", 1 to 6: silence, silence, 09h, 0Ah, 0Ch, 0Bh, 0Ch; `own` is the board's own address byte
 unfoldable pub judgement_of : ℕ → Frame → Judgement
 judgement_of own b =
-    pick (nat_lt (length b.bytes) 3) Short
+    pick (ltb (length b.bytes) 3) Short
     (pick (not (addressed (arg b.bytes 0) own)) Elsewhere
     (pick b.parity (Fault 0x09)
     (pick (differ b.sum 0) (Fault 0x0A)
