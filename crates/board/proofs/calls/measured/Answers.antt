@@ -1,6 +1,7 @@
 -- What is left to show of `board::calls::measured`.
 use Rattle.std.proofs.Common.{refl}
-use Rattle.meaning.specs.Run.{step, still, closes, lends}
+use Rattle.meaning.specs.Run.{step, closes, lends}
+use Rattle.meaning.specs.Frames.{still}
 use Rattle.board.proofs.Stepping.{tells}
 use Rattle.board.proofs.calls.measured.Goals as goal
 

@@ -1,6 +1,7 @@
 -- What is left to show of `board::calls::power_on`.
 use Rattle.std.proofs.Common.{refl}
-use Rattle.meaning.specs.Run.{step, still, closes, lends}
+use Rattle.meaning.specs.Run.{step, closes, lends}
+use Rattle.meaning.specs.Frames.{still}
 use Rattle.board.proofs.Stepping.{tells, dropped_few}
 use Rattle.board.proofs.calls.power_on.Goals as goal
 
