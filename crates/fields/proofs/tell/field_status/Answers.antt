@@ -11,8 +11,10 @@ bounds-request-0 c = omega (arith, asked_4c c.args.request.now c.requires.wanted
 pub returns-in_default : goal.returns-in_default
 returns-in_default c p s m e =
     rw c.code.ensures
-    (works-refuse _ m c.args.room.now _ (status-refused p s m c.args.request.now _ (c.find_field-found.ensures p.total m e) (ap (tag_of declared.the_type) c.in_default.is)))
+    (works-refuse _ m c.args.room.now _
+    (status-refused p s m c.args.request.now _ (c.find_field-found.ensures p.total m e) (ap (tag_of declared.the_type) c.in_default.is)))
 
 pub returns : goal.returns
 returns c p s m e =
-    works-accept _ m c.args.room.now _ s m _ _ (status-told p s m c.args.request.now _ _ _ (c.in-Field.ensures p.total m e)) c.reply_two.ensures
+    works-accept _ m c.args.room.now _ s m _ _ (status-told p s m c.args.request.now _ _ _ (c.in-Field.ensures p.total m e))
+    c.reply_two.ensures
