@@ -1,5 +1,5 @@
 -- A closed frame by its judgement: silence, an error code, a request worked and answered. Assumes nothing.
-use Prim.Native.Nat.{ℕ, ◌+◌, ◌-◌, ◌≤◌}
+use Prim.Native.Nat.{ℕ, ◌+◌, ◌≤◌}
 use native.Mathlib.Omega.{arith}
 use mathlib.Core.Path.{◌≡◌, refl, sym, ap, ◌∙◌}
 use mathlib.Core.Bool.{true, false, false≢true}
@@ -42,6 +42,13 @@ use Rattle.board.proofs.Sending.{part_length, sealed-length}
 pub unknown_never : (d : List ℕ) → asked unknown d ≡ false
 unfolding asked row length_fits
 unknown_never d = refl
+
+-- a judgement that is no request asks for no work
+pub unasked : (j : Judgement) → ((c : ℕ) → j ≡ Request c → ⊥) → asking j ≡ false
+unasked Short n = refl
+unasked Elsewhere n = refl
+unasked (Fault e) n = refl
+unasked (Request c) n = absurd (n c refl)
 
 -- what an answer leaves, in a room where its data stands already
 record Left (s : meaning.State) (c : ℕ) (m w : List ℕ) (a : commands.Answer) (t : State) (n : ℕ) (m' w' : List ℕ) : Type 0 where

@@ -1,6 +1,6 @@
 -- What is left to show of `board::limits::refusal`.
 use Rattle.std.proofs.Common.{refl}
-use borrow.Author.Tests.{not-true, not-false, lt-ltb, le-ltb}
+use borrow.Author.Tests.{eq-eqb, ne_eqb, lt-ltb, le-ltb}
 use Rattle.board.specs.Board.{refused_as}
 use Rattle.board.proofs.Bounding.{in_order, sized, as_told}
 use Rattle.board.proofs.limits.refusal.Goals as goal
@@ -8,22 +8,22 @@ use Rattle.board.proofs.limits.refusal.Goals as goal
 pub returns-then-not-possible : goal.returns-then-not-possible
 unfolding refused_as
 returns-then-not-possible c =
-    λ x k m g y e h l. as_told (in_order _ _ k m _ g (c.within_limits.ensures x k y) e h l (not-true _ c.if-not-possible.true) refl refl)
+    λ x k m g y e h l. as_told (in_order _ _ k m _ g (c.within_limits.ensures x k y) e h l c.if-not-possible.true refl refl)
 
 pub returns-then-not-sized : goal.returns-then-not-sized
 unfolding refused_as
 returns-then-not-sized c =
-    λ x k m g y e h l. as_told (in_order _ _ k m _ g (c.within_limits.ensures x k y) e h l (not-false _ c.if-not-possible.false)
-    (sized c.args.memory c.memory_length.ensures (not-true _ c.if-not-sized.true)) refl)
+    λ x k m g y e h l. as_told (in_order _ _ k m _ g (c.within_limits.ensures x k y) e h l c.if-not-possible.false
+    (sized c.args.memory c.memory_length.ensures (ne_eqb _ _ c.if-not-sized.true)) refl)
 
 pub returns-then-room-lt-LONGEST_REPLY : goal.returns-then-room-lt-LONGEST_REPLY
 unfolding refused_as
 returns-then-room-lt-LONGEST_REPLY c =
-    λ x k m g y e h l. as_told (in_order _ _ k m _ g (c.within_limits.ensures x k y) e h l (not-false _ c.if-not-possible.false)
-    (sized c.args.memory c.memory_length.ensures (not-false _ c.if-not-sized.false)) (lt-ltb _ _ c.if-room-lt-LONGEST_REPLY.true))
+    λ x k m g y e h l. as_told (in_order _ _ k m _ g (c.within_limits.ensures x k y) e h l c.if-not-possible.false
+    (sized c.args.memory c.memory_length.ensures (eq-eqb _ _ c.if-not-sized.false)) (lt-ltb _ _ c.if-room-lt-LONGEST_REPLY.true))
 
 pub returns : goal.returns
 unfolding refused_as
 returns c =
-    λ x k m g y e h l. as_told (in_order _ _ k m _ g (c.within_limits.ensures x k y) e h l (not-false _ c.if-not-possible.false)
-    (sized c.args.memory c.memory_length.ensures (not-false _ c.if-not-sized.false)) (le-ltb _ _ c.if-room-lt-LONGEST_REPLY.false))
+    λ x k m g y e h l. as_told (in_order _ _ k m _ g (c.within_limits.ensures x k y) e h l c.if-not-possible.false
+    (sized c.args.memory c.memory_length.ensures (eq-eqb _ _ c.if-not-sized.false)) (le-ltb _ _ c.if-room-lt-LONGEST_REPLY.false))

@@ -7,7 +7,7 @@ returns-in-Refuse c = λ s o e. error-sent s _ _ c.in-Refuse.is o (c.marked.ensu
 
 pub returns-in-Accept : goal.returns-in-Accept
 returns-in-Accept c =
-    λ s o e. data_sent s _ _ c.in-Accept.is (brief_data c.requires.brief c.in-Accept.is) c.requires.room o (c.marked.ensures _ e) c.seal.ensures
+    λ s o e. data_sent s _ _ c.in-Accept.is (brief_data c.requires.brief c.in-Accept.is) c.requires.room o (c.marked-in-Accept.ensures _ e) c.seal.ensures
 
 pub returns-in-Quiet : goal.returns-in-Quiet
 returns-in-Quiet c = λ s o e. none-sent s _ _ c.in-Quiet.is
