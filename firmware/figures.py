@@ -2,7 +2,8 @@
 """The figures of the libraries on Arm: measures them and writes the tables of docs/FIRMWARE.md.
 
     figures.py [--libraries FOLDER] [--page FILE]             measures, and writes the tables into the page
-    figures.py [--libraries FOLDER] [--page FILE] --check     measures again, and fails with the first lines that differ if the page has other figures
+    figures.py [--libraries FOLDER] [--page FILE] --check     measures again, and fails with the first lines that differ if the page has other figures; where they are
+                                                              another kit's they are not compared, and only what must hold of any library is held
 
 FOLDER is one of firmware/build.sh. The tables stand in the page between two marks each, and all else in it stays. Sizes and bounds of the stack are read from
 the compiled code; instructions and the stack that was used are measured on emulated boards (counted.py). Without the emulator only the first are compared.
@@ -151,7 +152,7 @@ def bounds(libraries: Libraries, core: str) -> Bounds:
             with_memory[entry] = code.with_(memory).most(entry)
     if needed - set(memory.frames):
         raise Failure(f"{core}: board/memory.c lacks {', '.join(sorted(needed - set(memory.frames)))}")
-    return Bounds(alone, with_memory, max(memory.most(name) for name in needed))
+    return Bounds(alone, with_memory, max((memory.most(name) for name in needed), default=0))
 
 
 def stack(by_core: Dict[str, Bounds], measured: Dict[str, int]) -> List[str]:
@@ -274,7 +275,8 @@ def differences(page: Page, parts: Dict[str, List[str]], with_emulator: bool) ->
 
 def check(page: Page, libraries: Libraries):
     if page.kit() != kit_identity():
-        print(f"figures.py: the figures of {page.path} are another kit's, {page.kit()}, and were not compared")
+        measured(libraries, False)
+        print(f"figures.py: the figures of {page.path} are another kit's, {page.kit()}, and were not compared; libraries have no RAM of their own, and a bound of their stack")
         return
     with_emulator = arm.has_emulator()
     if not with_emulator:
