@@ -3,7 +3,7 @@
 #   answer     the answer program, as the last `rt ci` at the top or `rt run` in crates/answer left it; on another processor with Debian's emulator
 #   library    libquicksetter.a and libhandheld.a themselves; on another processor the module of each, compiled once more by the kit's clang. And
 #              target/libquicksetter.so of the first, which explain.py has its judge from
-# module.sh tells what that rests on. Today's kit runs on x86-64 alone: the ways for another processor were taken with an older one.
+# These are copies, since rt ci takes no link below the checkout. module.sh tells what that rests on. Today's kit runs on x86-64 alone: the ways for another processor were taken with an older one.
 set -euo pipefail
 cd "$(dirname "$0")/.."
 machine=$(uname -m)
@@ -15,17 +15,15 @@ mkdir -p "$here"
 answer() {
     local built=crates/answer/out/answer
     [ -x "$built" ] || fail "there is no $built: rt ci, or rt run in crates/answer, makes it"
-    mkdir -p target/bin
-    rm -f "$here/answer" target/bin/answer
-    cp "$built" target/bin/answer
+    rm -f "$here/answer"
     if [ "$machine" = x86_64 ]; then
-        ln -s ../bin/answer "$here/answer"
+        cp "$built" "$here/answer"
         return
     fi
     local emulator lib=$home/toolchain/lib
     emulator=$(command -v qemu-x86_64) || fail "this machine is $machine, and there is no qemu-x86_64 (of Debian's qemu-user)"
     printf '#!/bin/sh\nexec "%s" "%s" --library-path "%s" "%s" "$@"\n' \
-        "$emulator" "$lib/ld-linux-x86-64.so.2" "$lib" "$PWD/target/bin/answer" >"$here/answer"
+        "$emulator" "$lib/ld-linux-x86-64.so.2" "$lib" "$PWD/$built" >"$here/answer"
     chmod +x "$here/answer"
 }
 
@@ -43,7 +41,8 @@ compiled_here() {
 proved() {
     bash tools/module.sh "$1"
     if [ "$machine" = x86_64 ]; then
-        ln -sf "../staticlib/lib$1.a" "$here/lib$1.a"
+        rm -f "$here/lib$1.a"
+        cp "target/staticlib/lib$1.a" "$here/"
     else
         compiled_here "$1"
     fi
