@@ -16,7 +16,7 @@ import sys
 ROOT = os.path.dirname(os.path.dirname(os.path.abspath(__file__)))
 LONGEST_LINE = 300
 LONGEST_FUNCTION = 40
-EXPORTED = re.compile(r"^(?:abbrev |unfoldable )?pub (?!mod )(?:record |data )?(\S+)")
+EXPORTED = re.compile(r"^(?:abbrev |unfoldable )?pub (?!mod |use )(?:record |data )?(\S+)")
 FUNCTION = re.compile(r"^(\s*)(?:pub(?:\(\w+\))? )?(?:extern \"C\" )?fn (\w+)")
 
 
