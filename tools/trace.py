@@ -15,7 +15,7 @@ ROOT = os.path.dirname(os.path.dirname(os.path.abspath(__file__)))
 PAGES = (("docs/TRACE.md", r"\| ", r"`([^`]+)`"), ("docs/ARCHITECTURE.md", r"", r"`(\w+/src/[^`]+)`"))
 # How a file of each kind defines a name.
 DEFINED = {
-    ".antt": r"^\s*(?:(?:abbrev |unfoldable )?(?:pub )?%s(?: \{\S+\})? :|(?:pub )?(?:data|record) %s )",
+    ".antt": r"^\s*(?:(?:abbrev |unfoldable )?(?:pub )?%s(?: \{[^}]*\})* :|(?:pub )?(?:data|record) %s )",
     ".rt": r"^\s*(?:pub(?:\(crate\))? )?(?:extern \"C\" )?(?:fn|struct|enum|const) %s\b",
     ".c": r"^(?:static )?\w+ \*?%s\(.*\{$",
 }
