@@ -13,14 +13,14 @@ use crate::step::{Standing, Step};
 use crate::wish::{Here, field_here, is_sized};
 
 // The requests answered, and all.
-#[derive(Drop)]
+#[derive(Clone, Copy)]
 pub struct Progress {
     pub answered: usize,
     pub all: usize,
 }
 
 // The requests for the first wanted fields, and for all of them.
-#[derive(Drop)]
+#[derive(Clone, Copy)]
 pub struct Counts {
     pub before: usize,
     pub all: usize,
@@ -46,6 +46,7 @@ fn before_field(k: usize, i: usize, before: usize, all: usize) -> usize
     before
 }
 
+#[tactic(auto, using(crate::proofs::Reading::walk_start, crate::proofs::Reading::walk_none, crate::proofs::Reading::walk_unsized, crate::proofs::Reading::walk_end, crate::proofs::Counting::counting_none, crate::proofs::Counting::counting_done))]
 fn count(tape: &[u8], i: usize) -> Counts
     ensures { RequestsCounted (wish_of tape.now) i result }
 {
@@ -137,6 +138,7 @@ fn stood(tape: &[u8], present: u32, step: Step) -> Progress
 }
 
 impl Programmer {
+    #[tactic(auto, unfolding(crate::specs::Running::progress_of))]
     pub fn progress(self, tape: &[u8]) -> Progress
         ensures { result ≡ progress_of (wish_of tape.now) self }
     {
