@@ -46,7 +46,6 @@ fn before_field(k: usize, i: usize, before: usize, all: usize) -> usize
     before
 }
 
-#[tactic(auto, using(crate::proofs::Reading::walk_start, crate::proofs::Reading::walk_none, crate::proofs::Reading::walk_unsized, crate::proofs::Reading::walk_end, crate::proofs::Counting::counting_none, crate::proofs::Counting::counting_done))]
 fn count(tape: &[u8], i: usize) -> Counts
     ensures { RequestsCounted (wish_of tape.now) i result }
 {

@@ -19,7 +19,7 @@ pub struct Piece {
     pub count: usize,
 }
 
-#[tactic(auto, using(crate::proofs::Asking::wants_found, crate::proofs::Asking::wants_none))]
+#[tactic(auto, using(crate::proofs::Asking::wants_found))]
 pub fn wanted(tape: &[u8], field: u8) -> Piece
     ensures { Wants (wish_of tape.now) tape.now field result }
 {

@@ -12,7 +12,7 @@ use crate::wish::{Wanted, find};
 use bench::Verdict;
 
 // The first i wanted fields are there: the next, or done.
-#[tactic(auto, using(crate::proofs::Asking::making_found, crate::proofs::Asking::making_none))]
+#[tactic(auto, using(crate::proofs::Asking::making_none))]
 fn making(tape: &[u8], i: usize) -> Standing
     ensures { result ≡ steps.making (wish_of tape.now) i }
 {

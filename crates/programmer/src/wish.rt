@@ -90,7 +90,7 @@ fn has_codes(tape: &[u8]) -> bool
 }
 
 // "kind 21h for each field (status with bit 7 set, ..".
-#[tactic(auto, using(crate::proofs::Reading::cut_field, crate::proofs::Reading::other_kind, crate::proofs::Reading::no_body, crate::proofs::Reading::no_bit, crate::proofs::Reading::lies_field))]
+#[tactic(auto, using(crate::proofs::Reading::cut_field, crate::proofs::Reading::other_kind, crate::proofs::Reading::no_body, crate::proofs::Reading::no_bit))]
 pub(crate) fn field_here(tape: &[u8], at: usize) -> Here
     ensures { FieldAt tape.now at result }
 {
@@ -190,7 +190,6 @@ pub fn check(tape: &[u8]) -> Checked
 }
 
 // Wanted field i.
-#[tactic(auto, using(crate::proofs::Reading::walk_start, crate::proofs::Reading::walk_none, crate::proofs::Reading::walk_unsized, crate::proofs::Reading::walk_found, crate::proofs::Reading::walk_more, crate::proofs::Reading::walk_end))]
 pub fn find(tape: &[u8], i: usize) -> Wanted
     ensures { Finds (wish_of tape.now) tape.now i result }
 {
