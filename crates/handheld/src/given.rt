@@ -10,7 +10,7 @@ use programmer::{Checked, Programmer};
 pub const REFUSED: u64 = 0x80000000;
 
 // A run of this tape; or the refusal's number.
-#[derive(Drop)]
+#[derive(Clone, Copy)]
 pub enum Given {
     Run(Programmer),
     Refused(u64),

@@ -77,6 +77,7 @@ fn number_part(why: Why) -> u8
 }
 
 // Five bytes, the low one first.
+#[tactic(auto, unfolding(meaning::specs::Bytes::little))]
 fn five(a: u8, b: u8, c: u8, d: u8, e: u8) -> u64
     ensures { (result ≡ little (a ∷ b ∷ c ∷ d ∷ e ∷ [])) × (result < 0x10000000000) }
 {
@@ -99,6 +100,7 @@ fn standing_number(standing: Standing) -> u64
     }
 }
 
+#[tactic(auto, unfolding(crate::specs::Numbers::run_number))]
 pub(crate) fn run_number(run: Programmer) -> u64
     ensures { result ≡ run_number run }
 {
@@ -107,6 +109,7 @@ pub(crate) fn run_number(run: Programmer) -> u64
     low + 0x10000000000 * (run.present as u64 % 256) + 0x1000000000000 * (run.address as u64 % 256)
 }
 
+#[tactic(auto, unfolding(crate::specs::Numbers::step_in))]
 fn step_in(stage: u8, field: u8, status: u8) -> Step
     ensures { result ≡ step_in stage field status }
 {
@@ -131,6 +134,7 @@ fn step_in(stage: u8, field: u8, status: u8) -> Step
     Step::Lock { field }
 }
 
+#[tactic(auto, unfolding(crate::specs::Numbers::why_in))]
 fn why_in(why: u8, number: u8) -> Why
     ensures { result ≡ why_in why number }
 {
@@ -143,6 +147,7 @@ fn why_in(why: u8, number: u8) -> Why
     Why::Differs
 }
 
+#[tactic(auto, unfolding(crate::specs::Numbers::standing_in))]
 fn standing_in(stage: u8, field: u8, status: u8, why: u8, number: u8) -> Standing
     ensures { result ≡ standing_in stage field status why number }
 {
@@ -162,6 +167,7 @@ fn low_byte(n: u64) -> u8
 }
 
 // What the number would be, if it is one of a run.
+#[tactic(auto, unfolding(crate::specs::Numbers::run_in, crate::specs::Numbers::byte_in))]
 pub(crate) fn run_in(n: u64) -> Programmer
     ensures { result ≡ run_in n }
 {

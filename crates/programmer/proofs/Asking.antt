@@ -68,9 +68,9 @@ unfolding making
 making_found l s i status start n h =
     let e : i % 256 ≡ i = omega (arith, h.low) in rw (lt-ltb i (length l.fields) h.there, e)
 
-pub making-none : (l : Wish) (i : ℕ) → length l.fields ≤ i → Done ≡ making l i
+pub making_none : (l : Wish) (i : ℕ) → length l.fields ≤ i → Done ≡ making l i
 unfolding making
-making-none l i h = rw (le-ltb i (length l.fields) h)
+making_none l i h = rw (le-ltb i (length l.fields) h)
 
 -- what is found is what is due
 module _ (l : Wish) (s : List ℕ) (i : ℕ) (r : Piece) (W : Wants l s i r) (c : ℕ) (e : c ≡ code_for l r.status) where

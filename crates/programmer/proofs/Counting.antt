@@ -126,8 +126,8 @@ module _ (l : Wish) (s : List ℕ) (i : ℕ) where
       → not q ≡ both (ltb i (length l.fields)) (not (writable (wanted l i).status))
   locked_found status start n h q e = rw (lt-ltb i (length l.fields) h.there, h.is, e)
 
-  pub locked-none : length l.fields ≤ i → false ≡ both (ltb i (length l.fields)) (not (writable (wanted l i).status))
-  locked-none h = rw (le-ltb i (length l.fields) h)
+  pub locked_none : length l.fields ≤ i → false ≡ both (ltb i (length l.fields)) (not (writable (wanted l i).status))
+  locked_none h = rw (le-ltb i (length l.fields) h)
 
 -- ---- what a run can have left
 

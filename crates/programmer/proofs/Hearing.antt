@@ -156,6 +156,18 @@ module _ (l : Wish) (x : Programmer) (r : List ℕ) where
       go Done q k = rw (q, same_present)
       go (Failed st w) q k = rw (q, same_present)
 
+  pub hears_ended : ((st : Step) → x.standing ≡ At st → ⊥) → x ≡ hears l x r
+  unfolding hears after_reply
+  hears_ended n = go x.standing refl
+    where
+      same_present : max x.present 0 ≡ x.present
+      same_present = omega arith
+
+      go : (y : Standing) → x.standing ≡ y → x ≡ hears l x r
+      go (At st) q = absurd (n st q)
+      go Done q = rw (q, same_present)
+      go (Failed st w) q = rw (q, same_present)
+
   pub hears_as : (k : ℕ) (y : Standing) → y ≡ after_reply x.address l x.standing r → k ≡ max x.present (still_there y)
       → record { address = x.address; present = k; standing = y } ≡ hears l x r
   unfolding hears

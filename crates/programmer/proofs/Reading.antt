@@ -162,12 +162,12 @@ module _ (s : List ℕ) (at left : ℕ) (w : Checked) where
         ap (λ (k : ℕ). checked_from k w at (drop at s)) (one_more z)
         ∙ opens (left - 1) (drop at s) refl (rw (length-drop at s) (omega arith))
 
-    pub bad-here : (left ≡ 0 → ⊥) → is_field (record_at (drop at s)) ≡ false → BadRecord at ≡ checked_from left w at (drop at s)
-    bad-here z e = sym (enabled z ∙ rw e)
+    pub bad_here : (left ≡ 0 → ⊥) → is_field (record_at (drop at s)) ≡ false → BadRecord at ≡ checked_from left w at (drop at s)
+    bad_here z e = sym (enabled z ∙ rw e)
 
-    pub fault-more : (left ≡ 0 → ⊥) → (start n next : ℕ) → FieldLies s at start n next
+    pub fault_more : (left ≡ 0 → ⊥) → (start n next : ℕ) → FieldLies s at start n next
         → checked_from (left - 1) (first_wrong w (of_its_size (part s start n)) at) next (drop next s) ≡ checked_from left w at (drop at s)
-    fault-more z start n next h =
+    fault_more z start n next h =
         sym (enabled z ∙ rw (h.is, h.body, drop-drop (whole_length (drop at s)) at s, ← h.past))
 
 -- the walk that looks for field i

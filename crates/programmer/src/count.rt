@@ -13,14 +13,14 @@ use crate::step::{Standing, Step};
 use crate::wish::{Here, field_here, is_sized};
 
 // The requests answered, and all.
-#[derive(Drop)]
+#[derive(Clone, Copy)]
 pub struct Progress {
     pub answered: usize,
     pub all: usize,
 }
 
 // The requests for the first wanted fields, and for all of them.
-#[derive(Drop)]
+#[derive(Clone, Copy)]
 pub struct Counts {
     pub before: usize,
     pub all: usize,
@@ -137,6 +137,7 @@ fn stood(tape: &[u8], present: u32, step: Step) -> Progress
 }
 
 impl Programmer {
+    #[tactic(auto, unfolding(crate::specs::Running::progress_of))]
     pub fn progress(self, tape: &[u8]) -> Progress
         ensures { result ≡ progress_of (wish_of tape.now) self }
     {

@@ -23,6 +23,7 @@ fn is_wanted(tape: &[u8], field: u8) -> bool
     }
 }
 
+#[tactic(auto, using(crate::proofs::Counting::locked_found, crate::proofs::Counting::locked_none))]
 fn is_read_only(tape: &[u8], field: u8) -> bool
     ensures { result ≡ both (ltb field (length (wish_of tape.now).fields)) (not (writable (wishes.wanted (wish_of tape.now) field).status)) }
 {
@@ -93,6 +94,7 @@ fn can_stand(tape: &[u8], present: u32, standing: Standing) -> bool
 }
 
 impl Programmer {
+    #[tactic(auto, unfolding(crate::specs::Running::is_possible))]
     pub fn is_possible(self, tape: &[u8]) -> bool
         ensures { result ≡ is_possible (wish_of tape.now) self }
     {

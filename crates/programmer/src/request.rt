@@ -12,13 +12,14 @@ use crate::wish::{Wanted, find};
 use bench::Written;
 
 // A wanted field, or status 00h and no bytes past the last.
-#[derive(Drop)]
+#[derive(Clone, Copy)]
 pub struct Piece {
     pub status: u8,
     pub start: usize,
     pub count: usize,
 }
 
+#[tactic(auto, using(crate::proofs::Asking::wants_found))]
 pub fn wanted(tape: &[u8], field: u8) -> Piece
     ensures { Wants (wish_of tape.now) tape.now field result }
 {
@@ -41,6 +42,7 @@ pub fn wanted(tape: &[u8], field: u8) -> Piece
 }
 
 // The code that a status names, by the tape: the codes stand at place 4.
+#[tactic(auto, using(crate::proofs::Asking::code_is))]
 fn code_for(tape: &[u8], status: u8) -> u8
     ensures { result ≡ code_for (wish_of tape.now) status }
 {
@@ -48,6 +50,7 @@ fn code_for(tape: &[u8], status: u8) -> u8
 }
 
 // "Read-only fields are created write-enabled".
+#[tactic(auto, unfolding(crate::specs::Steps::enabled))]
 fn enabled(status: u8) -> u8
     ensures { result ≡ steps.enabled status }
 {

@@ -12,7 +12,7 @@ use bench::Written;
 use wire::codes::LONGEST_REQUEST;
 
 // The address is that of the board, 0 to 31, or 255 for broadcast; `present` is how many fields the board had, as far as it has told.
-#[derive(Drop)]
+#[derive(Clone, Copy)]
 pub struct Programmer {
     pub address: u32,
     pub present: u32,
@@ -20,7 +20,7 @@ pub struct Programmer {
 }
 
 // "Refusals, in order: bad tape record; body not the field's size": the place of the record's first byte. Then R5, an address that the bench does not write.
-#[derive(Drop)]
+#[derive(Clone, Copy)]
 pub enum Started {
     Ready(Programmer),
     BadRecord { at: usize },
@@ -29,7 +29,7 @@ pub enum Started {
 }
 
 // The length of the request that fills the front of the buffer; or nothing is due any more; or the bench's refusal.
-#[derive(Drop)]
+#[derive(Clone, Copy)]
 pub enum Asked {
     Request { len: usize },
     Over,
@@ -105,6 +105,7 @@ impl Programmer {
     }
 
     // Writes the request that is due.
+    #[tactic(auto, unfolding(crate::specs::Running::asks))]
     pub fn next(self, tape: &[u8], buffer: &mut [u8]) -> Asked
         ensures { asked_of result buffer.new ≡ asks self.address (wish_of tape.now) self.standing buffer.old }
     {

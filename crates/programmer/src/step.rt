@@ -2,7 +2,7 @@
 
 // The request that is due: 4Eh; 4Ch of a field present; 4Dh that deletes it, with the status that was read; and of a wanted field 4Dh that
 // creates it write-enabled, 4Bh, 4Ah, and 4Dh that locks it.
-#[derive(Drop)]
+#[derive(Clone, Copy)]
 pub enum Step {
     Count,
     Look { field: u8 },
@@ -14,7 +14,7 @@ pub enum Step {
 }
 
 // Why a request failed, in the order of the refusals: the check B0 to B6 by its number; the error code; what was read back differs.
-#[derive(Drop)]
+#[derive(Clone, Copy)]
 pub enum Why {
     Judgement(u8),
     Error(u8),
@@ -22,7 +22,7 @@ pub enum Why {
 }
 
 // A failed run keeps the step whose request failed.
-#[derive(Drop)]
+#[derive(Clone, Copy)]
 pub enum Standing {
     At(Step),
     Done,

@@ -12,6 +12,7 @@ use crate::wish::{Wanted, find};
 use bench::Verdict;
 
 // The first i wanted fields are there: the next, or done.
+#[tactic(auto, using(crate::proofs::Asking::making_none))]
 fn making(tape: &[u8], i: usize) -> Standing
     ensures { result ≡ steps.making (wish_of tape.now) i }
 {
@@ -28,6 +29,7 @@ fn making(tape: &[u8], i: usize) -> Standing
 }
 
 // "deletes the fields present from last to first": n are left.
+#[tactic(auto, unfolding(crate::specs::Steps::clearing))]
 fn clearing(tape: &[u8], n: u8) -> Standing
     ensures { result ≡ steps.clearing (wish_of tape.now) n }
 {
@@ -38,6 +40,7 @@ fn clearing(tape: &[u8], n: u8) -> Standing
 }
 
 // "locked afterwards".
+#[tactic(auto, unfolding(crate::specs::Steps::locking))]
 fn locking(tape: &[u8], field: u8) -> Standing
     ensures { result ≡ steps.locking (wish_of tape.now) field }
 {
@@ -59,6 +62,7 @@ fn past_three(answer: &[u8]) -> &[u8]
 }
 
 // "read-back differs".
+#[tactic(auto, using(crate::proofs::Asking::read_differs, crate::proofs::Asking::read_agrees))]
 fn read_back(tape: &[u8], field: u8, answer: &[u8]) -> Standing
     ensures { result ≡ steps.onto (wish_of tape.now) (Step.Read field) answer.now }
 {
@@ -74,6 +78,7 @@ fn read_back(tape: &[u8], field: u8, answer: &[u8]) -> Standing
 }
 
 // Where a good reply leads.
+#[tactic(auto, unfolding(crate::specs::Steps::onto))]
 fn onto(tape: &[u8], step: Step, answer: &[u8]) -> Standing
     ensures { result ≡ steps.onto (wish_of tape.now) step answer.now }
 {

@@ -10,7 +10,7 @@ ghost use Rattle.programmer.specs.Reading.{RecordStands, FieldAt, Finds};
 use records::{Cursor, Read};
 
 // What the check of a tape says: good; a bad record; a body that is not of its field's size. The place is that of the record's first byte.
-#[derive(Drop)]
+#[derive(Clone, Copy)]
 pub enum Checked {
     Good,
     BadRecord { at: usize },
@@ -18,7 +18,7 @@ pub enum Checked {
 }
 
 // What stands at a place: a whole record, with its body's place and length, and the place past it; or none.
-#[derive(Drop)]
+#[derive(Clone, Copy)]
 pub enum Entry {
     Whole {
         kind: u16,
@@ -30,7 +30,7 @@ pub enum Entry {
 }
 
 // A field's record at a place, its size not looked at.
-#[derive(Drop)]
+#[derive(Clone, Copy)]
 pub enum Here {
     Field {
         start: usize,
@@ -41,7 +41,7 @@ pub enum Here {
 }
 
 // A wanted field: its status, and where its bytes stand.
-#[derive(Drop)]
+#[derive(Clone, Copy)]
 pub enum Wanted {
     Field {
         status: u8,
@@ -74,6 +74,7 @@ fn entry_at(tape: &[u8], at: usize) -> Entry
 }
 
 // "first and once kind 20h with the four access codes".
+#[tactic(auto, using(crate::proofs::Reading::head_then, crate::proofs::Reading::head_else, crate::proofs::Reading::no_head))]
 fn has_codes(tape: &[u8]) -> bool
     ensures { result ≡ is_codes (record_at tape.now) }
 {
@@ -89,6 +90,7 @@ fn has_codes(tape: &[u8]) -> bool
 }
 
 // "kind 21h for each field (status with bit 7 set, ..".
+#[tactic(auto, using(crate::proofs::Reading::cut_field, crate::proofs::Reading::other_kind, crate::proofs::Reading::no_body, crate::proofs::Reading::no_bit))]
 pub(crate) fn field_here(tape: &[u8], at: usize) -> Here
     ensures { FieldAt tape.now at result }
 {
@@ -124,6 +126,7 @@ fn size_of(status: u8) -> usize
 }
 
 // ".. then exactly its bytes)".
+#[tactic(auto, using(crate::proofs::Reading::size_is))]
 pub(crate) fn is_sized(tape: &[u8], start: usize, n: usize) -> bool
     requires { (1 ≤ n) × (start + n ≤ length tape.now) }
     ensures { result ≡ of_its_size (part tape.now start n) }
@@ -132,6 +135,7 @@ pub(crate) fn is_sized(tape: &[u8], start: usize, n: usize) -> bool
 }
 
 // The first wrong size is remembered.
+#[tactic(auto, unfolding(crate::specs::Wishes::first_wrong))]
 fn first_wrong(wrong: Checked, fits: bool, at: usize) -> Checked
     ensures { result ≡ specs.first_wrong wrong fits at }
 {
@@ -148,6 +152,7 @@ fn first_wrong(wrong: Checked, fits: bool, at: usize) -> Checked
 }
 
 // The records behind the codes.
+#[tactic(auto, using(crate::proofs::Reading::fault_end, crate::proofs::Reading::none_left, crate::proofs::Reading::bad_here, crate::proofs::Reading::fault_more))]
 fn check_fields(tape: &[u8]) -> Checked
     ensures { result ≡ checked_from 256 Checked.Good 8 (drop 8 tape.now) }
 {
@@ -174,6 +179,7 @@ fn check_fields(tape: &[u8]) -> Checked
 }
 
 // "The whole tape is checked before the first request".
+#[tactic(auto, unfolding(crate::specs::Wishes::checked_tape))]
 pub fn check(tape: &[u8]) -> Checked
     ensures { result ≡ checked_tape tape.now }
 {

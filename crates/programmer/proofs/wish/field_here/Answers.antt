@@ -1,0 +1,8 @@
+-- What is left to show of `programmer::wish::field_here`: a record that passed each test is a field's.
+use Rattle.std.proofs.Common.{◌∙◌, sym}
+use Rattle.programmer.proofs.Reading.{lies_field}
+use Rattle.programmer.proofs.wish.field_here.Goals as goal
+
+pub returns : goal.returns
+returns c =
+    lies_field _ _ _ _ _ _ c.in-Whole.ensures c.if-kind-ne33.false c.if-length-eq0.false (sym c.has_field.ensures ∙ c.if-not-has_field.false)
