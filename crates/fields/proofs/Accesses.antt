@@ -65,10 +65,19 @@ read_told own d w told filled h few room e q =
           ∙ tail_filled told xs 5 (omega arith) ∙ ap (λ (z : List ℕ). put z 5 xs) e ∙ put-put w 2 (named d) xs 5 refl (omega arith);
     }
 
--- what the writer leaves in the field's own part
-pub store_told : (own d cells : List ℕ) (to : ℕ) → length d ≡ 4 + arg d 2 → to ≡ arg d 1 + arg d 2 → cells ≡ take (length d - 4) (drop 4 d)
+-- what the writer leaves in the field's own part: of a tail lent and filled
+pub store_told : (own d filled : List ℕ) → length d ≡ 4 + arg d 2 → arg d 1 + arg d 2 ≤ length own
+    → filled ≡ put (mid_of (arg d 1) (length own - arg d 1) own) 0 (take (length d - 4) (drop 4 d))
+    → put_mid (arg d 1) (length own - arg d 1) own filled ≡ put own (arg d 1) (drop 4 d)
+store_told own d filled len h q =
+    let k : length (drop 4 d) ≡ arg d 2 = simp length-drop (omega arith) in
+    ap (λ (y : List ℕ). put_mid (arg d 1) (length own - arg d 1) own y) (q ∙ ap (λ (z : List ℕ). put (mid_of (arg d 1) (length own - arg d 1) own) 0 z) (rest-is d 4))
+    ∙ tail_filled own (drop 4 d) (arg d 1) (omega arith)
+
+-- .. and of its very cells, set to the bytes
+pub cells_told : (own d cells : List ℕ) (to : ℕ) → length d ≡ 4 + arg d 2 → to ≡ arg d 1 + arg d 2 → cells ≡ take (length d - 4) (drop 4 d)
     → put_mid (arg d 1) (to - arg d 1) own cells ≡ put own (arg d 1) (drop 4 d)
-store_told own d cells to len e q =
+cells_told own d cells to len e q =
     let k : length (drop 4 d) ≡ arg d 2 = simp length-drop (omega arith) in
     ap (λ (y : List ℕ). put_mid (arg d 1) (to - arg d 1) own y) (q ∙ rest-is d 4) ∙ mid_put own (arg d 1) to (drop 4 d) (omega arith) (omega arith)
 

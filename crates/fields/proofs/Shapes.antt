@@ -4,7 +4,7 @@ use mathlib.Core.Bool.{Bool, true, false, not}
 use mathlib.Core.Path.{◌≡◌, refl, sym, ap, ◌∙◌}
 use mathlib.Core.List.{List, [], ◌∷◌}
 use native.Mathlib.Omega.{arith}
-use lib.ListN.{length, length-take, length-drop, length-replicate, replicate-append-replicate}
+use lib.ListN.{length, set, length-take, length-drop, length-replicate, replicate-append-replicate}
 use lib.Dec.{ltb, eqb}
 use borrow.Author.Tests.{lt-ltb, le-ltb, ltb-true, ltb-false, eq-eqb, ne_eqb}
 use borrow.Rule.Slice.PartMut.{put_mid, mid_of, Post-is}
@@ -14,7 +14,7 @@ use Rattle.meaning.specs.Bytes.{arg, both, differ, put, zeros}
 use Rattle.meaning.specs.State.{Plate, State}
 use Rattle.meaning.specs.Fields.{bytes_of, data_bytes, blocks, exists, attributes, clear, put_status, Survey, survey}
 use Rattle.meaning.specs.Commands.{Answer, refuse, accept, error, choose, wrong_code, create, modify, delete, resize, shape_field}
-use Rattle.meaning.proofs.Puts.{put_all, put-put}
+use Rattle.meaning.proofs.Puts.{length-put, put_all, put-put, stored_is-put}
 use Rattle.fields.specs.Memory.{Sits}
 use Rattle.fields.specs.Shape.{stored_as, shaped, grant_code, Judged, Shapes}
 use Rattle.fields.specs.declared.change.Change.{Change}
@@ -46,6 +46,22 @@ part_cleared m b n from to ys p q h e =
     let k : length (mid_of from (to - from) m) ≡ bytes_of n = simp (length-take, length-drop) (omega arith) in
     let i : from + bytes_of n ≡ to = omega arith in
     rw (e, k, Post-is from to m (omega arith), length-replicate, ← p, i)
+
+-- the run and the status, done
+module _ (t : ℕ) (m : List ℕ) (f st : ℕ) (run : Change) (from to at : ℕ) (ys : List ℕ) (p : from ≡ bytes_of run.from) (q : to ≡ bytes_of run.to) (o : run.from ≤ run.to)
+    (h : to ≤ length m) (e : ys ≡ zeros (length (mid_of from (to - from) m))) where
+  run_is : put_mid from (to - from) m ys ≡ clear m run.from (run.to - run.from)
+  run_is = part_cleared m run.from (run.to - run.from) from to ys p (omega arith) h e
+
+  run_length : length (put_mid from (to - from) m ys) ≡ length m
+  unfolding clear
+  run_length = ap length run_is ∙ length-put m (bytes_of run.from) (zeros (bytes_of (run.to - run.from))) (rw length-replicate (omega arith))
+
+  pub applied : at ≡ data_bytes t + f → at < length m → set (put_mid from (to - from) m ys) at st ≡ put_status t (clear m run.from (run.to - run.from)) f st
+  unfolding put_status
+  applied i k =
+      stored_is-put (put_mid from (to - from) m ys) at (st ∷ []) (omega (arith, run_length))
+      ∙ ap (λ (l : List ℕ). put l at (st ∷ [])) run_is ∙ ap (λ (j : ℕ). put (clear m run.from (run.to - run.from)) j (st ∷ [])) i
 
 -- the status, lent and come back as another
 pub status-put : (t : ℕ) (m : List ℕ) (f st at : ℕ) → at ≡ data_bytes t + f → put_mid at (at + 1 - at) m (st ∷ []) ≡ put_status t m f st

@@ -1,6 +1,6 @@
 -- What is left to show of `fields::access::store_own`.
 use Rattle.std.proofs.Common.{refl, arith}
-use Rattle.fields.proofs.Accesses.{store_past, store_within, store_told}
+use Rattle.fields.proofs.Accesses.{store_past, store_within, cells_told}
 use Rattle.fields.proofs.Rows.{works-refuse, works-accept}
 use Rattle.fields.proofs.access.store_own.Goals as goal
 
@@ -11,5 +11,5 @@ pub returns : goal.returns
 returns c s =
     let own = c.args.own.now in
     let d = c.args.request.now in
-    rw (store_told own d _ _ (omega arith) refl c.set_cells.ensures)
+    rw (cells_told own d _ _ (omega arith) refl c.set_cells.ensures)
     (works-accept _ own c.args.room.now _ s _ _ _ (store_within own d s own c.if-own-end.false) (record { answer = refl; room = c.repeat_three.ensures }))
