@@ -148,29 +148,18 @@ fn run(
             end(rt, session, &window[..have], out, used);
             return;
         };
-        let fed = feed(
-            rt,
-            session,
-            &window[..total],
-            kept,
-            memory,
-            reply,
-            out,
-            used,
-        );
+        let bytes = &window[..total];
+        let fed = feed(rt, session, bytes, kept, memory, reply, out, used);
         session = fed.session;
         used = fed.used;
-        let at = fed.at;
-        let output = fed.output;
-        if let Output::Failed = output {
+        if let Output::Failed = fed.output {
             return;
         }
-        let phase = session.phase;
-        if let Phase::Ended = phase {
+        if let Phase::Ended = session.phase {
             flush(rt, out, used);
             return;
         }
-        have = shift(window, at, total);
+        have = shift(window, fed.at, total);
     }
 }
 
