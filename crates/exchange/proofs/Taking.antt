@@ -9,7 +9,6 @@ use lib.ListN.{length, take}
 use lib.Seq.{length-take-le}
 use Rattle.meaning.specs.Bytes.{put, arg}
 use Rattle.meaning.specs.State.{Plate, State}
-use Rattle.meaning.specs.Characters.{taken}
 use Rattle.meaning.specs.Frames.{Outcome, still}
 use Rattle.meaning.specs.Run.{Call, character, step, run_from}
 use Rattle.meaning.proofs.Puts.{put-nothing, drop-put-low, put_front}

@@ -4,7 +4,7 @@ use mathlib.Core.Path.{◌≡◌, sym, ◌∙◌}
 use mathlib.Core.Bool.{Bool, true, false, not}
 use mathlib.Core.List.{List, [], ◌∷◌}
 use native.Mathlib.Omega.{arith}
-use lib.Dec.{T, eqb, leb, ltb, not_T, eqb→eq, leb→le, ltb→lt, lt→ltb}
+use lib.Dec.{T, eqb, leb, ltb, not_T, eqb→eq, leb→le, lt→ltb}
 use lib.ListN.{length, get_or, take}
 use Rattle.meaning.specs.Bytes.{both, either, differ, part, put}
 use Rattle.meaning.specs.State.{Plate, State, code}

@@ -7,7 +7,7 @@ use native.Mathlib.Omega.{arith}
 use lib.Dec.{T, eqb-suc-zero}
 use lib.ListN.{length, get_or, take, drop, length-append, length-drop}
 use lib.Seq.{take-length, take-append_seam, get_or-append_seam, set-append_seam, length-take-le, get_or-take, get_or-drop, ext_get_or, append_snoc}
-use borrow.Author.Tests.{lt-ltb, le-ltb, eq-eqb}
+use borrow.Author.Tests.{lt-ltb, le-ltb}
 use Rattle.meaning.specs.Bytes.{pick, part, put, same, zeros}
 use Rattle.meaning.specs.State as board
 use Rattle.meaning.specs.State.{label_length}
