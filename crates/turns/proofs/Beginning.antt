@@ -2,10 +2,8 @@
 use Prim.Native.Nat.{ℕ}
 use mathlib.Core.Path.{◌≡◌, refl, sym, ap, subst, ◌∙◌}
 use mathlib.Core.Bool.{Bool, true, false}
-use mathlib.Core.List.{List, [], ◌∷◌}
+use mathlib.Core.List.{List}
 use native.Mathlib.Nat.{zero-add}
-use types.Run.{OneOf, miss}
-use denote.Enum.Declared.{tag_of}
 use Rattle.meaning.specs.Bytes.{pick, zeros}
 use Rattle.meaning.specs.State as meaning
 use Rattle.meaning.specs.State.{label_length, plate_ok}
@@ -18,15 +16,15 @@ use Rattle.tape.specs.Answers.{turn, begun}
 use Rattle.tape.specs.Reader.{said_of}
 use Rattle.tape.specs.Passes.{next_record, says}
 use Rattle.tape.proofs.Events.{no_label}
-use Rattle.tape.specs.contracts.kinds.Event.{the_type}
 use Rattle.turns.specs.Hearing.{Readout, not_yet, tells, readout_at, Past, Hears}
 use Rattle.turns.specs.Openings.{tape_plate, numbers_of, checked, begun_by, opened_by, Opens}
 use Rattle.turns.specs.declared.opening.Opened.{Opened}
 use Rattle.turns.specs.declared.opening.Opened.TheVariants as opened
 use Rattle.turns.proofs.Hearing.{hears}
 
-pub not-plate : (e : Event) (next : ℕ) → OneOf (1 ∷ 2 ∷ 3 ∷ 4 ∷ 5 ∷ 6 ∷ []) (tag_of the_type e) → opened.Bad ≡ begun_by (said_of e) next
-not-plate (event.Plate t p a b u) next k = absurd (miss (1 ∷ 2 ∷ 3 ∷ 4 ∷ 5 ∷ 6 ∷ []) 0 tt k)
+-- a record that is no plate begins nothing
+pub not-plate : (e : Event) (next : ℕ) → ((t p a b u : ℕ) → e ≡ event.Plate t p a b u → ⊥) → opened.Bad ≡ begun_by (said_of e) next
+not-plate (event.Plate t p a b u) next k = absurd (k t p a b u refl)
 not-plate (event.Character t v f) next k = refl
 not-plate (event.Poll t) next k = refl
 not-plate (event.Measured n) next k = refl

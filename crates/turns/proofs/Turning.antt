@@ -7,8 +7,6 @@ use native.Mathlib.Omega.{arith}
 use native.Mathlib.Nat.{add-zero}
 use lib.ListN.{length, take, drop, length-replicate}
 use lib.Seq.{length-take-le, take-append_seam}
-use types.Run.{OneOf, miss}
-use denote.Enum.Declared.{tag_of}
 use Rattle.meaning.specs.Bytes.{pick, put, zeros}
 use Rattle.meaning.specs.State as meaning
 use Rattle.meaning.specs.Characters.{over}
@@ -37,7 +35,6 @@ use Rattle.tape.specs.Answers.{running, turn, stepped, printed_of}
 use Rattle.tape.specs.Reader.{said_of, Printed}
 use Rattle.tape.specs.Passes.{longest_line}
 use Rattle.tape.proofs.Outputs.{put-nil}
-use Rattle.tape.specs.contracts.kinds.Event.{the_type}
 use Rattle.turns.specs.Openings.{tape_plate}
 use Rattle.turns.specs.Turns.{Sound, runs, quickly, Quiet, CallsBoard, NotCalled, Turns, Fitting, Answered}
 use Rattle.turns.specs.declared.answering.Turned.{Turned}
@@ -85,10 +82,10 @@ quiet-character p b kept e t v bad q k x =
 
 -- a quick record that is no character is a poll, and changes nothing
 pub quiet-poll : (p : Plate) (b : Board) (kept : List ℕ) (e : Event) → quickly (tape_plate p) (state_of b kept) (said_of e) ≡ true
-    → OneOf (0 ∷ 2 ∷ 3 ∷ 4 ∷ 5 ∷ 6 ∷ []) (tag_of the_type e) → fits_in b kept ≡ true → Quiet p b kept (said_of e) b kept
+    → ((t v : ℕ) (bad : Bool) → e ≡ event.Character t v bad → ⊥) → fits_in b kept ≡ true → Quiet p b kept (said_of e) b kept
 unfolding closes
 quiet-poll p b kept (event.Plate t q a u w) k i f = absurd (not-both (sym k))
-quiet-poll p b kept (event.Character t v bad) k i f = absurd (miss (0 ∷ 2 ∷ 3 ∷ 4 ∷ 5 ∷ 6 ∷ []) 1 tt i)
+quiet-poll p b kept (event.Character t v bad) k i f = absurd (i t v bad refl)
 quiet-poll p b kept (event.Poll t) k i f =
     went_quiet p b kept (poll t) refl (polled-quickly (tape_plate p) b kept t (quick_open (over (tape_plate p) (state_of b kept) t) k) f)
 quiet-poll p b kept (event.Measured n) k i f = absurd (not-both (sym k))
@@ -97,14 +94,15 @@ quiet-poll p b kept event.PowerOn k i f = absurd (not-both (sym k))
 quiet-poll p b kept event.Unfit k i f = absurd (not-both (sym k))
 
 -- a record of another kind
-pub other_kind : (e : Event) (p : meaning.Plate) (s : meaning.State) → OneOf (0 ∷ 3 ∷ 4 ∷ 5 ∷ 6 ∷ []) (tag_of the_type e) → quickly p s (said_of e) ≡ false
-other_kind (event.Plate t q a b u) p s k = refl
-other_kind (event.Character t v f) p s k = absurd (miss (0 ∷ 3 ∷ 4 ∷ 5 ∷ 6 ∷ []) 1 tt k)
-other_kind (event.Poll t) p s k = absurd (miss (0 ∷ 3 ∷ 4 ∷ 5 ∷ 6 ∷ []) 2 tt k)
-other_kind (event.Measured n) p s k = refl
-other_kind (event.Fault c) p s k = refl
-other_kind event.PowerOn p s k = refl
-other_kind event.Unfit p s k = refl
+pub other_kind : (e : Event) (p : meaning.Plate) (s : meaning.State) → ((t v : ℕ) (bad : Bool) → e ≡ event.Character t v bad → ⊥)
+    → ((t : ℕ) → e ≡ event.Poll t → ⊥) → quickly p s (said_of e) ≡ false
+other_kind (event.Plate t q a b u) p s i j = refl
+other_kind (event.Character t v f) p s i j = absurd (i t v f refl)
+other_kind (event.Poll t) p s i j = absurd (j t refl)
+other_kind (event.Measured n) p s i j = refl
+other_kind (event.Fault c) p s i j = refl
+other_kind event.PowerOn p s i j = refl
+other_kind event.Unfit p s i j = refl
 
 printed-line : (tick : ℕ) (l : List ℕ) → 0 < length l → printed_of (poll tick) l ≡ text.reply_line tick l
 unfolding printed_of
@@ -170,16 +168,17 @@ module _ {p : Plate} {b : Board} {kept m w : List ℕ} {r : Stepped} {kept' m' w
   power_on-called s = unasked_called power_on refl s
 
 -- a second plate, or a record that fits nothing
-pub none-called : (e : Event) (kept m w : List ℕ) → OneOf (0 ∷ 6 ∷ []) (tag_of the_type e) → NotCalled (said_of e) kept m w kept m w
+pub none-called : (e : Event) (kept m w : List ℕ) → ((t v : ℕ) (bad : Bool) → e ≡ event.Character t v bad → ⊥) → ((t : ℕ) → e ≡ event.Poll t → ⊥)
+    → ((n : ℕ) → e ≡ event.Measured n → ⊥) → ((c : ℕ) → e ≡ event.Fault c → ⊥) → (e ≡ event.PowerOn → ⊥) → NotCalled (said_of e) kept m w kept m w
 unfolding turn
-none-called (event.Plate t p a b u) kept m w k =
+none-called (event.Plate t p a b u) kept m w i j k l o =
     record { bad = λ v s n place. refl; silent = λ v s n. refl; bytes = refl; memory = refl; room = refl }
-none-called (event.Character t v f) kept m w k = absurd (miss (0 ∷ 6 ∷ []) 1 tt k)
-none-called (event.Poll t) kept m w k = absurd (miss (0 ∷ 6 ∷ []) 2 tt k)
-none-called (event.Measured n) kept m w k = absurd (miss (0 ∷ 6 ∷ []) 3 tt k)
-none-called (event.Fault c) kept m w k = absurd (miss (0 ∷ 6 ∷ []) 4 tt k)
-none-called event.PowerOn kept m w k = absurd (miss (0 ∷ 6 ∷ []) 5 tt k)
-none-called event.Unfit kept m w k =
+none-called (event.Character t v f) kept m w i j k l o = absurd (i t v f refl)
+none-called (event.Poll t) kept m w i j k l o = absurd (j t refl)
+none-called (event.Measured n) kept m w i j k l o = absurd (k n refl)
+none-called (event.Fault c) kept m w i j k l o = absurd (l c refl)
+none-called event.PowerOn kept m w i j k l o = absurd (o refl)
+none-called event.Unfit kept m w i j k l o =
     record { bad = λ v s n place. refl; silent = λ v s n. refl; bytes = refl; memory = refl; room = refl }
 
 -- ---- what the call leaves, and its line

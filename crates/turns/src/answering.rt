@@ -142,8 +142,8 @@ pub fn turn(
     out: &mut [u8],
     used: usize,
 ) -> Turned
-    requires sound { Sound plate board kept.old memory.old reply.old }
-    requires longest_line_in_bounds { used + longest_line ≤ length out.old }
+    requires within_limits { Sound plate board kept.old memory.old reply.old }
+    requires line_fits { used + longest_line ≤ length out.old }
     ensures { Turns plate (running (tape_plate plate) (state_of board kept.old) memory.old) place (said_of event) kept.old reply.old out.old used result kept.new memory.new reply.new out.new }
 {
     let call = ask(plate, board, event, kept, memory, reply);
