@@ -88,6 +88,7 @@ Function = Dict[int, Instruction]
 
 UNDERSTOOD = re.compile(r"(push|pop) +(?!%rsp)(?:%r\w+|\$0x[0-9a-f]+)|(add|sub) +\$(0x[0-9a-f]+),%rsp")
 TABLE_JUMP = re.compile(r"movslq (?:0x0)?\((%\w+),%\w+,4\),(%\w+)\n(?:.*\n)*?add +\1,\2\n(?:(?!.*,\2\n).*\n)*jmp +\*\2\Z")
+READS_ONLY = re.compile(r"add +%rsp,%r(?!sp)\w+")  # a place on the stack is reckoned, as by lea
 NOT_UNDERSTOOD = re.compile(r"\b(?:push|pop|call|ret|jmp|loop|leave|enter|syscall|sysenter|int|iret)[a-z]?\b|%e?spl?\b|(?<!\()%rsp")
 
 
@@ -206,7 +207,7 @@ class Walk:
             number = int(change.group(3) or "0x8", 16)
             number -= (number >> 63) << 64
             depth += number if text.startswith(("push", "sub")) else -number
-        elif NOT_UNDERSTOOD.search(text):
+        elif NOT_UNDERSTOOD.search(text) and not READS_ONLY.fullmatch(text):
             self.fail(address, "what this does to the stack is not understood")
         if depth < RETURN_ADDRESS:
             self.fail(address, "the return address is taken off the stack")
