@@ -109,3 +109,11 @@ module _ (img m w : List ℕ) (u : ImageUnrefused img (length m) (length w)) whe
     pub left-sleep : {x : characters.Remaining} → over (plate_held img) (state_held img) tick ≡ false → x ≡ remaining (plate_held img) (state_held img) tick
         → sleep_number (carries x) ≡ sleep_number (called_by img m w (poll tick)).sleep
     left-sleep o e = ap sleep_number (ap carries e ∙ sym (still-carries o) ∙ sym (sleep_of (poll tick)))
+
+-- a frame that is not over, or none: nothing is done, and x remains
+pub early : (img m w : List ℕ) (u : ImageUnrefused img (length m) (length w)) (tick : ℕ) {x : characters.Remaining} → ((i : ℕ) → arg img i < 256)
+    → x ≡ remaining (plate_held img) (state_held img) tick → ran_out x ≡ false
+    → CalledWithSleep img m w (poll tick) (sleep_number (carries x) * 0x100000000 + 0) img m w
+early img m w u tick bytes k n =
+    let o = over-told _ _ _ k ∙ n in
+    with_sleep img m w (poll tick) (poll-whole img m w u tick (polled_early img m w u tick bytes o)) (left-sleep img m w u tick o k)

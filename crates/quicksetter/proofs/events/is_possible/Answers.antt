@@ -29,7 +29,7 @@ number_at-requires c = omega (arith, (good _ (sym c.is_core.ensures ∙ c.if-not
 pub returns : goal.returns
 unfolding possible
 returns c =
-    let counted = few-counted c.args.core.now (λ i. c.type_inv.core i) in
+    let counted = few-counted c.args.core.now (λ i. omega (arith, c.type_inv.core i)) in
     λ l n. simp (
       sym c.is_core.ensures ∙ c.if-not-is_core.false,
       le-leb _ _ counted,

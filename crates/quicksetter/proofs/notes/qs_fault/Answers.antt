@@ -1,5 +1,6 @@
 -- What is left to show of `quicksetter::notes::qs_fault`: R1's three tests, and then the call on the core that the image lends.
-use Rattle.std.proofs.Common.{sym, ◌∙◌, arith}
+use Rattle.std.proofs.Common.{sym, ◌∙◌, arith, rules, ℕ, ◌<◌}
+use Rattle.meaning.specs.Bytes.{arg}
 use Rattle.image.specs.Image.{label_in}
 use Rattle.quicksetter.proofs.Heads.{ours-length, ours-label, lent-small, not_ours, called-whole}
 use Rattle.quicksetter.proofs.Refusing.{lends-fault, impossible, unsound, free-core}
@@ -46,5 +47,6 @@ returns c =
     let ours = sym c.is_ours.ensures ∙ c.if-not-is_ours.false in
     let possible = sym (c.is_possible.ensures (label_in c.args.image.now) (ours-label _ ours)) ∙ c.if-not-is_possible.false in
     let free = free-core _ _ possible (sym c.is_sound.ensures ∙ c.if-not-is_sound.false) in
-    let small = lent-small _ ours (λ i. c.type_inv.image i) in
+    let bytes : (i : ℕ) → arg c.args.image.now i < 256 = λ i. search rules in
+    let small = lent-small _ ours bytes in
     λ m w. called-whole c.args.image.now m w _ ours c.plate_in-plate.ensures (fault_in _ _ free small m w _ c.note.ensures)
