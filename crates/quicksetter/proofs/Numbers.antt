@@ -6,15 +6,16 @@ use mathlib.Core.Bool.{Bool, true, false}
 use mathlib.Core.List.{List}
 use lib.Dec.{eqb}
 use lib.ListN.{length}
-use Rattle.meaning.specs.Bytes.{pick}
+use Rattle.meaning.specs.Bytes.{pick, arg}
 use Rattle.meaning.specs.State as meaning
 use Rattle.meaning.specs.State.{plate_ok}
-use Rattle.meaning.specs.Characters.{gap, full_pause, no_frame_open, ticks_left, remaining, over}
+use Rattle.meaning.specs.Characters.{gap, full_pause, no_frame_open, ticks_left, remaining, ran_out, over}
 use Rattle.meaning.specs.Characters as characters
 use Rattle.meaning.specs.Frames.{still, up_to}
 use Rattle.meaning.specs.Run.{Call, character, poll, step, refused_by, closes, nothing, carries, carried, Held, untouched, left_by, called}
 use Rattle.meaning.proofs.Choices.{true-told}
 use Rattle.meaning.proofs.Calls.{few_refusals}
+use Rattle.meaning.proofs.Gaps.{over-told}
 use Rattle.meaning.proofs.Plates.{longest_pause}
 use Rattle.meaning.proofs.Limits.{replies_fit}
 use Rattle.meaning.proofs.Sleeping.{none-after-close, full-after-character}
@@ -23,6 +24,7 @@ use Rattle.quicksetter.specs.Calls.{is_image, plate_held, state_held, called_by,
 use Rattle.quicksetter.specs.Cores.{ImageUnrefused}
 use Rattle.quicksetter.proofs.Heads.{same-call}
 use Rattle.quicksetter.proofs.Closing.{served}
+use Rattle.quicksetter.proofs.Wholes.{polled_early, poll-whole}
 
 small-pick : (b : Bool) {n : ℕ} → n < 0x100000000 → pick b 0 n < 0x100000000
 small-pick true h = omega arith
@@ -109,3 +111,11 @@ module _ (img m w : List ℕ) (u : ImageUnrefused img (length m) (length w)) whe
     pub left-sleep : {x : characters.Remaining} → over (plate_held img) (state_held img) tick ≡ false → x ≡ remaining (plate_held img) (state_held img) tick
         → sleep_number (carries x) ≡ sleep_number (called_by img m w (poll tick)).sleep
     left-sleep o e = ap sleep_number (ap carries e ∙ sym (still-carries o) ∙ sym (sleep_of (poll tick)))
+
+-- a frame that is not over, or none: nothing is done, and x remains
+pub early : (img m w : List ℕ) (u : ImageUnrefused img (length m) (length w)) (tick : ℕ) {x : characters.Remaining} → ((i : ℕ) → arg img i < 256)
+    → x ≡ remaining (plate_held img) (state_held img) tick → ran_out x ≡ false
+    → CalledWithSleep img m w (poll tick) (sleep_number (carries x) * 0x100000000 + 0) img m w
+early img m w u tick bytes k n =
+    let o = over-told _ _ _ k ∙ n in
+    with_sleep img m w (poll tick) (poll-whole img m w u tick (polled_early img m w u tick bytes o)) (left-sleep img m w u tick o k)

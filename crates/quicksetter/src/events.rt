@@ -141,8 +141,8 @@ fn shut(image: &mut [u8], memory: &mut [u8], room: &mut [u8]) -> u8
 
 // What a character finds done by its tick, as a poll would do it.
 fn polled(image: &mut [u8], tick: u32, pause: u64, memory: &mut [u8], room: &mut [u8]) -> u8
-    requires image_unrefused { ImageUnrefused image.old (length memory.old) (length room.old) }
-    requires pause_value { pause ≡ full_pause (plate_held image.old) }
+    requires unrefused { ImageUnrefused image.old (length memory.old) (length room.old) }
+    requires whole_pause { pause ≡ full_pause (plate_held image.old) }
     ensures { ImagePolls image.old memory.old room.old tick result image.new memory.new room.new }
 {
     let left = remaining(&image[CORE..LENGTH], tick, pause);

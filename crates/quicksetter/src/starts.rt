@@ -15,8 +15,8 @@ use wire::codes::{LABEL_LENGTH, LONGEST_REQUEST};
 
 // Every byte of the core is written, so what stood there before does not matter.
 fn put_core(state: State, core: &mut [u8])
-    requires counter_le_last_count { state.counter ≤ last_count }
-    requires core_len { length core.old ≡ core_length }
+    requires counter_limit { state.counter ≤ last_count }
+    requires whole_core { length core.old ≡ core_length }
     ensures { core.new ≡ core_of (state_with state none) (zeros longest_request) }
 {
     let places = [0u8; LONGEST_REQUEST];
@@ -26,9 +26,9 @@ fn put_core(state: State, core: &mut [u8])
 
 // A possible plate and state are written as an image.
 fn make(plate: Plate, label: &[u8], state: State, image: &mut [u8])
-    requires label_value { plate_ok (plate_of plate label.now) ≡ true }
-    requires counter_le_last_count { state.counter ≤ last_count }
-    requires image_len { length image.old ≡ image_length }
+    requires possible_plate { plate_ok (plate_of plate label.now) ≡ true }
+    requires counter_limit { state.counter ≤ last_count }
+    requires whole_image { length image.old ≡ image_length }
     ensures { image.new ≡ image_of (plate_of plate label.now) (state_with state none) (zeros longest_request) }
 {
     image::put_head(plate, label, image);
