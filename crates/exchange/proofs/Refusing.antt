@@ -2,7 +2,7 @@
 use Prim.Native.Nat.{ℕ, ◌<◌, ◌≤◌}
 use mathlib.Core.Path.{◌≡◌, refl, sym, ap, ◌∙◌}
 use mathlib.Core.Bool.{Bool, true, false, not}
-use mathlib.Core.List.{List}
+use mathlib.Core.List.{List, [], ◌∷◌}
 use native.Mathlib.Omega.{arith}
 use lib.Dec.{T, eqb, ltb}
 use lib.ListN.{length, take, drop, length-append}
@@ -20,8 +20,11 @@ use Rattle.meaning.proofs.Wire.{writes_well}
 use Rattle.board.specs.declared.limits.Board.{Board}
 use Rattle.board.specs.declared.limits.Outcome.{Outcome}
 use Rattle.board.specs.declared.limits.Outcome.TheVariants.{R1, R2, R3, Still, Over}
+use Rattle.board.specs.contracts.limits.Outcome.{the_type}
 use Rattle.board.specs.Board.{state_of, refusal_on, refused_as, refusal_number, is_refusal}
 use Rattle.board.proofs.Bounding.{refusal-few, none-refused, some-refused, number-back}
+use types.Run.{OneOf, hit, miss}
+use denote.Enum.Declared.{tag_of}
 use Rattle.bench.specs.declared.request.Written.TheVariants.{Request}
 use Rattle.bench.specs.declared.request.Written.TheVariants as written
 use Rattle.bench.specs.Outcomes.{written_of}
@@ -32,15 +35,26 @@ use Rattle.exchange.specs.Passing.{unsent_number, refusal_for, Asks, Converses, 
 use Rattle.meaning.proofs.Puts.{put_front}
 
 -- the board's refusals by their cases
-none_refuses : (o : Outcome) → (o ≡ R1 → ⊥) → (o ≡ R2 → ⊥) → (o ≡ R3 → ⊥) → is_refusal o ≡ false
-none_refuses R1 f g h = absurd (f refl)
-none_refuses R2 f g h = absurd (g refl)
-none_refuses R3 f g h = absurd (h refl)
-none_refuses Still f g h = refl
-none_refuses (Over n) f g h = refl
+none_refuses : (o : Outcome) → OneOf (3 ∷ 4 ∷ []) (tag_of the_type o) → is_refusal o ≡ false
+none_refuses R1 i = absurd (miss (3 ∷ 4 ∷ []) 0 tt i)
+none_refuses R2 i = absurd (miss (3 ∷ 4 ∷ []) 1 tt i)
+none_refuses R3 i = absurd (miss (3 ∷ 4 ∷ []) 2 tt i)
+none_refuses Still i = refl
+none_refuses (Over n) i = refl
 
-pub none_applies : (n : ℕ) (o : Outcome) → o ≡ refused_as n Still → (o ≡ R1 → ⊥) → (o ≡ R2 → ⊥) → (o ≡ R3 → ⊥) → n ≡ 0
-none_applies n o e f g h = none-refused n Still (ap is_refusal (sym e) ∙ none_refuses o f g h)
+pub none_applies : (n : ℕ) (o : Outcome) → o ≡ refused_as n Still → OneOf (3 ∷ 4 ∷ []) (tag_of the_type o) → n ≡ 0
+none_applies n o e i = none-refused n Still (ap is_refusal (sym e) ∙ none_refuses o i)
+
+-- .. as the code's match leaves it
+unrefused_case : (o : Outcome) → (o ≡ R1 → ⊥) → (o ≡ R2 → ⊥) → (o ≡ R3 → ⊥) → OneOf (3 ∷ 4 ∷ []) (tag_of the_type o)
+unrefused_case R1 f g h = absurd (f refl)
+unrefused_case R2 f g h = absurd (g refl)
+unrefused_case R3 f g h = absurd (h refl)
+unrefused_case Still f g h = hit (3 ∷ 4 ∷ []) 3 tt
+unrefused_case (Over n) f g h = hit (3 ∷ 4 ∷ []) 4 tt
+
+pub none_matched : (n : ℕ) (o : Outcome) → o ≡ refused_as n Still → (o ≡ R1 → ⊥) → (o ≡ R2 → ⊥) → (o ≡ R3 → ⊥) → n ≡ 0
+none_matched n o e f g h = none_applies n o e (unrefused_case o f g h)
 
 -- ---- what writing leaves
 

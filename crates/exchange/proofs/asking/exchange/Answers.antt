@@ -5,7 +5,7 @@ use borrow.Author.Tests.{eqb-false}
 use Rattle.meaning.specs.Run.{poll}
 use Rattle.board.proofs.Bounding.{lends-poll}
 use Rattle.exchange.proofs.Stepping.{within, wide}
-use Rattle.exchange.proofs.Refusing.{wrote, none_applies, passes_unsent, passes-refused, refused_open, refused_slow, refused_bench, passes_unwritten, passes-heard}
+use Rattle.exchange.proofs.Refusing.{wrote, none_matched, passes_unsent, passes-refused, refused_open, refused_slow, refused_bench, passes_unwritten, passes-heard}
 use Rattle.exchange.proofs.asking.exchange.Goals as goal
 
 pub returns-in-R1 : goal.returns-in-R1
@@ -26,14 +26,14 @@ returns-in-R3 c =
 -- none of R1 to R3
 pub returns-then-is_open : goal.returns-then-is_open
 returns-then-is_open c =
-    let none = none_applies _ _ (c.refusal.ensures c.args.label.now c.args.kept.now c.args.memory.now (poll 0) refl refl refl (lends-poll 0))
+    let none = none_matched _ _ (c.refusal.ensures c.args.label.now c.args.kept.now c.args.memory.now (poll 0) refl refl refl (lends-poll 0))
     c.in_default.not-R1 c.in_default.not-R2 c.in_default.not-R3 in
     passes-refused _ _ _ _ _ _ _ _ _ _ (refused_open _ _ _ _ _ _ _ _ _ _ none (sym (c.is_open.ensures c.args.kept.now) ∙ c.if-is_open.true))
     (eqb-false 6 0 refl) refl c.unsent-then-is_open.ensures
 
 pub returns-then-full_pause-apart : goal.returns-then-full_pause-apart
 returns-then-full_pause-apart c =
-    let none = none_applies _ _ (c.refusal.ensures c.args.label.now c.args.kept.now c.args.memory.now (poll 0) refl refl refl (lends-poll 0))
+    let none = none_matched _ _ (c.refusal.ensures c.args.label.now c.args.kept.now c.args.memory.now (poll 0) refl refl refl (lends-poll 0))
     c.in_default.not-R1 c.in_default.not-R2 c.in_default.not-R3 in
     let idle = sym (c.is_open.ensures c.args.kept.now) ∙ c.if-is_open.false in
     passes-refused _ _ _ _ _ _ _ _ _ _
@@ -48,7 +48,7 @@ slice_bounds-asked-end-in-Request c = sym (length-take-le _ _ (wrote _ _ _ _ _ _
 
 pub converse-requires : goal.converse-requires
 converse-requires c =
-    let none = none_applies _ _ (c.refusal.ensures c.args.label.now c.args.kept.now c.args.memory.now (poll 0) refl refl refl (lends-poll 0))
+    let none = none_matched _ _ (c.refusal.ensures c.args.label.now c.args.kept.now c.args.memory.now (poll 0) refl refl refl (lends-poll 0))
     c.in_default.not-R1 c.in_default.not-R2 c.in_default.not-R3 in
     record {
       within = within _ _ _ _ _ (poll 0) (lends-poll 0) none;
@@ -60,7 +60,7 @@ converse-requires c =
 
 pub returns-in-R4 : goal.returns-in-R4
 returns-in-R4 c =
-    let none = none_applies _ _ (c.refusal.ensures c.args.label.now c.args.kept.now c.args.memory.now (poll 0) refl refl refl (lends-poll 0))
+    let none = none_matched _ _ (c.refusal.ensures c.args.label.now c.args.kept.now c.args.memory.now (poll 0) refl refl refl (lends-poll 0))
     c.in_default.not-R1 c.in_default.not-R2 c.in_default.not-R3 in
     let idle = sym (c.is_open.ensures c.args.kept.now) ∙ c.if-is_open.false in
     passes_unwritten _ _ _ _ _ _ _ _ _ _ none idle (omega (arith, c.full_pause.ensures c.args.label.now, c.if-full_pause-apart.false))
@@ -68,7 +68,7 @@ returns-in-R4 c =
 
 pub returns-in-R5 : goal.returns-in-R5
 returns-in-R5 c =
-    let none = none_applies _ _ (c.refusal.ensures c.args.label.now c.args.kept.now c.args.memory.now (poll 0) refl refl refl (lends-poll 0))
+    let none = none_matched _ _ (c.refusal.ensures c.args.label.now c.args.kept.now c.args.memory.now (poll 0) refl refl refl (lends-poll 0))
     c.in_default.not-R1 c.in_default.not-R2 c.in_default.not-R3 in
     let idle = sym (c.is_open.ensures c.args.kept.now) ∙ c.if-is_open.false in
     passes_unwritten _ _ _ _ _ _ _ _ _ _ none idle (omega (arith, c.full_pause.ensures c.args.label.now, c.if-full_pause-apart.false))
@@ -76,7 +76,7 @@ returns-in-R5 c =
 
 pub returns-in-Request : goal.returns-in-Request
 returns-in-Request c =
-    let none = none_applies _ _ (c.refusal.ensures c.args.label.now c.args.kept.now c.args.memory.now (poll 0) refl refl refl (lends-poll 0))
+    let none = none_matched _ _ (c.refusal.ensures c.args.label.now c.args.kept.now c.args.memory.now (poll 0) refl refl refl (lends-poll 0))
     c.in_default.not-R1 c.in_default.not-R2 c.in_default.not-R3 in
     let idle = sym (c.is_open.ensures c.args.kept.now) ∙ c.if-is_open.false in
     let y = wrote _ _ _ _ _ _ c.in-Request.ensures in
