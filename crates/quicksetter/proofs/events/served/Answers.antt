@@ -10,7 +10,7 @@ use Rattle.board.proofs.Dispatch.{changeable, memory-lent}
 use Rattle.board.proofs.Endings.{sendable, still-wide, told_served}
 use Rattle.quicksetter.proofs.Heads.{ours-length, lent-small}
 use Rattle.quicksetter.proofs.Closing.{asked_in, ordered_in, codes-lent, four-lent}
-use Rattle.quicksetter.proofs.Serving.{effect-low, label-there, lent_servable, written-long, lent_again, served_still, served_anew}
+use Rattle.quicksetter.proofs.Serving.{effect-low, label-there, lent_servable, lent_again, served_still, served_anew}
 use Rattle.quicksetter.proofs.events.served.Goals as goal
 
 pub plate_in-plate-requires : goal.plate_in-plate-requires
