@@ -20,7 +20,7 @@ use Rattle.state.specs.declared.state.State.{State}
 use Rattle.state.specs.Queue.{no_faults, holding}
 use Rattle.state.specs.State.{state_with}
 use Rattle.meaning.proofs.Puts.{put-nothing}
-use Rattle.state.proofs.States.{notes, powers_on}
+use Rattle.state.proofs.States.{powers_on}
 use Rattle.board.proofs.Stepping.{no_line}
 use Rattle.image.specs.Image.{state_in, frame_in, kept_in, held_in}
 use Rattle.image.specs.Writes.{measured_set, faults_set, HoldsState, PutsState, NotesIn, PutsFrame, PutsBoard}

@@ -1,5 +1,5 @@
 -- What is left to show of `quicksetter::events::is_possible`.
-use Rattle.std.proofs.Common.{◌≡◌, true, sym, ◌∙◌, arith}
+use Rattle.std.proofs.Common.{sym, ◌∙◌, arith}
 use borrow.Author.Tests.{le-leb}
 use Rattle.meaning.proofs.Choices.{both_false}
 use Rattle.image.proofs.Numbers.{few-counted}

@@ -10,7 +10,7 @@ use Rattle.board.proofs.Dispatch.{changeable, memory-lent}
 use Rattle.board.proofs.Endings.{sendable, still-wide, told_served}
 use Rattle.quicksetter.proofs.Heads.{ours-length, lent-small}
 use Rattle.quicksetter.proofs.Closing.{asked_in, ordered_in, codes-lent, four-lent}
-use Rattle.quicksetter.proofs.Serving.{effect-low, label-there, lent_servable, written-long, lent_again, served_still, served_anew}
+use Rattle.quicksetter.proofs.Serving.{effect-low, label-there, lent_servable, lent_again, served_still, served_anew}
 use Rattle.quicksetter.proofs.events.served.Goals as goal
 
 pub plate_in-plate-requires : goal.plate_in-plate-requires
@@ -66,7 +66,8 @@ slice_bounds-put_effect-end c = omega (arith, ours-length _ c.requires.ours)
 
 pub put_effect-requires-clause-bounded : goal.put_effect-requires-clause-bounded
 put_effect-requires-clause-bounded c =
-    (c.on_state-worked.ensures (plate_of c.plate_in-plate.result (label_in c.args.image.now)) c.args.memory.now refl (sym (label-there c.args.image.now))).row.placed
+    let there = sym (label-there c.args.image.now) in
+    (c.on_state-worked.ensures (plate_of c.plate_in-plate.result (label_in c.args.image.now)) c.args.memory.now refl there).row.placed
 
 pub put_effect-requires-clause-holds_state : goal.put_effect-requires-clause-holds_state
 put_effect-requires-clause-holds_state c =
