@@ -63,8 +63,8 @@ fn feed(
     out: &mut [u8],
     start: usize,
 ) -> Fed
-    requires ready_for_pass { ReadyForPass first [] kept.old memory.old reply.old out.old start }
-    requires window_len_bound { length window.now ≤ 65536 }
+    requires ready { ReadyForPass first [] kept.old memory.old reply.old out.old start }
+    requires window_size { length window.now ≤ 65536 }
     ensures { Leaves result window.now kept.new memory.new reply.new out.new }
 {
     let mut session = first;
@@ -148,29 +148,18 @@ fn run(
             end(rt, session, &window[..have], out, used);
             return;
         };
-        let fed = feed(
-            rt,
-            session,
-            &window[..total],
-            kept,
-            memory,
-            reply,
-            out,
-            used,
-        );
+        let bytes = &window[..total];
+        let fed = feed(rt, session, bytes, kept, memory, reply, out, used);
         session = fed.session;
         used = fed.used;
-        let at = fed.at;
-        let output = fed.output;
-        if let Output::Failed = output {
+        if let Output::Failed = fed.output {
             return;
         }
-        let phase = session.phase;
-        if let Phase::Ended = phase {
+        if let Phase::Ended = session.phase {
             flush(rt, out, used);
             return;
         }
-        have = shift(window, at, total);
+        have = shift(window, fed.at, total);
     }
 }
 
