@@ -2,22 +2,18 @@
 use Prim.Native.Nat.{ℕ, ◌+◌, ◌-◌, ◌≤◌, ◌<◌}
 use mathlib.Core.Path.{◌≡◌, refl, sym, ap, ◌∙◌}
 use mathlib.Core.Bool.{Bool, true, false, cond, false≢true}
-use mathlib.Core.List.{List, [], ◌∷◌}
+use mathlib.Core.List.{List, []}
 use native.Mathlib.Omega.{arith}
 use lib.Dec.{leb}
 use lib.ListN.{length, take, drop, length-take, length-drop, length-replicate}
 use borrow.Author.Tests.{leb-false}
-use types.Run.{OneOf, miss}
-use denote.Enum.Declared.{tag_of}
 use Rattle.tape.specs.Text.{first_line}
 use Rattle.tape.specs.Reader.{Printed}
 use Rattle.tape.proofs.Texts.{same_size}
-use Rattle.passes.specs.declared.session.Phase.{Phase}
 use Rattle.passes.specs.declared.session.Phase.TheVariants.{Ended}
 use Rattle.passes.specs.declared.session.Session.{Session}
 use Rattle.passes.specs.declared.passes.Eaten.{Eaten}
 use Rattle.passes.specs.Sessions.{largest_memory, AtTapeStart, ReadyForPass, Eats}
-use Rattle.passes.specs.contracts.session.Phase.{the_type}
 use Rattle.answer.specs.declared.streams.Output.{Output}
 use Rattle.answer.specs.Program.{is_over, Leaves, Buffers}
 
@@ -31,9 +27,6 @@ not_left false b e = refl
 
 over-ended : (s : Session) → s.phase ≡ Ended → is_over s ≡ true
 over-ended s e = rw e (either_way (leb 9223372036854775808 s.place))
-
-pub not-ended : (f : Phase) → OneOf (0 ∷ 1 ∷ []) (tag_of the_type f) → f ≡ Ended → ⊥
-not-ended f k e = miss (0 ∷ 1 ∷ []) 2 tt (rw e at k)
 
 -- a tape that is not over goes on
 pub goes_on : (s : Session) → is_over s ≡ false → (s.phase ≡ Ended → ⊥) × (s.place < 9223372036854775808)

@@ -1,22 +1,16 @@
 -- The bytes of the program's window: those that are left go to the front, more are read behind them; and those of its output that are written. Assumes nothing.
-use Prim.Native.Nat.{ℕ, ◌+◌, ◌-◌, ◌≤◌, ◌<◌, min}
+use Prim.Native.Nat.{ℕ, ◌+◌, ◌-◌, ◌≤◌, ◌<◌}
 use mathlib.Core.Path.{◌≡◌, sym, ap, ◌∙◌}
 use mathlib.Core.List.{List, [], ◌∷◌, ◌++◌}
 use native.Mathlib.Numerals.{add-one}
-use native.Mathlib.Nat.{zero-add, min-le_left}
+use native.Mathlib.Nat.{zero-add}
 use native.Mathlib.Omega.{arith}
 use lib.ListN.{length, get_or, take, drop, set, length-take, length-drop}
-use lib.IntN.{ℤ, pos, negsuc}
-use mir.Syntax.{w64}
-use mir.Val.{SFits, to_z, of_z}
-use mir.Facts.{to_z-of_z}
 use lib.Seq.{take-suc, take_at, get_or-drop, length-take-le}
 use Rattle.meaning.specs.Bytes.{part, put}
 use Rattle.meaning.proofs.Puts.{put-after}
 use Rattle.records.proofs.Bytes.{length_part}
 use Rattle.tape.proofs.Outputs.{put-nil, put_last}
-use Rattle.libc.specs.Io.{Moved}
-use Rattle.io.specs.Counts.{clamp_len}
 use Rattle.answer.specs.declared.streams.Taken.{Taken}
 use Rattle.answer.specs.declared.streams.Taken.TheVariants.{Bytes}
 use Rattle.answer.specs.Streams.{Refills, taken_by}
@@ -48,16 +42,6 @@ refilled w have total rest h l = record {
   within = l;
   front = take_at (take have w) rest have (length-take-le have w (omega arith));
 }
-
--- what a read counts stays in the window
-within_window : (got : ℤ) (w : List ℕ) (have size : ℕ) → have ≤ length w → Moved (length (take (length w - have) (drop have w))) got → have + clamp_len got size ≤ length w
-within_window (pos k) w have size h m = omega (arith, min-le_left k size, rw (length-take (length w - have) (drop have w), length-drop have w) at m)
-within_window (negsuc k) w have size h m = omega arith
-
--- .. counted by `io::count`, which is handed the answer's bits
-pub read_fits : (got : ℤ) (w : List ℕ) (have size n : ℕ) → have ≤ length w → SFits w64 got → Moved (length (take (length w - have) (drop have w))) got
-    → n ≡ clamp_len (to_z w64 (of_z w64 got)) size → have + n ≤ length w
-read_fits got w have size n h f m e = rw (e, to_z-of_z {w = w64} {z = got} f) (within_window got w have size h m)
 
 -- what a write takes stays in the part that is used
 pub taken-fits : (out : List ℕ) (at used count : ℕ) (r : Taken) → at ≤ used → used ≤ length out → taken_by r ≤ length (take (used - at) (drop at out)) → r ≡ Bytes count

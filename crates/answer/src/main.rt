@@ -63,8 +63,8 @@ fn feed(
     out: &mut [u8],
     start: usize,
 ) -> Fed
-    requires ready_for_pass { ReadyForPass first [] kept.old memory.old reply.old out.old start }
-    requires window_len_bound { length window.now ≤ 65536 }
+    requires ready { ReadyForPass first [] kept.old memory.old reply.old out.old start }
+    requires window_size { length window.now ≤ 65536 }
     ensures { Leaves result window.now kept.new memory.new reply.new out.new }
 {
     let mut session = first;
