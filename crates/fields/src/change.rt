@@ -37,17 +37,18 @@ pub(crate) fn lacks_room(free: usize, new: u8, old: u8) -> bool
     charged(free, change_of(new, old)) < 0
 }
 
-// At most a block at a time, and only the cells that are not 00h (02, Req 05).
+// A block at a time, then what is over, and only the cells that are not 00h (02, Req 05).
 fn clear(part: &mut [u8])
     ensures { part.new ≡ zeros (length part.old) }
 {
     let blank = [0u8; BLOCK];
     let mut i = 0;
-    while i < part.len() {
-        let to = i + least(part.len() - i, BLOCK);
-        set_cells(&mut part[i..to], &blank[..to - i]);
-        i = to;
+    while BLOCK <= part.len() - i {
+        set_cells(&mut part[i..i + BLOCK], &blank);
+        i += BLOCK;
     }
+    let rest = part.len() - i;
+    set_cells(&mut part[i..], &blank[..rest]);
 }
 
 // The status that is stored: 00h where bit 7 is clear, for then the field goes (01, "00h where no field is").
