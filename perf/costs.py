@@ -11,6 +11,8 @@ from process import Failure, run
 ENTRIES = ("character", "poll", "measured", "fault", "power_on", "fresh")
 CLOSING = ("poll", "character")
 
+CALL_RATIO_LIMIT = 1.1
+
 COUNTED_BY = "callgrind" if IS_MEASURED else "an emulator on another processor"
 CALLS_NOTE = f"""\
 Instructions from the entry's first to its return, with all that it calls. Each call is counted on its own, by {COUNTED_BY}; both boards start from the same
@@ -32,12 +34,14 @@ class Call(NamedTuple):
 
 
 class Row(NamedTuple):
-    """The calls of one row: the dearest of each board, the ratio of the means, and the call that stands worst for the library."""
+    """The calls of one row: the dearest of each board, the ratio of the means, the call that stands worst for the library, and by how many instructions one is at
+    most over the ratio that the gate allows."""
 
     library: int
     hand: int
     mean: float
     worst: Call
+    over: float
     calls: int
 
     @property
@@ -51,6 +55,10 @@ class Row(NamedTuple):
 
 def ratio_of(call: Call) -> float:
     return call.library / call.hand
+
+
+def over_ratio(call: Call) -> float:
+    return call.library - CALL_RATIO_LIMIT * call.hand
 
 
 def by_callgrind(program: str, entry: str, work: str) -> Tuple[List[str], List[int]]:
@@ -77,7 +85,7 @@ def counted(program: str, entry: str, work: str) -> List[Call]:
 
 def row_of(calls: List[Call]) -> Row:
     library, hand = [call.library for call in calls], [call.hand for call in calls]
-    return Row(max(library), max(hand), sum(library) / sum(hand), max(calls, key=ratio_of), len(calls))
+    return Row(max(library), max(hand), sum(library) / sum(hand), max(calls, key=ratio_of), max(map(over_ratio, calls)), len(calls))
 
 
 def rows_of(calls: List[Call]) -> Dict[str, Row]:

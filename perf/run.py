@@ -28,7 +28,7 @@ import archive  # noqa: E402
 import costs  # noqa: E402
 import machine  # noqa: E402
 import writes  # noqa: E402
-from costs import Row  # noqa: E402
+from costs import CALL_RATIO_LIMIT, Row  # noqa: E402
 from process import Failure, run  # noqa: E402
 from tape import Character, Measured, Plate, Poll, encode, xor_of  # noqa: E402
 
@@ -45,7 +45,11 @@ ROUNDS = 7
 KEPT = "character that is kept"
 KEPT_LIMIT = 92
 KEPT_RATIO_LIMIT = 0.92
-CALL_RATIO_LIMIT = 1.1
+
+# What today's kit lays on each call, and none before it did: at an export the pointer of each lent slice is made one that is never null, five instructions and what
+# they need of registers. A kept character lends three slices. Both are as counted on the day on which the repository was brought to that kit, none to spare.
+KIT_ADDS = 24
+KEPT_KIT_ADDS = 16
 
 
 # --- tapes ----------------------------------------------------------------------------------
@@ -278,7 +282,8 @@ def table(head: List[str], rows: List[List[str]]) -> str:
 
 LIMIT_NOTE = f"""\
 The gate holds every single call of this table and the next to {CALL_RATIO_LIMIT} of the hand-written C's. Where a character is kept it also holds the dearest call and
-the mean to {KEPT_RATIO_LIMIT}, and while no code waits every call to {KEPT_RATIO_LIMIT} and to {KEPT_LIMIT} instructions."""
+the mean to {KEPT_RATIO_LIMIT}, and while no code waits every call to {KEPT_RATIO_LIMIT} and to {KEPT_LIMIT} instructions. Beside that each call may cost {KIT_ADDS} instructions,
+a kept character {KEPT_KIT_ADDS}, which today's kit lays on every export."""
 COLUMNS = ["Library", "Hand-written C", "Ratio", "Means", "Calls", "Worst of them"]
 
 
@@ -411,11 +416,14 @@ def measure(programs: Dict[str, str], library: str) -> str:
 
 def over_limit(name: str, row: Row) -> bool:
     """KEPT is the row of the usual character, with no code waiting; the rows that begin so are its fellows."""
-    if row.worst_ratio > CALL_RATIO_LIMIT:
+    if row.over > KIT_ADDS:
         return True
+    if not name.startswith(KEPT):
+        return False
+    added = KEPT_KIT_ADDS / row.hand
     if name == KEPT:
-        return row.library > KEPT_LIMIT or row.worst_ratio > KEPT_RATIO_LIMIT
-    return name.startswith(KEPT) and max(row.ratio, row.mean) > KEPT_RATIO_LIMIT
+        return row.library > KEPT_LIMIT + KEPT_KIT_ADDS or row.worst_ratio - added > KEPT_RATIO_LIMIT
+    return max(row.ratio, row.mean) - added > KEPT_RATIO_LIMIT
 
 
 def check_archive(library: str) -> int:

@@ -2,15 +2,19 @@
 use Prim.Native.Nat.{ℕ, ◌+◌, ◌-◌, ◌≤◌, ◌<◌}
 use mathlib.Core.Path.{◌≡◌, refl, sym, ap, ◌∙◌}
 use mathlib.Core.Bool.{Bool, true, false, cond, false≢true}
-use mathlib.Core.List.{List, []}
+use mathlib.Core.List.{List, [], ◌∷◌}
 use native.Mathlib.Omega.{arith}
 use lib.Dec.{leb}
 use lib.ListN.{length, take, drop, length-take, length-drop, length-replicate}
 use borrow.Author.Tests.{leb-false}
+use types.Run.{OneOf, miss}
+use denote.Enum.Declared.{tag_of}
 use Rattle.tape.specs.Text.{first_line}
 use Rattle.tape.specs.Reader.{Printed}
 use Rattle.tape.proofs.Texts.{same_size}
+use Rattle.passes.specs.declared.session.Phase.{Phase}
 use Rattle.passes.specs.declared.session.Phase.TheVariants.{Ended}
+use Rattle.passes.specs.contracts.session.Phase.{the_type}
 use Rattle.passes.specs.declared.session.Session.{Session}
 use Rattle.passes.specs.declared.passes.Eaten.{Eaten}
 use Rattle.passes.specs.Sessions.{largest_memory, AtTapeStart, ReadyForPass, Eats}
@@ -31,6 +35,9 @@ over-ended s e = rw e (either_way (leb 9223372036854775808 s.place))
 -- a tape that is not over goes on
 pub goes_on : (s : Session) → is_over s ≡ false → (s.phase ≡ Ended → ⊥) × (s.place < 9223372036854775808)
 goes_on s n = (λ e. false≢true (sym n ∙ over-ended s e), leb-false _ _ (not_left _ _ n))
+
+pub not-ended : (f : Phase) → OneOf (0 ∷ 1 ∷ []) (tag_of the_type f) → f ≡ Ended → ⊥
+not-ended f k e = miss (0 ∷ 1 ∷ []) 2 tt (rw e at k)
 
 module _ (s : Session) (kept m w out : List ℕ) (used : ℕ) (ready : ReadyForPass s [] kept m w out used) where
   -- a window of bytes, at a place that is not too far
