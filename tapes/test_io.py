@@ -57,6 +57,7 @@ ssize_t write(int fd, const void *buf, size_t count)
     static long moved;
     static int calls;
     if (fd != STDOUT_FILENO) return syscall(SYS_write, fd, buf, count);
+    if (getenv("TAKES_NOTHING")) return 0;
     return move(SYS_write, fd, (void *)buf, count, number("WRITE_FAILS"), ENOSPC, &moved, &calls);
 }
 """
@@ -146,6 +147,11 @@ def reader_gone(program):
 def output_fails_later(program):
     for count in (1, 65000, 65536, 70000):
         same(program.under(LONG, WRITE_FAILS=count), (LONG_TEXT[:count], UNWRITTEN % "No space left on device", 0))
+
+
+@case
+def output_takes_nothing(program):
+    same(program.under(LONG, TAKES_NOTHING=1), ("", UNWRITTEN % "write zero", 0))
 
 
 @case

@@ -5,6 +5,10 @@ ghost use Rattle.answer.specs.Streams.{Refills, total_after, taken_by};
 use std::io;
 use std::io::{Cursor, ErrorKind, Read, Write};
 
+const UNREAD: &str = "answer: standard input cannot be read: ";
+
+const UNWRITTEN: &str = "answer: standard output cannot be written: ";
+
 // What a read came to: so many bytes in the window, the end of the tape, or a failure.
 #[derive(Clone, Copy)]
 pub(crate) enum Input {
@@ -39,9 +43,10 @@ fn reason(why: &io::Error, text: &mut [u8; 128]) -> usize
     if write!(Cursor::new(text.as_mut_slice()), "{why}").is_err() {
         return 0;
     }
-    match text.iter().position(|b| *b == b'(') {
+    match text.iter().position(|b| *b == b'(' || *b == 0) {
+        Some(end) if text[end] == 0 => end,
         Some(bracket) => bracket.saturating_sub(1),
-        None => 0,
+        None => text.len(),
     }
 }
 
@@ -70,7 +75,7 @@ pub(crate) fn refill(rt: HostRuntime, window: &mut [u8], have: usize) -> Input
             if is_interrupted(&why) {
                 return Input::More { total: have };
             }
-            tell(rt, "answer: standard input cannot be read: ", &why);
+            tell(rt, UNREAD, &why);
             Input::Failed
         }
     }
@@ -81,13 +86,16 @@ fn put(rt: HostRuntime, rest: &[u8]) -> Taken
     ensures { taken_by result ≤ length rest.now }
 {
     match rt.stdout().write(rest) {
-        Ok(0) => Taken::Failed,
+        Ok(0) => {
+            tell(rt, UNWRITTEN, &io::Error::from(ErrorKind::WriteZero));
+            Taken::Failed
+        }
         Ok(count) => Taken::Bytes { count },
         Err(why) => {
             if is_interrupted(&why) {
                 return Taken::Bytes { count: 0 };
             }
-            tell(rt, "answer: standard output cannot be written: ", &why);
+            tell(rt, UNWRITTEN, &why);
             Taken::Failed
         }
     }
