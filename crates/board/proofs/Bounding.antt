@@ -115,6 +115,10 @@ none-refused n o = go (eqb n 0) (eqb n 1) (eqb n 2) refl
     go false false true k e = absurd (false≢true (sym e))
     go false false false k e = absurd (false≢true (sym e))
 
+-- .., by the outcome and what was asked of it
+pub nothing_refused : {n : ℕ} {o : Outcome} {t : Bool} → o ≡ refused_as n Still → t ≡ is_refusal o → t ≡ false → n ≡ 0
+nothing_refused {n} told asked not_so = none-refused n Still (ap is_refusal (sym told) ∙ sym asked ∙ not_so)
+
 pub some-refused : (n : ℕ) (o : Outcome) → is_refusal o ≡ false → is_refusal (refused_as n o) ≡ true → n ≡ 0 → ⊥
 unfolding refused_as
 some-refused n o i e z = false≢true (sym i ∙ rw z at e)

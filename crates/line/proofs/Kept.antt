@@ -1,5 +1,6 @@
 -- The kept bytes: one more character of an open frame, as numbers and as the lent places. Assumes nothing.
-use Rattle.std.proofs.Common.{◌≡◌, ℕ, suc, ◌+◌, ◌<◌, ◌≤◌, Bool, true, false, ◌||◌, ltb, leb, List, [], ◌∷◌, ◌++◌, length, take, set, refl, append_assoc, append-nil, zero-add, add-one, arith, length-append, drop_of_length-le, length-take-le, take_all, take-suc-set, le-ltb, lt-ltb, le-leb}
+use Rattle.std.proofs.Common.{◌≡◌, ℕ, suc, ◌+◌, ◌<◌, ◌≤◌, Bool, true, false, ◌||◌, ltb, leb, List, [], ◌∷◌, ◌++◌, length, take, set, refl}
+use Rattle.std.proofs.Common.{append_assoc, append-nil, zero-add, add-one, arith, length-append, drop_of_length-le, length-take-le, take_all, take-suc-set, le-ltb, lt-ltb, le-leb}
 use borrow.Author.Tests.{lt-leb}
 use lib.Bits.{bit_xor}
 use lib.Seq.{set_split}

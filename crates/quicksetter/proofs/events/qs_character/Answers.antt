@@ -2,8 +2,8 @@
 use Rattle.std.proofs.Common.{rules, ℕ, ◌<◌, sym, ◌∙◌, arith}
 use Rattle.meaning.specs.Bytes.{arg}
 use Rattle.quicksetter.proofs.Heads.{ours-length, ours-label, not_ours}
-use Rattle.quicksetter.proofs.Refusing.{lends-character, impossible, unsound, other_size, too_narrow, none_applies}
-use Rattle.quicksetter.proofs.Wholes.{some-refusal, refused-whole, workable, pause_so, as_long, lent_still, character-whole}
+use Rattle.quicksetter.proofs.Refusing.{lends-character, impossible, unsound, other_size, too_narrow}
+use Rattle.quicksetter.proofs.Wholes.{some-refusal, refused-whole, passed, pause_so, as_long, lent_still, character-whole}
 use Rattle.quicksetter.proofs.Numbers.{with_sleep, refused_with-sleep, low-pause, full-sleep}
 use Rattle.quicksetter.proofs.events.qs_character.Goals as goal
 
@@ -52,53 +52,41 @@ returns-then-room-lt-LONGEST_REPLY c =
 pub polled-sent-requires-clause-unrefused : goal.polled-sent-requires-clause-unrefused
 polled-sent-requires-clause-unrefused c =
     let ours = sym c.is_ours.ensures ∙ c.if-not-is_ours.false in
-    let possible = sym (c.is_possible.ensures _ (ours-label _ ours)) ∙ c.if-not-is_possible.false in
-    let sound = sym c.is_sound.ensures ∙ c.if-not-is_sound.false in
-    let u = workable _ c.args.memory.now c.args.room.now ours c.plate_in-plate.ensures
-    (none_applies _ _ _ _ possible sound (c.if-memory-memory_length.false ∙ c.memory_length.ensures) c.if-room-lt-LONGEST_REPLY.false) in
-    u
+    passed _ c.args.memory.now c.args.room.now ours c.plate_in-plate.ensures c.is_possible.ensures c.if-not-is_possible.false
+    c.is_sound.ensures c.if-not-is_sound.false c.if-memory-memory_length.false c.memory_length.ensures c.if-room-lt-LONGEST_REPLY.false
 
 pub polled-sent-requires-clause-whole_pause : goal.polled-sent-requires-clause-whole_pause
 polled-sent-requires-clause-whole_pause c =
     let ours = sym c.is_ours.ensures ∙ c.if-not-is_ours.false in
-    let full = pause_so _ c.args.memory.now c.args.room.now ours c.plate_in-plate.ensures c.full_pause-full.ensures in
-    full
+    pause_so _ c.args.memory.now c.args.room.now ours c.plate_in-plate.ensures c.full_pause-full.ensures
 
 pub slice_bounds-take_character-end : goal.slice_bounds-take_character-end
 slice_bounds-take_character-end c =
     let ours = sym c.is_ours.ensures ∙ c.if-not-is_ours.false in
-    let possible = sym (c.is_possible.ensures _ (ours-label _ ours)) ∙ c.if-not-is_possible.false in
-    let sound = sym c.is_sound.ensures ∙ c.if-not-is_sound.false in
-    let u = workable _ c.args.memory.now c.args.room.now ours c.plate_in-plate.ensures
-    (none_applies _ _ _ _ possible sound (c.if-memory-memory_length.false ∙ c.memory_length.ensures) c.if-room-lt-LONGEST_REPLY.false) in
+    let u = passed _ c.args.memory.now c.args.room.now ours c.plate_in-plate.ensures c.is_possible.ensures c.if-not-is_possible.false
+    c.is_sound.ensures c.if-not-is_sound.false c.if-memory-memory_length.false c.memory_length.ensures c.if-room-lt-LONGEST_REPLY.false in
     omega (arith, as_long _ _ _ u _ c.polled-sent.ensures)
 
 pub take_character-requires : goal.take_character-requires
 take_character-requires c =
     let ours = sym c.is_ours.ensures ∙ c.if-not-is_ours.false in
-    let possible = sym (c.is_possible.ensures _ (ours-label _ ours)) ∙ c.if-not-is_possible.false in
-    let sound = sym c.is_sound.ensures ∙ c.if-not-is_sound.false in
-    let u = workable _ c.args.memory.now c.args.room.now ours c.plate_in-plate.ensures
-    (none_applies _ _ _ _ possible sound (c.if-memory-memory_length.false ∙ c.memory_length.ensures) c.if-room-lt-LONGEST_REPLY.false) in
+    let u = passed _ c.args.memory.now c.args.room.now ours c.plate_in-plate.ensures c.is_possible.ensures c.if-not-is_possible.false
+    c.is_sound.ensures c.if-not-is_sound.false c.if-memory-memory_length.false c.memory_length.ensures c.if-room-lt-LONGEST_REPLY.false in
     lent_still _ _ _ u _ c.polled-sent.ensures
 
 pub answer_number-requires : goal.answer_number-requires
 answer_number-requires c =
     let ours = sym c.is_ours.ensures ∙ c.if-not-is_ours.false in
-    let possible = sym (c.is_possible.ensures _ (ours-label _ ours)) ∙ c.if-not-is_possible.false in
-    let sound = sym c.is_sound.ensures ∙ c.if-not-is_sound.false in
-    let u = workable _ c.args.memory.now c.args.room.now ours c.plate_in-plate.ensures
-    (none_applies _ _ _ _ possible sound (c.if-memory-memory_length.false ∙ c.memory_length.ensures) c.if-room-lt-LONGEST_REPLY.false) in
+    let u = passed _ c.args.memory.now c.args.room.now ours c.plate_in-plate.ensures c.is_possible.ensures c.if-not-is_possible.false
+    c.is_sound.ensures c.if-not-is_sound.false c.if-memory-memory_length.false c.memory_length.ensures c.if-room-lt-LONGEST_REPLY.false in
     let full = pause_so _ c.args.memory.now c.args.room.now ours c.plate_in-plate.ensures c.full_pause-full.ensures in
     rw full (low-pause _ u.core.plate)
 
 pub returns : goal.returns
 returns c =
     let ours = sym c.is_ours.ensures ∙ c.if-not-is_ours.false in
-    let possible = sym (c.is_possible.ensures _ (ours-label _ ours)) ∙ c.if-not-is_possible.false in
-    let sound = sym c.is_sound.ensures ∙ c.if-not-is_sound.false in
-    let u = workable _ c.args.memory.now c.args.room.now ours c.plate_in-plate.ensures
-    (none_applies _ _ _ _ possible sound (c.if-memory-memory_length.false ∙ c.memory_length.ensures) c.if-room-lt-LONGEST_REPLY.false) in
+    let u = passed _ c.args.memory.now c.args.room.now ours c.plate_in-plate.ensures c.is_possible.ensures c.if-not-is_possible.false
+    c.is_sound.ensures c.if-not-is_sound.false c.if-memory-memory_length.false c.memory_length.ensures c.if-room-lt-LONGEST_REPLY.false in
     let full = pause_so _ c.args.memory.now c.args.room.now ours c.plate_in-plate.ensures c.full_pause-full.ensures in
     let bytes : (i : ℕ) → arg c.polled-sent.new.image i < 256 = λ i. search rules in
     let whole = character-whole _ _ _ u _ c.polled-sent.ensures _ c.is_fault.ensures bytes c.take_character.ensures in

@@ -6,8 +6,8 @@ use Rattle.meaning.proofs.Gaps.{over-told}
 use Rattle.line.specs.Line.{remaining_of}
 use Rattle.quicksetter.specs.Calls.{sleep_number}
 use Rattle.quicksetter.proofs.Heads.{ours-length, ours-label, not_ours}
-use Rattle.quicksetter.proofs.Refusing.{lends-poll, impossible, unsound, other_size, too_narrow, none_applies}
-use Rattle.quicksetter.proofs.Wholes.{some-refusal, refused-whole, workable, open_so, pause_so, remaining_so, polled-over, poll-whole}
+use Rattle.quicksetter.proofs.Refusing.{lends-poll, impossible, unsound, other_size, too_narrow}
+use Rattle.quicksetter.proofs.Wholes.{some-refusal, refused-whole, passed, open_so, pause_so, remaining_so, polled-over, poll-whole}
 use Rattle.quicksetter.proofs.Numbers.{with_sleep, refused_with-sleep, low-sleep, none_open, shut_sleep, early}
 use Rattle.quicksetter.proofs.events.qs_poll.Goals as goal
 
@@ -60,10 +60,8 @@ pub returns-then-not-is_open : goal.returns-then-not-is_open
 unfolding sleep_number
 returns-then-not-is_open c =
     let ours = sym c.is_ours.ensures ∙ c.if-not-is_ours.false in
-    let possible = sym (c.is_possible.ensures _ (ours-label _ ours)) ∙ c.if-not-is_possible.false in
-    let sound = sym c.is_sound.ensures ∙ c.if-not-is_sound.false in
-    let u = workable _ c.args.memory.now c.args.room.now ours c.plate_in-plate.ensures
-    (none_applies _ _ _ _ possible sound (c.if-memory-memory_length.false ∙ c.memory_length.ensures) c.if-room-lt-LONGEST_REPLY.false) in
+    let u = passed _ c.args.memory.now c.args.room.now ours c.plate_in-plate.ensures c.is_possible.ensures c.if-not-is_possible.false
+    c.is_sound.ensures c.if-not-is_sound.false c.if-memory-memory_length.false c.memory_length.ensures c.if-room-lt-LONGEST_REPLY.false in
     let bytes : (i : ℕ) → arg c.args.image.now i < 256 = λ i. search rules in
     let closed = sym (open_so _ ours c.is_open.ensures) ∙ c.if-not-is_open.true in
     rw c.answer_number.ensures (early _ _ _ u _ bytes (none_open _ _ _ closed) refl)
@@ -74,19 +72,14 @@ slice_bounds-remaining-end c = omega (arith, ours-length _ (sym c.is_ours.ensure
 pub shut-requires : goal.shut-requires
 shut-requires c =
     let ours = sym c.is_ours.ensures ∙ c.if-not-is_ours.false in
-    let possible = sym (c.is_possible.ensures _ (ours-label _ ours)) ∙ c.if-not-is_possible.false in
-    let sound = sym c.is_sound.ensures ∙ c.if-not-is_sound.false in
-    let u = workable _ c.args.memory.now c.args.room.now ours c.plate_in-plate.ensures
-    (none_applies _ _ _ _ possible sound (c.if-memory-memory_length.false ∙ c.memory_length.ensures) c.if-room-lt-LONGEST_REPLY.false) in
-    u
+    passed _ c.args.memory.now c.args.room.now ours c.plate_in-plate.ensures c.is_possible.ensures c.if-not-is_possible.false
+    c.is_sound.ensures c.if-not-is_sound.false c.if-memory-memory_length.false c.memory_length.ensures c.if-room-lt-LONGEST_REPLY.false
 
 pub returns-then-is_over : goal.returns-then-is_over
 returns-then-is_over c =
     let ours = sym c.is_ours.ensures ∙ c.if-not-is_ours.false in
-    let possible = sym (c.is_possible.ensures _ (ours-label _ ours)) ∙ c.if-not-is_possible.false in
-    let sound = sym c.is_sound.ensures ∙ c.if-not-is_sound.false in
-    let u = workable _ c.args.memory.now c.args.room.now ours c.plate_in-plate.ensures
-    (none_applies _ _ _ _ possible sound (c.if-memory-memory_length.false ∙ c.memory_length.ensures) c.if-room-lt-LONGEST_REPLY.false) in
+    let u = passed _ c.args.memory.now c.args.room.now ours c.plate_in-plate.ensures c.is_possible.ensures c.if-not-is_possible.false
+    c.is_sound.ensures c.if-not-is_sound.false c.if-memory-memory_length.false c.memory_length.ensures c.if-room-lt-LONGEST_REPLY.false in
     let full = pause_so _ c.args.memory.now c.args.room.now ours c.plate_in-plate.ensures c.full_pause.ensures in
     let left = remaining_so _ _ ours (c.remaining-left.ensures _ full) in
     let over = over-told _ _ _ left ∙ sym c.is_over.ensures ∙ c.if-is_over.true in
@@ -97,10 +90,8 @@ pub answer_number-requires-in-TicksLeft : goal.answer_number-requires-in-TicksLe
 unfolding sleep_number
 answer_number-requires-in-TicksLeft c =
     let ours = sym c.is_ours.ensures ∙ c.if-not-is_ours.false in
-    let possible = sym (c.is_possible.ensures _ (ours-label _ ours)) ∙ c.if-not-is_possible.false in
-    let sound = sym c.is_sound.ensures ∙ c.if-not-is_sound.false in
-    let u = workable _ c.args.memory.now c.args.room.now ours c.plate_in-plate.ensures
-    (none_applies _ _ _ _ possible sound (c.if-memory-memory_length.false ∙ c.memory_length.ensures) c.if-room-lt-LONGEST_REPLY.false) in
+    let u = passed _ c.args.memory.now c.args.room.now ours c.plate_in-plate.ensures c.is_possible.ensures c.if-not-is_possible.false
+    c.is_sound.ensures c.if-not-is_sound.false c.if-memory-memory_length.false c.memory_length.ensures c.if-room-lt-LONGEST_REPLY.false in
     let full = pause_so _ c.args.memory.now c.args.room.now ours c.plate_in-plate.ensures c.full_pause.ensures in
     let left = remaining_so _ _ ours (c.remaining-left.ensures _ full) in
     low-sleep _ _ _ u.core.plate (sym (ap remaining_of c.in-TicksLeft.is) ∙ left)
@@ -109,10 +100,8 @@ pub returns-in-NoFrameOpen : goal.returns-in-NoFrameOpen
 unfolding sleep_number
 returns-in-NoFrameOpen c =
     let ours = sym c.is_ours.ensures ∙ c.if-not-is_ours.false in
-    let possible = sym (c.is_possible.ensures _ (ours-label _ ours)) ∙ c.if-not-is_possible.false in
-    let sound = sym c.is_sound.ensures ∙ c.if-not-is_sound.false in
-    let u = workable _ c.args.memory.now c.args.room.now ours c.plate_in-plate.ensures
-    (none_applies _ _ _ _ possible sound (c.if-memory-memory_length.false ∙ c.memory_length.ensures) c.if-room-lt-LONGEST_REPLY.false) in
+    let u = passed _ c.args.memory.now c.args.room.now ours c.plate_in-plate.ensures c.is_possible.ensures c.if-not-is_possible.false
+    c.is_sound.ensures c.if-not-is_sound.false c.if-memory-memory_length.false c.memory_length.ensures c.if-room-lt-LONGEST_REPLY.false in
     let full = pause_so _ c.args.memory.now c.args.room.now ours c.plate_in-plate.ensures c.full_pause.ensures in
     let left = remaining_so _ _ ours (c.remaining-left.ensures _ full) in
     let bytes : (i : ℕ) → arg c.args.image.now i < 256 = λ i. search rules in
@@ -122,10 +111,8 @@ pub returns-in-TicksLeft : goal.returns-in-TicksLeft
 unfolding sleep_number
 returns-in-TicksLeft c =
     let ours = sym c.is_ours.ensures ∙ c.if-not-is_ours.false in
-    let possible = sym (c.is_possible.ensures _ (ours-label _ ours)) ∙ c.if-not-is_possible.false in
-    let sound = sym c.is_sound.ensures ∙ c.if-not-is_sound.false in
-    let u = workable _ c.args.memory.now c.args.room.now ours c.plate_in-plate.ensures
-    (none_applies _ _ _ _ possible sound (c.if-memory-memory_length.false ∙ c.memory_length.ensures) c.if-room-lt-LONGEST_REPLY.false) in
+    let u = passed _ c.args.memory.now c.args.room.now ours c.plate_in-plate.ensures c.is_possible.ensures c.if-not-is_possible.false
+    c.is_sound.ensures c.if-not-is_sound.false c.if-memory-memory_length.false c.memory_length.ensures c.if-room-lt-LONGEST_REPLY.false in
     let full = pause_so _ c.args.memory.now c.args.room.now ours c.plate_in-plate.ensures c.full_pause.ensures in
     let left = remaining_so _ _ ours (c.remaining-left.ensures _ full) in
     let bytes : (i : ℕ) → arg c.args.image.now i < 256 = λ i. search rules in
