@@ -46,8 +46,9 @@ KEPT = "character that is kept"
 KEPT_LIMIT = 92
 KEPT_RATIO_LIMIT = 0.92
 
-# What today's kit lays on each call, and none before it did: at an export the pointer of each lent slice is made one that is never null, five instructions and what
-# they need of registers. A kept character lends three slices. Both are as counted on the day on which the repository was brought to that kit, none to spare.
+# The code of an older kit met these. Today's makes the pointer of each slice that an export is lent one that is never null, and keeps more in registers and on the stack
+# for it: a kept character costs 18 instructions more than it did, a call that closes a frame 32 to 45. So much the worst call of all is over the ratio now, and the dearest kept
+# character over its limit; nothing is to spare.
 KIT_ADDS = 24
 KEPT_KIT_ADDS = 16
 
@@ -282,8 +283,8 @@ def table(head: List[str], rows: List[List[str]]) -> str:
 
 LIMIT_NOTE = f"""\
 The gate holds every single call of this table and the next to {CALL_RATIO_LIMIT} of the hand-written C's. Where a character is kept it also holds the dearest call and
-the mean to {KEPT_RATIO_LIMIT}, and while no code waits every call to {KEPT_RATIO_LIMIT} and to {KEPT_LIMIT} instructions. Beside that each call may cost {KIT_ADDS} instructions,
-a kept character {KEPT_KIT_ADDS}, which today's kit lays on every export."""
+the mean to {KEPT_RATIO_LIMIT}, and while no code waits every call to {KEPT_RATIO_LIMIT} and to {KEPT_LIMIT} instructions. Over that a call may be by
+{KIT_ADDS} instructions, a kept character by {KEPT_KIT_ADDS}: today's kit makes the pointer of each lent slice one that is never null, at every export, which an older one, that met the limits, did not."""
 COLUMNS = ["Library", "Hand-written C", "Ratio", "Means", "Calls", "Worst of them"]
 
 
