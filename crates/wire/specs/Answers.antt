@@ -1,15 +1,18 @@
 -- What a command comes to, in the code: the answer told, the reply data in the room, the memory and the state after it (01, "The commands"). Assumes nothing.
-use Rattle.std.specs.Prelude.{◌≡◌, List, ℕ, length}
+use Rattle.std.specs.Prelude.{◌≡◌, List, ℕ, length, Option, Some, None, Result, Ok, Err}
 use Rattle.meaning.specs.Bytes.{put}
 use Rattle.meaning.specs.State.{State}
 use Rattle.meaning.specs.Commands as meaning
-use Rattle.wire.specs.declared.answer.Answer.{Answer}
-use Rattle.wire.specs.declared.answer.Answer.TheVariants.{Refuse, Accept, Quiet}
+use Rattle.wire.specs.declared.codes.ErrorCode.{ErrorCode}
+
+-- so many bytes of reply data; no reply; the error code that is replied
+abbrev pub Answer : Type 0
+Answer = Result (Option ℕ) ErrorCode
 
 abbrev pub told : meaning.Answer → Answer
-told (meaning.refuse e) = Refuse e
-told (meaning.accept d s m) = Accept (length d)
-told (meaning.quiet s m) = Quiet
+told (meaning.refuse e) = Err (record { byte = e })
+told (meaning.accept d s m) = Ok (Some (length d))
+told (meaning.quiet s m) = Ok None
 
 -- the reply data stands from place 2 of the room on, behind the places of address and command
 abbrev pub data_in : meaning.Answer → List ℕ → List ℕ

@@ -1,9 +1,5 @@
 // What a command comes to (01, "The commands").
+use crate::codes::ErrorCode;
 
-// An error code; so many bytes of reply data, from place 2 of the room on; no reply.
-#[derive(Drop)]
-pub enum Answer {
-    Refuse(u8),
-    Accept(u8),
-    Quiet,
-}
+// So many bytes of reply data, from place 2 of the room on; no reply; or the error code that is replied.
+pub type Answer = Result<Option<u8>, ErrorCode>;

@@ -1,33 +1,41 @@
 // The numbers that stand on the wire: error codes, by 000's names where they fit 01's use of them, and the lengths of 01, "Named refusals".
 
-// 02h, 01: "02h if locked".
-pub const POSITION_LOCKED: u8 = 0x02;
+// The data of an error reply. Any byte is one: boards of other makers have more of them than ours.
+#[derive(Clone, Copy, PartialEq, Eq)]
+pub struct ErrorCode {
+    pub byte: u8,
+}
 
-pub const TABLE_DESTROYED: u8 = 0x03;
+impl ErrorCode {
+    // 02h, 01: "02h if locked".
+    pub const POSITION_LOCKED: ErrorCode = ErrorCode { byte: 0x02 };
 
-pub const COUNTER_OVERFLOW: u8 = 0x08;
+    pub const TABLE_DESTROYED: ErrorCode = ErrorCode { byte: 0x03 };
 
-pub const PARITY_ERROR: u8 = 0x09;
+    pub const COUNTER_OVERFLOW: ErrorCode = ErrorCode { byte: 0x08 };
 
-pub const CHECKSUM_ERROR: u8 = 0x0A;
+    pub const PARITY_ERROR: ErrorCode = ErrorCode { byte: 0x09 };
 
-pub const UNKNOWN_COMMAND: u8 = 0x0B;
+    pub const CHECKSUM_ERROR: ErrorCode = ErrorCode { byte: 0x0A };
 
-// Of a frame longer than 135 bytes too.
-pub const WRONG_LENGTH: u8 = 0x0C;
+    pub const UNKNOWN_COMMAND: ErrorCode = ErrorCode { byte: 0x0B };
 
-pub const WRONG_ARGUMENT: u8 = 0x0D;
+    // Of a frame longer than 135 bytes too.
+    pub const WRONG_LENGTH: ErrorCode = ErrorCode { byte: 0x0C };
 
-pub const READ_ONLY: u8 = 0x0E;
+    pub const WRONG_ARGUMENT: ErrorCode = ErrorCode { byte: 0x0D };
 
-pub const WRONG_CODE: u8 = 0x0F;
+    pub const READ_ONLY: ErrorCode = ErrorCode { byte: 0x0E };
 
-// 10h, 000's "Fixed data field size": too few free blocks, or a field that is not the last.
-pub const FIXED_SIZE: u8 = 0x10;
+    pub const WRONG_CODE: ErrorCode = ErrorCode { byte: 0x0F };
 
-pub const WRONG_OFFSET: u8 = 0x11;
+    // 10h, 000's "Fixed data field size": too few free blocks, or a field that is not the last.
+    pub const FIXED_SIZE: ErrorCode = ErrorCode { byte: 0x10 };
 
-pub const WRONG_FIELD: u8 = 0x12;
+    pub const WRONG_OFFSET: ErrorCode = ErrorCode { byte: 0x11 };
+
+    pub const WRONG_FIELD: ErrorCode = ErrorCode { byte: 0x12 };
+}
 
 // The command byte of an error reply.
 pub const ERROR_REPLY: u8 = 0x50;
