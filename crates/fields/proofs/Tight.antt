@@ -5,7 +5,7 @@ use mathlib.Core.List.{List, []}
 use Rattle.meaning.specs.State.{Plate, State, fresh, with_codes}
 use Rattle.meaning.specs.Fields as meaning
 use Rattle.meaning.specs.Commands.{Answer}
-use Rattle.wire.specs.declared.answer.Answer as declared
+use Rattle.wire.specs.Answers as declared
 use Rattle.wire.specs.Answers.{Works}
 use Rattle.wire.proofs.Tight.{one_outcome}
 use Rattle.fields.specs.Memory.{Saw, survey_of}

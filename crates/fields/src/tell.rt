@@ -8,11 +8,11 @@ ghost use Rattle.wire.specs.Answers.{Works};
 ghost use Rattle.fields.specs.Memory.{survey_of};
 ghost use Rattle.fields.specs.Replies.{Countable, Tellable};
 
-use crate::find::{Found, find_field};
+use crate::find::find_field;
 use crate::reply::reply_two;
-use crate::seen::{Survey, Trust};
+use crate::seen::Survey;
 use wire::Answer;
-use wire::codes::TABLE_DESTROYED;
+use wire::codes::ErrorCode;
 
 // 4Ch: field. 03h; 12h; field and status.
 pub fn field_status(seen: Survey, request: &[u8], room: &mut [u8]) -> Answer
@@ -21,16 +21,8 @@ pub fn field_status(seen: Survey, request: &[u8], room: &mut [u8]) -> Answer
         → Works (field_status p s m request.now) m room.old result m room.new }
 {
     let field = request[0];
-    let found = find_field(seen, field);
-    let Found::Field {
-        from: _,
-        to: _,
-        status,
-    } = found
-    else {
-        return Answer::Refuse(found.code());
-    };
-    reply_two(field, status, room)
+    let found = find_field(seen, field)?;
+    reply_two(field, found.status, room)
 }
 
 // 4Eh: the byte that tells the free blocks.
@@ -48,8 +40,8 @@ pub fn memory_status(seen: Survey, room: &mut [u8]) -> Answer
     ensures { (p : Plate) (s : State) (m d : List ℕ) (f : ℕ) → survey_of seen ≡ survey p.total m f
         → Works (memory_status p s m d) m room.old result m room.new }
 {
-    let Trust::Sound = seen.trust() else {
-        return Answer::Refuse(TABLE_DESTROYED);
-    };
+    if !seen.sound {
+        return Err(ErrorCode::TABLE_DESTROYED);
+    }
     reply_two(free_byte(seen.free), seen.fields as u8, room)
 }

@@ -17,7 +17,7 @@ returns-then-number-seen c =
     let d = a.request.now in
     let sound : a.seen.sound ≡ true = not-false _ c.if-not-seen.false in
     let there = sym c.has_field.ensures ∙ c.if-has_field.true in
-    let last = c.if-number-seen.true in
+    let last = sym c.from-number.ensures ∙ c.if-number-seen.true in
     shape_create a.codes.now a.seen.total (survey_of a.seen) d sound there last _
     (c.judge_create.ensures (arg d 0) (c.requires.sits sound) last there)
 
@@ -25,7 +25,7 @@ pub returns-then-seen-number : goal.returns-then-seen-number
 returns-then-seen-number c =
     let a = c.args in
     let there = sym c.has_field.ensures ∙ c.if-has_field.true in
-    shape_past a.codes.now a.seen.total (survey_of a.seen) a.request.now (not-false _ c.if-not-seen.false) there c.if-seen-number.true
+    shape_past a.codes.now a.seen.total (survey_of a.seen) a.request.now (not-false _ c.if-not-seen.false) there (omega arith)
 
 pub returns-then-has_field : goal.returns-then-has_field
 returns-then-has_field c =
@@ -33,8 +33,7 @@ returns-then-has_field c =
     let d = a.request.now in
     let sound : a.seen.sound ≡ true = not-false _ c.if-not-seen.false in
     let there = sym c.has_field.ensures ∙ c.if-has_field.true in
-    let other = c.if-number-seen.false in
-    let below : arg d 0 < a.seen.fields = omega (arith, c.if-seen-number.false) in
+    let below : arg d 0 < a.seen.fields = omega arith in
     shape_modify a.codes.now a.seen.total (survey_of a.seen) d sound there below _
     (c.judge_modify.ensures a.seen.total (c.requires.sits sound) below there)
 
@@ -42,7 +41,7 @@ pub returns-then-seen-number-2 : goal.returns-then-seen-number-2
 returns-then-seen-number-2 c =
     let a = c.args in
     let gone = sym c.has_field.ensures ∙ c.if-has_field.false in
-    shape_none a.codes.now a.seen.total (survey_of a.seen) a.request.now (not-false _ c.if-not-seen.false) gone c.if-seen-number-2.true
+    shape_none a.codes.now a.seen.total (survey_of a.seen) a.request.now (not-false _ c.if-not-seen.false) gone (omega arith)
 
 pub returns : goal.returns
 returns c =
@@ -50,6 +49,6 @@ returns c =
     let d = a.request.now in
     let sound : a.seen.sound ≡ true = not-false _ c.if-not-seen.false in
     let gone = sym c.has_field.ensures ∙ c.if-has_field.false in
-    let below = c.if-seen-number-2.false in
+    let below : arg d 0 < a.seen.fields = omega arith in
     shape_delete a.codes.now a.seen.total (survey_of a.seen) d sound gone below _
     (c.judge_delete.ensures a.seen.total (c.requires.sits sound) below gone)

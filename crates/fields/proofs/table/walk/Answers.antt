@@ -31,5 +31,5 @@ returns c m e =
     record {
       total = refl;
       seen = survey-is c.args.total c.args.field m c.args.statuses.now e _ c.is_blank_from-rest_blank.result _ _ _ _ _
-          fields blocks c.is_blank_from-rest_blank.ensures refl c.less.ensures u c.byte_at.ensures;
+          fields blocks c.is_blank_from-rest_blank.ensures refl c.saturating_sub.ensures u c.byte_at.ensures;
     }
