@@ -28,6 +28,7 @@ fn read_own(own: &[u8], request: &[u8], room: &mut [u8]) -> Answer
 }
 
 // 4Ah: field, offset, count, code. 03h; 12h; 0Fh; 0Dh if count is 0 or over 128; 11h.
+#[tactic(auto, using(crate::proofs::Rows::asked_4a))]
 pub fn read_field(
     seen: Survey,
     memory: &[u8],
@@ -65,6 +66,7 @@ fn store_own(own: &mut [u8], request: &[u8], room: &mut [u8]) -> Answer
 }
 
 // 4Bh: field, offset, count, code, data. 03h; 12h; 0Fh; 0Eh if bit 6 is clear; 11h; stores.
+#[tactic(auto, using(crate::proofs::Rows::asked_4b))]
 pub fn store_field(
     seen: Survey,
     memory: &mut [u8],

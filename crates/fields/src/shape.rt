@@ -121,6 +121,7 @@ fn judge_shape(seen: Survey, codes: &[u8], request: &[u8]) -> Result<Change, Err
 }
 
 // 4Dh: field, status, code. The reply repeats the status as received.
+#[tactic(auto, using(crate::proofs::Rows::asked_4d))]
 pub fn shape_field(
     seen: Survey,
     memory: &mut [u8],

@@ -15,6 +15,7 @@ use wire::Answer;
 use wire::codes::ErrorCode;
 
 // 4Ch: field. 03h; 12h; field and status.
+#[tactic(auto, using(crate::proofs::Rows::asked_4c))]
 pub fn field_status(seen: Survey, request: &[u8], room: &mut [u8]) -> Answer
     requires { Tellable c4c seen request.now room.old }
     ensures { (p : Plate) (s : State) (m : List ℕ) → survey_of seen ≡ survey p.total m (arg request.now 0)

@@ -7,12 +7,6 @@ use Rattle.fields.proofs.Rows.{asked_4a, works-refuse, works-passed}
 use Rattle.fields.proofs.Tables.{first-few}
 use Rattle.fields.proofs.access.read_field.Goals as goal
 
-pub bounds-request-0 : goal.bounds-request-0
-bounds-request-0 c = omega (arith, asked_4a c.args.request.now c.requires.asked.wanted)
-
-pub bounds-request-3 : goal.bounds-request-3
-bounds-request-3 c = omega (arith, asked_4a c.args.request.now c.requires.asked.wanted)
-
 pub open_field-requires : goal.open_field-requires
 open_field-requires c = (first-few c.args.seen.total c.args.memory.now c.requires.asked.lent.fit _ _ c.requires.seen, c.requires.codes)
 
@@ -20,9 +14,6 @@ pub returns-in_err-found : goal.returns-in_err-found
 returns-in_err-found c p s e q =
     works-passed _ _ c.from_residual.ensures.1
     (read-refused p s _ _ c.args.memory.now c.args.request.now e q _ (c.in_err-found.ensures c.args.seen.total c.args.memory.now c.requires.seen))
-
-pub bounds-request-2 : goal.bounds-request-2
-bounds-request-2 c = omega (arith, asked_4a c.args.request.now c.requires.asked.wanted)
 
 pub returns-then-request-eq0 : goal.returns-then-request-eq0
 returns-then-request-eq0 c p s e q =

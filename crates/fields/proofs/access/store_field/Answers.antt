@@ -6,12 +6,6 @@ use Rattle.fields.proofs.Rows.{asked_4b, works-refuse, works-passed}
 use Rattle.fields.proofs.Tables.{first-few}
 use Rattle.fields.proofs.access.store_field.Goals as goal
 
-pub bounds-request-0 : goal.bounds-request-0
-bounds-request-0 c = omega (arith, asked_4b c.args.request.now c.requires.asked.wanted)
-
-pub bounds-request-3 : goal.bounds-request-3
-bounds-request-3 c = omega (arith, asked_4b c.args.request.now c.requires.asked.wanted)
-
 pub open_field-requires : goal.open_field-requires
 open_field-requires c = (first-few c.args.seen.total c.args.memory.now c.requires.asked.lent.fit _ _ c.requires.seen, c.requires.codes)
 

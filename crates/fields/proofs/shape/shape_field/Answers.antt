@@ -6,9 +6,6 @@ use Rattle.fields.proofs.Rows.{asked_4d, works-passed, works-accept}
 use Rattle.fields.proofs.Tables.{sits, free_le}
 use Rattle.fields.proofs.shape.shape_field.Goals as goal
 
-pub bounds-request-0 : goal.bounds-request-0
-bounds-request-0 c = omega (arith, asked_4d c.args.request.now c.requires.asked.wanted)
-
 pub judge_shape-requires : goal.judge_shape-requires
 judge_shape-requires c =
     let t = c.args.seen.total in
@@ -23,18 +20,12 @@ judge_shape-requires c =
       long = asked_4d d c.requires.asked.wanted;
     }
 
-pub returns-in_err-change : goal.returns-in_err-change
-returns-in_err-change c p s e q = works-passed _ _ c.from_residual.ensures.1 (c.in_err-change.ensures.answer p s c.args.memory.now e q c.requires.seen)
-
 pub apply-requires : goal.apply-requires
 apply-requires c = record {
   fit = c.requires.asked.lent.fit;
   room = c.in_ok-change.ensures.place;
   long = asked_4d c.args.request.now c.requires.asked.wanted;
 }
-
-pub bounds-request-1 : goal.bounds-request-1
-bounds-request-1 c = omega (arith, asked_4d c.args.request.now c.requires.asked.wanted)
 
 pub returns : goal.returns
 returns c p s e q = rw c.apply.ensures (works-accept (c.in_ok-change.ensures.answer p s c.args.memory.now e q c.requires.seen) c.reply_two.ensures)

@@ -3,9 +3,6 @@ use Rattle.std.proofs.Common.{arith}
 use Rattle.fields.proofs.Rows.{asked_4c, works-passed, works-accept, status-refused, status-told}
 use Rattle.fields.proofs.tell.field_status.Goals as goal
 
-pub bounds-request-0 : goal.bounds-request-0
-bounds-request-0 c = omega (arith, asked_4c c.args.request.now c.requires.wanted)
-
 pub returns-in_err-found : goal.returns-in_err-found
 returns-in_err-found c p s m e = works-passed _ _ c.from_residual.ensures.1 (status-refused p s m c.args.request.now _ (c.in_err-found.ensures p.total m e))
 
