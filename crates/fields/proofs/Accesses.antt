@@ -35,6 +35,8 @@ module _ (own d : List ℕ) (s : State) (m : List ℕ) where
   unfolding error
   read-within h = rw (le-ltb _ _ h)
 
+-- the writer: the same
+module _ (own d : List ℕ) (s : State) where
   pub store_past : length own < arg d 1 + arg d 2 → store_own own d s ≡ refuse 0x11
   unfolding error
   store_past h = rw (lt-ltb _ _ h)

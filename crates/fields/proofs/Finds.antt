@@ -11,7 +11,6 @@ use Rattle.meaning.specs.Bytes.{both}
 use Rattle.meaning.specs.State.{State}
 use Rattle.meaning.specs.Fields.{bytes_of, blocks, coded, Survey, survey}
 use Rattle.meaning.specs.Commands.{Answer, refuse, error, on_field, barred, wrong_code}
-use Rattle.wire.specs.declared.codes.ErrorCode.{ErrorCode}
 use Rattle.fields.specs.Found.{Lies, FoundIn, OpenTo}
 use Rattle.fields.specs.declared.find.Field.{Field}
 use Rattle.fields.proofs.Tables.{sits}
@@ -50,9 +49,6 @@ module _ (t : ℕ) (m : List ℕ) (f : ℕ) (v : Survey) (e : v ≡ survey t m f
 
 -- the code comes after the field
 module _ (codes : List ℕ) (c t : ℕ) (m : List ℕ) (f : ℕ) where
-  pub open_refused : (e : ErrorCode) → FoundIn t m f (Err e) → OpenTo codes c t m f (Err e)
-  open_refused e w = record { chain = λ s a q. w.chain (error 0x0F (barred s (survey t m f) c) a); place = tt }
-
   module _ (field : Field) (w : FoundIn t m f (Ok field)) where
     abbrev st : ℕ
     st = field.status

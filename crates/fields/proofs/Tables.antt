@@ -7,7 +7,8 @@ use native.Mathlib.Omega.{arith}
 use lib.ListN.{length, take, drop, length-take, length-drop}
 use lib.Dec.{leb}
 use borrow.Author.Tests.{leb-true}
-use Rattle.fields.specs.Memory.{Sits, Sized}
+use Rattle.fields.specs.Memory.{CountedOn, Sits, Sized}
+use Rattle.fields.specs.declared.table.Tally.{Tally}
 use Rattle.meaning.specs.Bytes.{both, blank}
 use Rattle.meaning.specs.Fields.{bytes_of, blocks, exists, field_count, used, sound, table, free_blocks, status_at, Survey, survey}
 use Rattle.meaning.proofs.Choices.{both_right, and_both}
@@ -70,6 +71,11 @@ used_halt (s ∷ r) (suc f) = go (exists s) refl (used_halt r f)
         → used (s ∷ r) ≡ used (s ∷ take f r) + used (drop (field_count (s ∷ take f r)) (s ∷ r))
     go true e h = rw (count_yes s (take f r) e, used_yes s r e, used_yes s (take f r) e) (omega arith)
     go false e h = rw (count_no s (take f r) e, used_no s (take f r) e) (omega arith)
+
+-- the walk that halts before field f, counted from none
+pub halted_at : (l front : List ℕ) (f : ℕ) (r : Tally) → front ≡ take f l → CountedOn front (record { fields = 0; blocks = 0 }) r
+    → (r.fields ≡ field_count (take f l)) × (r.blocks ≡ used (take f l))
+halted_at l front f r e k = (omega (arith, k.fields, ap field_count e), omega (arith, k.blocks, ap used e))
 
 -- a walk that came to n fields of b blocks before field f, and went on from there
 module _ (l : List ℕ) (f n b : ℕ) (first : n ≡ field_count (take f l)) where

@@ -46,8 +46,8 @@ pub rest-is : (l : List ℕ) (a : ℕ) → take (length l - a) (drop a l) ≡ dr
 rest-is l a = take_all (length l - a) (drop a l) (omega (arith, length-drop a l))
 
 -- .. and its bytes are those from a on
-pub rest_at : (l : List ℕ) (a i : ℕ) → get_or (take (length l - a) (drop a l)) i 0 ≡ get_or l (a + i) 0
-rest_at l a i = ap (λ (r : List ℕ). get_or r i 0) (rest-is l a) ∙ get_or-drop a l i 0
+pub rest_at : (l : List ℕ) (a i n : ℕ) → n ≡ a + i → get_or (take (length l - a) (drop a l)) i 0 ≡ get_or l n 0
+rest_at l a i n e = ap (λ (r : List ℕ). get_or r i 0) (rest-is l a) ∙ get_or-drop a l i 0 ∙ ap (λ (k : ℕ). get_or l k 0) (sym e)
 
 -- .. cut into fours
 four_is : (k : ℕ) (l : List ℕ) (i : ℕ) → i < k → get_or (first_chunks 4 k l) i [] ≡ take 4 (drop (4 * i) l)

@@ -13,6 +13,7 @@ use wire::codes::{ErrorCode, MOST_COUNT};
 use wire::{Answer, fill};
 
 // The reader of offset and count, on the field's own part of memory. 11h; field, offset, count and the bytes.
+#[tactic(auto, using(crate::proofs::Accesses::read_past))]
 fn read_own(own: &[u8], request: &[u8], room: &mut [u8]) -> Answer
     requires { Readable request.now room.old }
     ensures { (s : State) (m : List ℕ) → Works (read_own own.now request.now s m) m room.old result m room.new }
@@ -28,7 +29,7 @@ fn read_own(own: &[u8], request: &[u8], room: &mut [u8]) -> Answer
 }
 
 // 4Ah: field, offset, count, code. 03h; 12h; 0Fh; 0Dh if count is 0 or over 128; 11h.
-#[tactic(auto, using(crate::proofs::Rows::asked_4a))]
+#[tactic(auto, using(crate::proofs::Rows::asked_4a, crate::proofs::Accesses::read_many))]
 pub fn read_field(
     seen: Survey,
     memory: &[u8],
@@ -66,7 +67,7 @@ fn store_own(own: &mut [u8], request: &[u8], room: &mut [u8]) -> Answer
 }
 
 // 4Bh: field, offset, count, code, data. 03h; 12h; 0Fh; 0Eh if bit 6 is clear; 11h; stores.
-#[tactic(auto, using(crate::proofs::Rows::asked_4b))]
+#[tactic(auto, using(crate::proofs::Rows::asked_4b, crate::proofs::Accesses::store_locked))]
 pub fn store_field(
     seen: Survey,
     memory: &mut [u8],

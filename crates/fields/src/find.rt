@@ -18,6 +18,7 @@ pub struct Field {
 }
 
 // 03h; 12h.
+#[tactic(auto, using(crate::proofs::Finds::found_unsound, crate::proofs::Finds::found_none))]
 pub(crate) fn find_field(seen: Survey, field: u8) -> Result<Field, ErrorCode>
     requires { seen.first ≤ 65535 }
     ensures { (t : ℕ) (m : List ℕ) → survey_of seen ≡ survey t m field → FoundIn t m field result }

@@ -36,6 +36,7 @@ fn free_byte(free: usize) -> u8
 }
 
 // 4Eh: no data. 03h; free blocks, number of fields.
+#[tactic(auto, using(crate::proofs::Rows::memory_unsound))]
 pub fn memory_status(seen: Survey, room: &mut [u8]) -> Answer
     requires { Countable seen room.old }
     ensures { (p : Plate) (s : State) (m d : List ℕ) (f : ℕ) → survey_of seen ≡ survey p.total m f

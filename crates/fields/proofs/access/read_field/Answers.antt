@@ -21,19 +21,6 @@ returns-then-request-eq0 c p s e q =
     let found = c.in_ok-found.ensures c.args.seen.total m c.requires.seen in
     works-refuse (read-zero p s _ _ m c.args.request.now e q _ found c.if-request-eq0.true)
 
-pub returns-then-request-gt-MOST_COUNT : goal.returns-then-request-gt-MOST_COUNT
-returns-then-request-gt-MOST_COUNT c p s e q =
-    let m = c.args.memory.now in
-    let found = c.in_ok-found.ensures c.args.seen.total m c.requires.seen in
-    works-refuse (read_many p s _ _ m c.args.request.now e q _ found c.if-request-eq0.false c.if-request-gt-MOST_COUNT.true)
-
-pub read_own-requires : goal.read_own-requires
-read_own-requires c = record {
-  long = asked_4a c.args.request.now c.requires.asked.wanted;
-  few = c.if-request-gt-MOST_COUNT.false;
-  room = c.requires.asked.lent.room;
-}
-
 pub returns : goal.returns
 returns c p s e q =
     let m = c.args.memory.now in

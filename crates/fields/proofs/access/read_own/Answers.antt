@@ -4,9 +4,6 @@ use Rattle.fields.proofs.Accesses.{read_past, read-within, read_told}
 use Rattle.fields.proofs.Rows.{works-refuse, works-accept}
 use Rattle.fields.proofs.access.read_own.Goals as goal
 
-pub returns-then-own-to : goal.returns-then-own-to
-returns-then-own-to c s m = works-refuse (read_past c.args.own.now c.args.request.now s m (omega arith))
-
 pub returns : goal.returns
 returns c s m =
     works-accept (read-within c.args.own.now c.args.request.now s m (omega arith))

@@ -14,17 +14,6 @@ returns-in_err-found c p s e q =
     works-passed _ _ c.from_residual.ensures.1
     (store_refused p s _ _ c.args.memory.now c.args.request.now e q _ (c.in_err-found.ensures c.args.seen.total c.args.memory.now c.requires.seen))
 
-pub returns-then-not-is_writable : goal.returns-then-not-is_writable
-returns-then-not-is_writable c p s e q =
-    let m = c.args.memory.now in
-    let found = c.in_ok-found.ensures c.args.seen.total m c.requires.seen in
-    works-refuse (store_locked p s _ _ m c.args.request.now e q _ found (sym c.is_writable.ensures ∙ c.if-not-is_writable.true))
-
-pub store_own-requires : goal.store_own-requires
-store_own-requires c =
-    let k = asked_4b c.args.request.now c.requires.asked.wanted in
-    record { long = k.2; some = k.0; room = c.requires.asked.lent.room }
-
 pub returns : goal.returns
 returns c p s e q =
     let m = c.args.memory.now in

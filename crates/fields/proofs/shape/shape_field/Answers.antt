@@ -27,5 +27,3 @@ apply-requires c = record {
   long = asked_4d c.args.request.now c.requires.asked.wanted;
 }
 
-pub returns : goal.returns
-returns c p s e q = rw c.apply.ensures (works-accept (c.in_ok-change.ensures.answer p s c.args.memory.now e q c.requires.seen) c.reply_two.ensures)

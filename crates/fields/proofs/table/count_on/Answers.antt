@@ -9,16 +9,16 @@ pub returns-then-not-has_field : goal.returns-then-not-has_field
 returns-then-not-has_field c =
     let l = c.args.statuses.now in
     let i = c.loop-status.counted.fields in
-    let at = rest_at l c.args.from.fields c.loop-status.status-index ∙ ap (λ n. get_or l n 0) (sym c.loop-status.invariant.here) in
-    let e : exists (get_or l i 0) ≡ false = ap exists (sym at) ∙ sym c.has_field.ensures ∙ c.if-not-has_field.true in
+    let at = rest_at l c.args.from.fields c.loop-status.status-index i c.loop-status.invariant.here in
+    let e : exists (get_or l i 0) ≡ false = ap exists (sym at) ∙ sym c.if-not-has_field.ensures in
     record { fields = omega (arith, count-stop l i (omega arith) e); blocks = omega (arith, used-stop l i (omega arith) e) }
 
 pub loop-status-preserved : goal.loop-status-preserved
 loop-status-preserved c =
     let l = c.args.statuses.now in
     let i = c.loop-status.counted.fields in
-    let at = rest_at l c.args.from.fields c.loop-status.status-index ∙ ap (λ n. get_or l n 0) (sym c.loop-status.invariant.here) in
-    let e : exists (get_or l i 0) ≡ true = ap exists (sym at) ∙ sym c.has_field.ensures ∙ c.if-not-has_field.false in
+    let at = rest_at l c.args.from.fields c.loop-status.status-index i c.loop-status.invariant.here in
+    let e : exists (get_or l i 0) ≡ true = ap exists (sym at) ∙ sym c.if-not-has_field.ensures in
     let n : c.from.result ≡ blocks (get_or l i 0) = c.from.ensures ∙ c.blocks_in.ensures ∙ ap blocks at in
     record {
       here = omega arith;

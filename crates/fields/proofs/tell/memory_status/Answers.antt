@@ -4,9 +4,6 @@ use Rattle.fields.specs.Memory.{survey_of}
 use Rattle.fields.proofs.Rows.{works-refuse, works-accept, memory_unsound, memory-told}
 use Rattle.fields.proofs.tell.memory_status.Goals as goal
 
-pub returns-then-not-seen : goal.returns-then-not-seen
-returns-then-not-seen c p s m d f e = works-refuse (memory_unsound p s m d f (survey_of c.args.seen) e (not-true _ c.if-not-seen.true))
-
 pub returns : goal.returns
 returns c p s m d f e =
     works-accept (memory-told p s m d f (survey_of c.args.seen) e (not-false _ c.if-not-seen.false)) (rw (← c.free_byte.ensures) c.reply_two.ensures)
