@@ -6,7 +6,6 @@ pub mod Pieces
 pub mod Finds
 pub mod Rows
 pub mod Accesses
-pub mod Signed
 pub mod Over
 pub mod Shapes
 pub mod Tight

@@ -98,21 +98,6 @@ module _ (l : List ℕ) (i : ℕ) where
   pub four-stop : (little (part l i 4) ≡ 0 → ⊥) → blank (drop i l) ≡ false
   four-stop e = blank-four ∙ ap (λ (b : Bool). both b (blank (drop (i + 4) l))) (ne_eqb (little (part l i 4)) 0 e)
 
-  -- one byte, and what is left
-  blank_one : i < length l → blank (drop i l) ≡ both (eqb (get_or l i 0) 0) (blank (drop (i + 1) l))
-  unfolding blank
-  blank_one h = rw (next h)
-
-  pub blank-more : i < length l → get_or l i 0 ≡ 0 → blank (drop i l) ≡ blank (drop (i + 1) l)
-  blank-more h e = blank_one h ∙ ap (λ (b : Bool). both b (blank (drop (i + 1) l))) (eq-eqb (get_or l i 0) 0 e)
-
-  pub blank-stop : i < length l → (get_or l i 0 ≡ 0 → ⊥) → blank (drop i l) ≡ false
-  blank-stop h e = blank_one h ∙ ap (λ (b : Bool). both b (blank (drop (i + 1) l))) (ne_eqb (get_or l i 0) 0 e)
-
-  pub blank_end : length l ≤ i → blank (drop i l) ≡ true
-  unfolding blank
-  blank_end h = rw (drop_of_length-le l h)
-
   pub count-more : i < length l → exists (get_or l i 0) ≡ true → field_count (drop i l) ≡ suc (field_count (drop (i + 1) l))
   unfolding field_count
   count-more h e = rw (next h) (rw e)

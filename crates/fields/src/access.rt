@@ -28,6 +28,8 @@ fn read_own(own: &[u8], request: &[u8], room: &mut [u8]) -> Answer
     Ok(Some(3 + request[2]))
 }
 
+// Survey, codes, request and room come one by one to each row: a struct of them would be made for one call and taken apart in it.
+
 // 4Ah: field, offset, count, code. 03h; 12h; 0Fh; 0Dh if count is 0 or over 128; 11h.
 #[tactic(auto, using(crate::proofs::Rows::asked_4a, crate::proofs::Accesses::read_many))]
 pub fn read_field(

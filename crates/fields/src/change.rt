@@ -22,6 +22,7 @@ fn change_of(new: u8, old: u8) -> i32
 }
 
 // The free blocks once the change is charged to them, or given back; below 0 where they do not suffice.
+// `as`, for so few fit: a conversion that may fail would have a branch that is never taken.
 fn charged(free: usize, change: i32) -> i32
     requires { Chargeable free change }
     ensures { result ≡ pos free -ℤ change }
@@ -38,6 +39,7 @@ pub(crate) fn lacks_room(free: usize, new: u8, old: u8) -> bool
 }
 
 // A block at a time, then what is over, and only the cells that are not 00h (02, Req 05).
+// By index: of pieces lent by chunks_mut a proof knows no bytes afterwards.
 fn clear(part: &mut [u8])
     ensures { part.new ≡ zeros (length part.old) }
 {

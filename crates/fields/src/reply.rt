@@ -19,7 +19,5 @@ pub(crate) fn repeat_three(request: &[u8], room: &mut [u8])
     requires { Repeatable request.now room.old }
     ensures { room.new ≡ put room.old 2 (named request.now) }
 {
-    room[2] = request[0];
-    room[3] = request[1];
-    room[4] = request[2];
+    room[2..5].copy_from_slice(&request[..3]);
 }

@@ -2,6 +2,7 @@
 
 // Of how many blocks; whether the table is sound; the number of fields; the free blocks; of the named field its first block and its status.
 // The numbers stand whether the table is sound or not, as the meaning's `Survey` has them, so that `sound` is a flag beside them.
+// No invariant binds them: each row promises its answer for any numbers that fit what it tells (records `Tellable`, `Countable`, `Looked`).
 #[derive(Clone, Copy)]
 pub struct Survey {
     pub total: usize,

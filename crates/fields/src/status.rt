@@ -14,6 +14,7 @@ pub(crate) fn wants_code(status: u8) -> bool
 }
 
 // Whether the code is not the one that the status names.
+// The codes are a slice and no array: a host's core holds the four among other bytes, and that part of it is lent as it stands.
 #[tactic(auto, unfolding(meaning::specs::Commands::wrong_code, meaning::specs::State::code))]
 pub(crate) fn is_wrong_code(codes: &[u8], status: u8, code: u8) -> bool
     requires { length codes.now ≡ 4 }

@@ -27,6 +27,7 @@ pub fn field_status(seen: Survey, request: &[u8], room: &mut [u8]) -> Answer
 }
 
 // 4Eh: the byte that tells the free blocks.
+// `as`, here and for the fields below, for both fit a byte: a conversion that may fail would have a branch that is never taken.
 #[tactic(auto, unfolding(meaning::specs::Commands::free_byte))]
 fn free_byte(free: usize) -> u8
     requires { free ≤ 255 }
