@@ -1,9 +1,9 @@
 -- What is left to show of `fields::access::read_field`.
-use Rattle.std.proofs.Common.{subst, arith}
+use Rattle.std.proofs.Common.{subst}
 use Rattle.meaning.specs.Commands.{Answer}
 use Rattle.wire.specs.Answers.{Works}
-use Rattle.fields.proofs.Accesses.{read-refused, read-zero, read_many, read_own_lem}
-use Rattle.fields.proofs.Rows.{asked_4a, works-refuse, works-passed}
+use Rattle.fields.proofs.Accesses.{read-refused, read-zero, read_own_lem}
+use Rattle.fields.proofs.Rows.{works-refuse, works-passed}
 use Rattle.fields.proofs.Tables.{first-few}
 use Rattle.fields.proofs.access.read_field.Goals as goal
 

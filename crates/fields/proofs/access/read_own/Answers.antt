@@ -1,7 +1,7 @@
 -- What is left to show of `fields::access::read_own`.
 use Rattle.std.proofs.Common.{arith}
-use Rattle.fields.proofs.Accesses.{read_past, read-within, read_told}
-use Rattle.fields.proofs.Rows.{works-refuse, works-accept}
+use Rattle.fields.proofs.Accesses.{read-within, read_told}
+use Rattle.fields.proofs.Rows.{works-accept}
 use Rattle.fields.proofs.access.read_own.Goals as goal
 
 pub returns : goal.returns

@@ -1,8 +1,8 @@
 -- What is left to show of `fields::access::store_field`.
 use Rattle.std.proofs.Common.{arith, sym, ◌∙◌}
 use Rattle.std.proofs.lemmas.List.{length-drop}
-use Rattle.fields.proofs.Accesses.{store_refused, store_locked, store_own_lem}
-use Rattle.fields.proofs.Rows.{asked_4b, works-refuse, works-passed}
+use Rattle.fields.proofs.Accesses.{store_refused, store_own_lem}
+use Rattle.fields.proofs.Rows.{asked_4b, works-passed}
 use Rattle.fields.proofs.Tables.{first-few}
 use Rattle.fields.proofs.access.store_field.Goals as goal
 

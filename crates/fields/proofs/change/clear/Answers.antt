@@ -1,5 +1,5 @@
 -- What is left to show of `fields::change::clear`.
-use Rattle.std.proofs.Common.{ℕ, ◌≡◌, ◌∙◌, ◌+◌, ◌*◌, ◌-◌, ◌≤◌, ◌/◌, ap, sym, refl, arith, length}
+use Rattle.std.proofs.Common.{ℕ, ◌≡◌, ◌∙◌, ◌+◌, ◌*◌, ◌-◌, ◌≤◌, ◌/◌, ap, refl, arith, length}
 use Rattle.std.proofs.lemmas.List.{length-replicate, take-replicate}
 use borrow.Rule.Slice.PartMut.{put_mid}
 use Rattle.meaning.specs.Bytes.{put, zeros}

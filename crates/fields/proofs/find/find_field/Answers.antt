@@ -1,8 +1,8 @@
 -- What is left to show of `fields::find::find_field`.
 use Rattle.std.proofs.Common.{refl, arith}
-use borrow.Author.Tests.{not-true, not-false}
+use borrow.Author.Tests.{not-false}
 use Rattle.fields.specs.Memory.{survey_of}
-use Rattle.fields.proofs.Finds.{found_unsound, found_none, found_there}
+use Rattle.fields.proofs.Finds.{found_there}
 use Rattle.fields.proofs.find.find_field.Goals as goal
 
 pub returns : goal.returns

@@ -2,7 +2,7 @@
 use Rattle.std.proofs.Common.{arith}
 use Rattle.meaning.specs.Bytes.{arg}
 use Rattle.fields.specs.Memory.{survey_of}
-use Rattle.fields.proofs.Rows.{asked_4d, works-passed, works-accept}
+use Rattle.fields.proofs.Rows.{asked_4d}
 use Rattle.fields.proofs.Tables.{sits, free_le}
 use Rattle.fields.proofs.shape.shape_field.Goals as goal
 
@@ -26,4 +26,3 @@ apply-requires c = record {
   room = c.in_ok-change.ensures.place;
   long = asked_4d c.args.request.now c.requires.asked.wanted;
 }
-

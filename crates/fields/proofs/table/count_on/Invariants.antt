@@ -1,5 +1,5 @@
 -- What is counted and what is left to count come to the same as at the start.
-use Rattle.std.proofs.Common.{length, ◌+◌, ◌*◌, ◌≡◌, ◌≤◌, drop}
+use Rattle.std.proofs.Common.{◌+◌, ◌*◌, ◌≡◌, ◌≤◌, drop}
 use Rattle.meaning.specs.Fields.{field_count, used}
 use Rattle.fields.proofs.table.count_on.Given as goal
 

@@ -1,6 +1,5 @@
 -- What is left to show of `fields::tell::field_status`.
-use Rattle.std.proofs.Common.{arith}
-use Rattle.fields.proofs.Rows.{asked_4c, works-passed, works-accept, status-refused, status-told}
+use Rattle.fields.proofs.Rows.{works-passed, works-accept, status-refused, status-told}
 use Rattle.fields.proofs.tell.field_status.Goals as goal
 
 pub returns-in_err-found : goal.returns-in_err-found

@@ -1,7 +1,7 @@
 -- What is left to show of `fields::tell::memory_status`.
-use borrow.Author.Tests.{not-true, not-false}
+use borrow.Author.Tests.{not-false}
 use Rattle.fields.specs.Memory.{survey_of}
-use Rattle.fields.proofs.Rows.{works-refuse, works-accept, memory_unsound, memory-told}
+use Rattle.fields.proofs.Rows.{works-accept, memory-told}
 use Rattle.fields.proofs.tell.memory_status.Goals as goal
 
 pub returns : goal.returns
