@@ -17,7 +17,7 @@ pub struct Faults {
 }
 
 // What a noted code comes to: nothing, the lock, or the place that it takes. Who holds the queue writes that alone.
-#[derive(Drop)]
+#[derive(Clone, Copy, PartialEq, Eq)]
 pub enum Noting {
     Ignored,
     Locks,
@@ -27,11 +27,11 @@ pub enum Noting {
     Fourth,
 }
 
-// The oldest code, or 00h, and the queue without it.
-#[derive(Drop)]
-pub struct Oldest {
+// The oldest code, or 00h, and what is left without it: the queue, the state, the board.
+#[derive(Clone, Copy)]
+pub struct Oldest<T> {
     pub code: u8,
-    pub faults: Faults,
+    pub rest: T,
 }
 
 impl Faults {
@@ -47,23 +47,12 @@ impl Faults {
         }
     }
 
+    #[tactic(auto, using(crate::proofs::Places::among_four))]
     fn holds(self, code: u8) -> bool
         requires { 0 < code }
         ensures { result ≡ among code (queue_of self) }
     {
-        if code == self.first {
-            return true;
-        }
-        if code == self.second {
-            return true;
-        }
-        if code == self.third {
-            return true;
-        }
-        if code == self.fourth {
-            return true;
-        }
-        false
+        (code == self.first) | (code == self.second) | (code == self.third) | (code == self.fourth)
     }
 
     // 01, "a queue of four, oldest first; one already waiting, or a fifth, is dropped". That none waits is told at once.
@@ -106,29 +95,13 @@ impl Faults {
     fn noted(self, code: u8, noting: Noting) -> Faults
         ensures { result ≡ noted_as self code noting }
     {
-        let mut next = self;
         match noting {
             Noting::Ignored => self,
-            Noting::Locks => {
-                next.locked = true;
-                next
-            }
-            Noting::First => {
-                next.first = code;
-                next
-            }
-            Noting::Second => {
-                next.second = code;
-                next
-            }
-            Noting::Third => {
-                next.third = code;
-                next
-            }
-            Noting::Fourth => {
-                next.fourth = code;
-                next
-            }
+            Noting::Locks => Faults { locked: true, ..self },
+            Noting::First => Faults { first: code, ..self },
+            Noting::Second => Faults { second: code, ..self },
+            Noting::Third => Faults { third: code, ..self },
+            Noting::Fourth => Faults { fourth: code, ..self },
         }
     }
 
@@ -148,7 +121,7 @@ impl Faults {
     }
 
     // 01, row 50h: the oldest is handed back, and the others move up.
-    pub fn read(self) -> Oldest
+    pub fn read(self) -> Oldest<Faults>
         ensures { Reads self result }
     {
         let rest = Faults {
@@ -156,37 +129,31 @@ impl Faults {
             second: self.third,
             third: self.fourth,
             fourth: 0,
-            locked: self.locked,
+            ..self
         };
         Oldest {
             code: self.first,
-            faults: rest,
+            rest,
         }
     }
 
     // 01, row 53h. The lock lasts until power-on.
+    #[tactic(auto, unfolding(crate::specs::Queue::queue_of, crate::specs::Queue::waiting))]
     pub fn emptied(self) -> Faults
         ensures { Queues self [] result }
     {
-        let mut next = Faults::none();
-        next.locked = self.locked;
-        next
-    }
-
-    pub(crate) fn power_on(self) -> Faults
-        ensures { result ≡ no_faults }
-    {
-        Faults::none()
+        Faults {
+            locked: self.locked,
+            ..Faults::none()
+        }
     }
 
     // Whether a code waits.
+    #[tactic(auto, using(crate::proofs::Places::some_wait))]
     pub fn waits(self) -> bool
         ensures { result ≡ waits (queue_of self) }
     {
-        if self.first != 0 {
-            return true;
-        }
-        !no_more(self.second, self.third, self.fourth)
+        (self.first != 0) | (self.second != 0) | (self.third != 0) | (self.fourth != 0)
     }
 
     // 01, "State limits": whether codes wait, and all different, none of them 00h, 22h or 24h. Each is held to those before it, and two are told at once.
@@ -238,34 +205,17 @@ pub fn marked(command: u8, waiting: bool) -> u8
     low
 }
 
-// 01, "22h and 24h lock the position". One test for both: with 0xDE added they are 100h and 102h, and no other code is; 0xFD leaves nothing of either.
+// 01, "22h and 24h lock the position".
+#[tactic(auto, unfolding(meaning::specs::State::locks))]
 pub fn locks(code: u8) -> bool
     ensures { result ≡ locks code }
 {
-    (code as u32 + 0xDE) & 0xFD == 0
+    matches!(code, 0x22 | 0x24)
 }
 
 // Whether the code is one of those two.
 fn is_among(code: u8, third: u8, fourth: u8) -> bool
     ensures { result ≡ either (eqb code third) (eqb code fourth) }
 {
-    if code == third {
-        return true;
-    }
-    code == fourth
-}
-
-fn no_more(second: u8, third: u8, fourth: u8) -> bool
-    ensures { result ≡ not (waits (waiting second (waiting third (waiting fourth [])))) }
-{
-    if second != 0 {
-        return false;
-    }
-    if third != 0 {
-        return false;
-    }
-    if fourth != 0 {
-        return false;
-    }
-    true
+    code == third || code == fourth
 }
