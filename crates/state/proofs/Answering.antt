@@ -1,11 +1,11 @@
 -- A command's ways out: refused, accepted, quiet; and the bytes that it puts into the room. Assumes nothing.
-use Prim.Native.Nat.{ℕ, ◌≤◌}
+use Prim.Native.Nat.{ℕ}
 use native.Mathlib.Omega.{arith}
 use mathlib.Core.Path.{◌≡◌, refl, sym, ap, ◌∙◌}
 use mathlib.Core.Bool.{Bool, true, false, false≢true}
 use mathlib.Core.List.{List, [], ◌∷◌}
 use lib.ListN.{length, get_or, take}
-use Rattle.std.specs.Prelude.{Option, Some, Result, Ok, Err, IsErrAnd, is_ok}
+use Rattle.std.specs.Prelude.{Some, Result, Ok, Err, IsErrAnd, is_ok}
 use Rattle.std.specs.Int.{w32, from_be_bytes}
 use Rattle.meaning.specs.Bytes.{put, number}
 use Rattle.meaning.specs.State.{Plate, Line}
@@ -15,7 +15,6 @@ use Rattle.state.specs.declared.state.State.{State}
 use Rattle.state.specs.declared.rows.Worked.{Worked}
 use Rattle.state.specs.State.{state_with}
 use Rattle.state.specs.declared.effects.Effect.{Effect}
-use Rattle.state.specs.declared.effects.Effect.TheVariants.{Nothing}
 use Rattle.state.specs.Effects.{Bounded, effect_on, row_effect}
 use Rattle.state.specs.Rows.{refused_if, Answers}
 use Rattle.meaning.proofs.Puts.{put-nothing}

@@ -15,7 +15,7 @@ use Rattle.state.specs.declared.faults.Faults.{Faults}
 use Rattle.state.specs.declared.faults.Oldest.{Oldest}
 use Rattle.state.specs.declared.faults.Noting.{Noting}
 use Rattle.state.specs.declared.faults.Noting.TheVariants.{Ignored, Locks, First, Second, Third, Fourth}
-use Rattle.state.specs.Queue.{waiting, queue_of, no_faults, holding, Queues, Reads}
+use Rattle.state.specs.Queue.{waiting, queue_of, holding, Queues, Reads}
 use Rattle.state.specs.Effects.{place_at, place_for, noting_of, noted_as}
 use Rattle.meaning.proofs.Choices.{both_true, both_false, either-false}
 
@@ -215,6 +215,9 @@ module _ (f : Faults) where
       go true false e x = absurd (false≢true e)
 
   module _ (h : eqb f.first 0 ≡ false) where
+    pub apart_places : both (waits (queue_of f)) (apart (queue_of f)) ≡ four_apart f
+    apart_places = rw (some_first h, places-apart h)
+
     pub apart_so : {t : Bool} → four_apart f ≡ t → t ≡ both (waits (queue_of f)) (apart (queue_of f))
     apart_so e = sym e ∙ sym (rw (some_first h, places-apart h))
 
@@ -277,10 +280,10 @@ unfolding queue_of
 moved f = rw (behind f.first (waiting f.second (waiting f.third (waiting f.fourth []))), at_end)
 
 -- 01, row 50h
-pub oldest-first : (f : Faults) (r : Oldest Faults) → r.code ≡ f.first
+pub oldest_first : (f : Faults) (r : Oldest Faults) → r.code ≡ f.first
     → r.rest ≡ (record { first = f.second; second = f.third; third = f.fourth; fourth = 0; locked = f.locked }) → Reads f r
 unfolding queue_of
-oldest-first f r e k = record { oldest = e ∙ sym (front f.first _); rest = record { queue = rw k (moved f); lock = rw k } }
+oldest_first f r e k = record { oldest = e ∙ sym (front f.first _); rest = record { queue = rw k (moved f); lock = rw k } }
 
 -- 01, "Bit 7 of every reply's command byte"
 pub unmarked : (c : ℕ) (q : List ℕ) → waits q ≡ false → c % 128 ≡ warned c q
@@ -331,22 +334,22 @@ sound-some q w e = sym (rw w at e)
 
 -- how many wait, by the places
 module _ (f : Faults) where
-  four_wait : eqb f.fourth 0 ≡ false → length (queue_of f) ≡ 4
+  pub four_wait : eqb f.fourth 0 ≡ false → length (queue_of f) ≡ 4
   unfolding queue_of waiting
   four_wait d = rw d
 
   module _ (d : eqb f.fourth 0 ≡ true) where
-    three_wait : eqb f.third 0 ≡ false → length (queue_of f) ≡ 3
+    pub three_wait : eqb f.third 0 ≡ false → length (queue_of f) ≡ 3
     unfolding queue_of waiting
     three_wait e = rw (d, e)
 
     module _ (e : eqb f.third 0 ≡ true) where
-      two_wait : eqb f.second 0 ≡ false → length (queue_of f) ≡ 2
+      pub two_wait : eqb f.second 0 ≡ false → length (queue_of f) ≡ 2
       unfolding queue_of waiting
       two_wait h = rw (d, e, h)
 
       module _ (h : eqb f.second 0 ≡ true) where
-        one_waits : eqb f.first 0 ≡ false → length (queue_of f) ≡ 1
+        pub one_waits : eqb f.first 0 ≡ false → length (queue_of f) ≡ 1
         unfolding queue_of waiting
         one_waits k = rw (d, e, h, k)
 

@@ -16,7 +16,7 @@ use Rattle.state.specs.declared.state.State.{State}
 use Rattle.state.specs.declared.rows.Worked.{Worked}
 use Rattle.state.specs.Queue.{waiting, queue_of, holding, Queues, Reads}
 use Rattle.state.specs.State.{state_with}
-use Rattle.std.specs.Prelude.{Option, Result, Ok, Err}
+use Rattle.std.specs.Prelude.{Result, Ok, Err}
 use Rattle.state.specs.Rows.{answer_in, effect_in, Answers}
 use Rattle.std.proofs.Common.{rules}
 use Rattle.state.proofs.Places.{front, behind}

@@ -1,28 +1,23 @@
 -- What the rows and the state's changes rest on: label bytes told, a queue put into a state, the state after an effect (01, "The commands"). Assumes nothing.
-use Prim.Native.Nat.{ℕ, ◌+◌, ◌≤◌, ◌<◌}
+use Prim.Native.Nat.{ℕ, ◌+◌, ◌≤◌}
 use native.Mathlib.Omega.{arith}
-use mathlib.Core.Path.{◌≡◌, refl, sym, ap, ◌∙◌}
-use mathlib.Core.Bool.{Bool, true, not}
-use mathlib.Core.List.{List, []}
+use mathlib.Core.Path.{◌≡◌, sym}
+use mathlib.Core.Bool.{true, not}
+use mathlib.Core.List.{List}
 use borrow.Author.Tests.{leb-true, not-false}
 use lib.Dec.{leb}
-use lib.ListN.{length, drop, set, length-drop}
+use lib.ListN.{length, drop, length-drop}
 use lib.Seq.{length-take-le}
 use Rattle.std.specs.Prelude.{Some, Result, Ok}
 use Rattle.wire.specs.declared.codes.ErrorCode.{ErrorCode}
 use Rattle.meaning.specs.Bytes.{both, part, put}
-use Rattle.meaning.specs.State as meaning
-use Rattle.meaning.specs.State.{Plate, Line, label_length, board_byte, queued, with_codes, with_counter, with_address, with_offset, with_queue, with_lock}
+use Rattle.meaning.specs.State.{Plate, Line, label_length, board_byte}
 use Rattle.meaning.specs.Commands.{Command, accept, worked}
-use Rattle.state.specs.declared.faults.Faults.{Faults}
-use Rattle.state.specs.declared.faults.Oldest.{Oldest}
 use Rattle.state.specs.declared.state.State.{State}
 use Rattle.state.specs.declared.rows.Worked.{Worked}
-use Rattle.state.specs.Queue.{queue_of, holding, Queues, Reads}
-use Rattle.state.specs.State.{state_with, ReadsOut}
-use Rattle.state.specs.declared.effects.Effect.{Effect}
-use Rattle.state.specs.declared.effects.Effect.TheVariants.{Nothing, Code, Counter, Address, Offset, Overflow, OldestRead, Emptied}
-use Rattle.state.specs.Effects.{Bounded, effect_on, row_effect}
+use Rattle.state.specs.State.{state_with}
+use Rattle.state.specs.declared.effects.Effect.TheVariants.{Nothing}
+use Rattle.state.specs.Effects.{effect_on, row_effect}
 use Rattle.state.specs.Rows.{refused_if, Answers}
 use Rattle.state.proofs.Answering.{accepts, passed}
 use Rattle.meaning.proofs.Choices.{both_left, both_right}

@@ -56,6 +56,7 @@ impl Faults {
     }
 
     // 01, "a queue of four, oldest first; one already waiting, or a fifth, is dropped". That none waits is told at once.
+    #[tactic(auto, using(crate::proofs::Places::none_yet, crate::proofs::Places::four_wait, crate::proofs::Places::three_wait, crate::proofs::Places::two_wait, crate::proofs::Places::one_waits), unfolding(crate::specs::Effects::place_for))]
     fn place_for(self, code: u8) -> Noting
         requires { 0 < code }
         ensures { result ≡ place_for self code }
@@ -79,6 +80,7 @@ impl Faults {
     }
 
     // 01, "00h is ignored. 22h and 24h lock the position until power-on and are not queued".
+    #[tactic(auto, unfolding(crate::specs::Effects::noting_of))]
     pub fn noting(self, code: u8) -> Noting
         ensures { result ≡ noting_of self code }
     {
@@ -97,11 +99,26 @@ impl Faults {
     {
         match noting {
             Noting::Ignored => self,
-            Noting::Locks => Faults { locked: true, ..self },
-            Noting::First => Faults { first: code, ..self },
-            Noting::Second => Faults { second: code, ..self },
-            Noting::Third => Faults { third: code, ..self },
-            Noting::Fourth => Faults { fourth: code, ..self },
+            Noting::Locks => Faults {
+                locked: true,
+                ..self
+            },
+            Noting::First => Faults {
+                first: code,
+                ..self
+            },
+            Noting::Second => Faults {
+                second: code,
+                ..self
+            },
+            Noting::Third => Faults {
+                third: code,
+                ..self
+            },
+            Noting::Fourth => Faults {
+                fourth: code,
+                ..self
+            },
         }
     }
 
@@ -114,6 +131,7 @@ impl Faults {
     }
 
     // 01, "The host notes codes".
+    #[tactic(auto, using(crate::proofs::Places::notes_so))]
     pub(crate) fn note(self, code: u8) -> Faults
         ensures { (s : State) → holding s result ≡ noted (holding s self) code }
     {
@@ -157,6 +175,7 @@ impl Faults {
     }
 
     // 01, "State limits": whether codes wait, and all different, none of them 00h, 22h or 24h. Each is held to those before it, and two are told at once.
+    #[tactic(auto, using(crate::proofs::Places::apart_places, crate::proofs::Places::first_empty, crate::proofs::Places::lock_fills, crate::proofs::Places::two_so), unfolding(crate::proofs::Places::four_apart))]
     pub fn waits_apart(self) -> bool
         ensures { result ≡ both (waits (queue_of self)) (apart (queue_of self)) }
     {
@@ -195,6 +214,7 @@ impl Faults {
 }
 
 // 01, "Bit 7 of every reply's command byte is set exactly if the fault queue is not empty".
+#[tactic(auto, using(crate::proofs::Places::marked, crate::proofs::Places::unmarked))]
 pub fn marked(command: u8, waiting: bool) -> u8
     ensures { (q : List ℕ) → waiting ≡ waits q → result ≡ warned command q }
 {

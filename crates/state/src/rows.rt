@@ -104,6 +104,8 @@ pub(crate) fn put_data(bytes: &[u8], room: &mut [u8])
     wire::fill(bytes, &mut room[2..]);
 }
 
+// Bits, room and request come as the caller has them, and each function asks what it needs: a type of their own would have to be made at every call.
+
 // 42h: 02h if locked.
 pub fn read_position(bits: u32, state: State, room: &mut [u8]) -> Result<Worked, ErrorCode>
     requires { (bits ≤ 32) × (longest_reply ≤ length room.old) }

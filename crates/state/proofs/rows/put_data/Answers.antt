@@ -1,5 +1,5 @@
 -- What is left to show of `state::rows::put_data`.
-use Rattle.std.proofs.Common.{◌-◌, ◌∙◌, ap, length, arith}
+use Rattle.std.proofs.Common.{◌-◌, ◌∙◌, ap, length}
 use borrow.Rule.Slice.PartMut.{put_mid}
 use Rattle.wire.proofs.Laws.{tail_filled}
 use Rattle.state.proofs.rows.put_data.Goals as goal

@@ -1,5 +1,4 @@
 -- What is left to show of `state::rows::set_position`.
-use Rattle.std.proofs.Common.{refl, arith}
 use Rattle.meaning.specs.State.{code}
 use Rattle.meaning.specs.Commands.{c43, worked, set_position, error}
 use Rattle.state.specs.Effects.{effect_on, row_effect}

@@ -1,5 +1,5 @@
 -- What is left to show of `state::rows::step_counter`.
-use Rattle.std.proofs.Common.{refl, arith}
+use Rattle.std.proofs.Common.{arith}
 use borrow.Author.Tests.{eq-eqb, ne_eqb}
 use Rattle.meaning.specs.Commands.{c47, worked, step_counter, choose}
 use Rattle.state.specs.Effects.{effect_on, row_effect}
