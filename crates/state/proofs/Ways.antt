@@ -1,5 +1,5 @@
--- What the rows and the state's changes rest on: label bytes told, a queue put into a state, the state after an effect (01, "The commands"). Assumes nothing.
-use Prim.Native.Nat.{ℕ, ◌+◌, ◌≤◌}
+-- What the rows and the image rest on: a byte that is a board's, label bytes told, a code that is set (01, "The commands"). Assumes nothing.
+use Prim.Native.Nat.{ℕ, ◌+◌, ◌≤◌, ◌<◌}
 use native.Mathlib.Omega.{arith}
 use mathlib.Core.Path.{◌≡◌, sym}
 use mathlib.Core.Bool.{true, not}
@@ -16,8 +16,9 @@ use Rattle.meaning.specs.Commands.{Command, accept, worked}
 use Rattle.state.specs.declared.state.State.{State}
 use Rattle.state.specs.declared.rows.Worked.{Worked}
 use Rattle.state.specs.State.{state_with}
-use Rattle.state.specs.declared.effects.Effect.TheVariants.{Nothing}
-use Rattle.state.specs.Effects.{effect_on, row_effect}
+use Rattle.state.specs.declared.effects.Effect.{Effect}
+use Rattle.state.specs.declared.effects.Effect.TheVariants.{Nothing, Code}
+use Rattle.state.specs.Effects.{Bounded, effect_on, row_effect}
 use Rattle.state.specs.Rows.{refused_if, Answers}
 use Rattle.state.proofs.Answering.{accepts, passed}
 use Rattle.meaning.proofs.Choices.{both_left, both_right}
@@ -37,3 +38,7 @@ pub told-label : (k : Command) (p : Plate) (s : State) (l : Line) (m d w : List 
     → length p.label ≡ label_length → i + n ≤ label_length → r ≡ Ok (record { effect = Nothing; reply = Some n }) → w' ≡ put w 2 (part p.label i n) → Answers k p s l m d w r w'
 unfolding effect_on part
 told-label k p s l m d w i n q x all few h o = accepts k p s l m d w (part p.label i n) h q x tt (sym (length-take-le n (drop i p.label) (rw (length-drop, all) (omega arith)))) o
+
+-- the code that an effect sets is one of four
+pub placed-code : {x : Effect} {n c : ℕ} → Bounded x → x ≡ Code n c → n < 4
+placed-code h e = rw e at h
