@@ -8,26 +8,21 @@ use lib.ListN.{length, take, drop, length-take, length-drop}
 use lib.Dec.{ltb, eqb}
 use borrow.Author.Tests.{lt-ltb, le-ltb, ltb-false, eq-eqb, ne_eqb}
 use borrow.Rule.Slice.PartMut.{put_mid, mid_of, put_same}
-use types.Run.{OneOf}
-use denote.Enum.Declared.{tag_of}
+use Rattle.std.specs.Prelude.{Some, Ok, Err}
 use Rattle.meaning.specs.Bytes.{arg, either, part, put}
 use Rattle.meaning.specs.State.{Plate, State}
 use Rattle.meaning.specs.Fields.{bytes_of, blocks, writable, Survey, survey}
 use Rattle.meaning.specs.Commands as meaning
 use Rattle.meaning.specs.Commands.{refuse, accept, error, on_field, barred, outside, read_field, store_field}
-use Rattle.wire.specs.declared.answer.Answer.{Answer}
-use Rattle.wire.specs.declared.answer.Answer.TheVariants.{Accept}
-use Rattle.wire.specs.Answers.{told, Works}
+use Rattle.wire.specs.declared.codes.ErrorCode.{ErrorCode}
+use Rattle.wire.specs.Answers.{Answer, told, Works}
 use Rattle.fields.specs.Memory.{Sized}
 use Rattle.wire.proofs.Laws.{tail_filled}
 use Rattle.meaning.proofs.Puts.{length-put, put-put}
 use Rattle.fields.specs.Replies.{named, read_own, store_own, Replied}
-use Rattle.fields.specs.Found.{code_in, or_else, OpenTo}
-use Rattle.fields.specs.declared.find.Found.{Found}
-use Rattle.fields.specs.declared.find.Found.TheVariants.{Field}
-use Rattle.fields.specs.contracts.find.Found as declared
-use Rattle.fields.proofs.Tables.{rest-is}
-use Rattle.fields.proofs.Finds.{refused-is}
+use Rattle.fields.specs.Found.{Found, or_else, OpenTo}
+use Rattle.fields.specs.declared.find.Field.{Field}
+use Rattle.fields.proofs.Walk.{rest-is}
 use Rattle.fields.proofs.Pieces.{part-part, put_in_part, mid_put}
 
 -- the reader: past the end, and within it
@@ -40,6 +35,8 @@ module _ (own d : List ℕ) (s : State) (m : List ℕ) where
   unfolding error
   read-within h = rw (le-ltb _ _ h)
 
+-- the writer: the same
+module _ (own d : List ℕ) (s : State) where
   pub store_past : length own < arg d 1 + arg d 2 → store_own own d s ≡ refuse 0x11
   unfolding error
   store_past h = rw (lt-ltb _ _ h)
@@ -49,19 +46,19 @@ module _ (own d : List ℕ) (s : State) (m : List ℕ) where
   store_within h = rw (le-ltb _ _ h)
 
 -- what the reader leaves: the three bytes, and the field's after them. `told` and `filled` are the room after each of the two
-pub read_told : (own d w told filled : List ℕ) → arg d 1 + arg d 2 ≤ length own → arg d 2 ≤ 128 → 134 ≤ length w → told ≡ put w 2 (named d)
-    → filled ≡ put (mid_of 5 (length told - 5) told) 0 (take (arg d 1 + arg d 2 - arg d 1) (drop (arg d 1) own))
-    → Replied (arg d 0 ∷ arg d 1 ∷ arg d 2 ∷ part own (arg d 1) (arg d 2)) w (Accept (3 + arg d 2)) (put_mid 5 (length told - 5) told filled)
+pub read_told : (own d w told filled : List ℕ) (from to : ℕ) → from ≡ arg d 1 → to ≡ arg d 1 + arg d 2 → arg d 1 + arg d 2 ≤ length own → arg d 2 ≤ 128 → 134 ≤ length w
+    → told ≡ put w 2 (named d) → filled ≡ put (mid_of 5 (length told - 5) told) 0 (take (to - from) (drop from own))
+    → Replied (arg d 0 ∷ arg d 1 ∷ arg d 2 ∷ part own (arg d 1) (arg d 2)) w (Ok (Some (3 + arg d 2))) (put_mid 5 (length told - 5) told filled)
 unfolding part
-read_told own d w told filled h few room e q =
-    let n : arg d 1 + arg d 2 - arg d 1 ≡ arg d 2 = omega arith in
+read_told own d w told filled from to i j h few room e q =
+    let n : to - from ≡ arg d 2 = omega arith in
     let xs : List ℕ = take (arg d 2) (drop (arg d 1) own) in
     let len : length xs ≡ arg d 2 = simp (length-take, length-drop) (omega arith) in
     let all : length told ≡ length w = ap length e ∙ length-put w 2 (named d) (omega arith) in
     let count : 3 + arg d 2 ≡ length (arg d 0 ∷ arg d 1 ∷ arg d 2 ∷ xs) = omega arith in
     record {
-      answer = ap Accept count;
-      room = ap (λ (y : List ℕ). put_mid 5 (length told - 5) told y) (q ∙ ap (λ (k : ℕ). put (mid_of 5 (length told - 5) told) 0 (take k (drop (arg d 1) own))) n)
+      answer = ap (λ (k : ℕ). Ok (Some k)) count;
+      room = ap (λ (y : List ℕ). put_mid 5 (length told - 5) told y) (q ∙ rw (n, i))
           ∙ tail_filled told xs 5 (omega arith) ∙ ap (λ (z : List ℕ). put z 5 xs) e ∙ put-put w 2 (named d) xs 5 refl (omega arith);
     }
 
@@ -75,11 +72,12 @@ store_told own d filled len h q =
     ∙ tail_filled own (drop 4 d) (arg d 1) (omega arith)
 
 -- .. and of its very cells, set to the bytes
-pub cells_told : (own d cells : List ℕ) (to : ℕ) → length d ≡ 4 + arg d 2 → to ≡ arg d 1 + arg d 2 → cells ≡ take (length d - 4) (drop 4 d)
-    → put_mid (arg d 1) (to - arg d 1) own cells ≡ put own (arg d 1) (drop 4 d)
-cells_told own d cells to len e q =
+pub cells_told : (own d cells : List ℕ) (from to : ℕ) → length d ≡ 4 + arg d 2 → from ≡ arg d 1 → to ≡ arg d 1 + arg d 2 → cells ≡ take (length d - 4) (drop 4 d)
+    → put_mid from (to - from) own cells ≡ put own (arg d 1) (drop 4 d)
+cells_told own d cells from to len i j q =
     let k : length (drop 4 d) ≡ arg d 2 = simp length-drop (omega arith) in
-    ap (λ (y : List ℕ). put_mid (arg d 1) (to - arg d 1) own y) (q ∙ rest-is d 4) ∙ mid_put own (arg d 1) to (drop 4 d) (omega arith) (omega arith)
+    ap (λ (y : List ℕ). put_mid from (to - from) own y) (q ∙ rest-is d 4) ∙ mid_put own from to (drop 4 d) (omega arith) (omega arith)
+    ∙ ap (λ (n : ℕ). put own n (drop 4 d)) i
 
 module _ (p : Plate) (s : State) (codes : List ℕ) (t : ℕ) (m d : List ℕ) (e : p.total ≡ t) (q : s.codes ≡ codes) where
   abbrev v : Survey
@@ -100,8 +98,8 @@ module _ (p : Plate) (s : State) (codes : List ℕ) (t : ℕ) (m d : List ℕ) (
     read_open : read_field p s m d ≡ or_else g (error 0x0D (either (eqb (arg d 2) 0) (ltb 128 (arg d 2))) reads)
     read_open = read_of ∙ w.chain s _ q
 
-    pub read-refused : OneOf (1 ∷ []) (tag_of declared.the_type g) → read_field p s m d ≡ refuse (code_in g)
-    read-refused k = read_open ∙ refused-is g k _
+  pub read-refused : (e : ErrorCode) → OpenTo codes (arg d 3) t m (arg d 0) (Err e) → read_field p s m d ≡ refuse e.byte
+  read-refused e w = read_open (Err e) w
 
   -- 4Bh
   store_of : store_field p s m d ≡ on_field v (arg d 0) (error 0x0F (barred s v (arg d 3)) (error 0x0E (not (writable v.status)) stores))
@@ -112,17 +110,26 @@ module _ (p : Plate) (s : State) (codes : List ℕ) (t : ℕ) (m d : List ℕ) (
     store_open : store_field p s m d ≡ or_else g (error 0x0E (not (writable v.status)) stores)
     store_open = store_of ∙ w.chain s _ q
 
-    pub store_refused : OneOf (1 ∷ []) (tag_of declared.the_type g) → store_field p s m d ≡ refuse (code_in g)
-    store_refused k = store_open ∙ refused-is g k _
+  pub store_refused : (e : ErrorCode) → OpenTo codes (arg d 3) t m (arg d 0) (Err e) → store_field p s m d ≡ refuse e.byte
+  store_refused e w = store_open (Err e) w
 
   -- the field is there
-  module _ (from to st : ℕ) (w : OpenTo codes (arg d 3) t m (arg d 0) (Field from to st)) where
+  module _ (field : Field) (w : OpenTo codes (arg d 3) t m (arg d 0) (Ok field)) where
+    abbrev from : ℕ
+    from = field.from
+
+    abbrev to : ℕ
+    to = field.to
+
+    abbrev st : ℕ
+    st = field.status
+
     pub read-zero : arg d 2 ≡ 0 → read_field p s m d ≡ refuse 0x0D
     unfolding error
-    read-zero h = read_open (Field from to st) w ∙ ap (λ (b : Bool). error 0x0D (either b (ltb 128 (arg d 2))) reads) (eq-eqb (arg d 2) 0 h)
+    read-zero h = read_open (Ok field) w ∙ ap (λ (b : Bool). error 0x0D (either b (ltb 128 (arg d 2))) reads) (eq-eqb (arg d 2) 0 h)
 
     counted : (arg d 2 ≡ 0 → ⊥) → read_field p s m d ≡ error 0x0D (ltb 128 (arg d 2)) reads
-    counted h = read_open (Field from to st) w ∙ ap (λ (b : Bool). error 0x0D (either b (ltb 128 (arg d 2))) reads) (ne_eqb (arg d 2) 0 h)
+    counted h = read_open (Ok field) w ∙ ap (λ (b : Bool). error 0x0D (either b (ltb 128 (arg d 2))) reads) (ne_eqb (arg d 2) 0 h)
 
     pub read_many : (arg d 2 ≡ 0 → ⊥) → 128 < arg d 2 → read_field p s m d ≡ refuse 0x0D
     unfolding error
@@ -137,11 +144,11 @@ module _ (p : Plate) (s : State) (codes : List ℕ) (t : ℕ) (m d : List ℕ) (
 
     pub store_locked : writable st ≡ false → store_field p s m d ≡ refuse 0x0E
     unfolding error
-    store_locked h = store_open (Field from to st) w ∙ ap (λ (b : Bool). error 0x0E (not b) stores) (writable-is ∙ h)
+    store_locked h = store_open (Ok field) w ∙ ap (λ (b : Bool). error 0x0E (not b) stores) (writable-is ∙ h)
 
     store_reached : writable st ≡ true → store_field p s m d ≡ stores
     unfolding error
-    store_reached h = store_open (Field from to st) w ∙ ap (λ (b : Bool). error 0x0E (not b) stores) (writable-is ∙ h)
+    store_reached h = store_open (Ok field) w ∙ ap (λ (b : Bool). error 0x0E (not b) stores) (writable-is ∙ h)
 
     -- its own part of memory
     module _ (fit : Sized t m) where

@@ -6,16 +6,13 @@ use mathlib.Core.List.{List, [], ◌∷◌}
 use native.Mathlib.Omega.{arith}
 use lib.Dec.{leb}
 use borrow.Author.Tests.{le-leb, lt-leb}
-use types.Run.{OneOf, miss}
-use denote.Enum.Declared.{tag_of}
+use Rattle.std.specs.Prelude.{Ok, Err}
 use Rattle.meaning.specs.Bytes.{both}
 use Rattle.meaning.specs.State.{State}
 use Rattle.meaning.specs.Fields.{bytes_of, blocks, coded, Survey, survey}
 use Rattle.meaning.specs.Commands.{Answer, refuse, error, on_field, barred, wrong_code}
-use Rattle.fields.specs.Found.{or_else, code_in, Lies, Placed, FoundIn, OpenTo}
-use Rattle.fields.specs.declared.find.Found.{Found}
-use Rattle.fields.specs.declared.find.Found.TheVariants.{Field, Refused}
-use Rattle.fields.specs.contracts.find.Found as declared
+use Rattle.fields.specs.Found.{Lies, FoundIn, OpenTo}
+use Rattle.fields.specs.declared.find.Field.{Field}
 use Rattle.fields.proofs.Tables.{sits}
 
 module _ (v : Survey) (f : ℕ) (a : Answer) where
@@ -33,42 +30,29 @@ module _ (v : Survey) (f : ℕ) (a : Answer) where
 
 -- v is what the survey says
 module _ (t : ℕ) (m : List ℕ) (f : ℕ) (v : Survey) (e : v ≡ survey t m f) where
-  pub found_unsound : v.trusted ≡ false → FoundIn t m f (Refused 0x03)
+  pub found_unsound : v.trusted ≡ false → FoundIn t m f (Err (record { byte = 0x03 }))
   found_unsound h = record { chain = λ a. subst (λ (w : Survey). on_field w f a ≡ refuse 0x03) e (on_unsound v f a h); place = tt }
 
-  pub found_none : v.trusted ≡ true → v.fields ≤ f → FoundIn t m f (Refused 0x12)
+  pub found_none : v.trusted ≡ true → v.fields ≤ f → FoundIn t m f (Err (record { byte = 0x12 }))
   found_none h k = record { chain = λ a. subst (λ (w : Survey). on_field w f a ≡ refuse 0x12) e (on_none v f a h k); place = tt }
 
-  pub found_there : v.trusted ≡ true → f < v.fields → (from to st : ℕ) → from ≡ bytes_of v.first → to ≡ from + bytes_of (blocks st) → st ≡ v.status
-      → FoundIn t m f (Field from to st)
-  found_there h k from to st p q r =
+  pub found_there : v.trusted ≡ true → f < v.fields → (field : Field) → field.from ≡ bytes_of v.first → field.to ≡ field.from + bytes_of (blocks field.status)
+      → field.status ≡ v.status → FoundIn t m f (Ok field)
+  found_there h k field p q r =
       let s = sits t m f v e h in
       let o = s.own k in
       let b = ap blocks r in
       record {
         chain = λ a. subst (λ (w : Survey). on_field w f a ≡ a) e (on_there v f a h k);
-        place = subst (λ (w : Survey). Lies t w from to st) e (record { starts = p; ends = q; within = omega arith; status = r });
+        place = subst (λ (w : Survey). Lies t w field) e (record { starts = p; ends = q; within = omega arith; status = r });
       }
-
--- in the `else` of `let Found::Field { .. } = .. else` stands a refusal
-pub refused-is : (g : Found) → OneOf (1 ∷ []) (tag_of declared.the_type g) → (a : Answer) → or_else g a ≡ refuse (code_in g)
-refused-is (Field from to st) k a = absurd (miss (1 ∷ []) 0 tt k)
-refused-is (Refused e) k a = refl
-
--- a refusal has no place
-no_place : (t : ℕ) (v : Survey) (g : Found) → OneOf (1 ∷ []) (tag_of declared.the_type g) → Placed t v g
-no_place t v (Field from to st) k = absurd (miss (1 ∷ []) 0 tt k)
-no_place t v (Refused e) k = tt
 
 -- the code comes after the field
 module _ (codes : List ℕ) (c t : ℕ) (m : List ℕ) (f : ℕ) where
-  pub open_refused : (g : Found) → FoundIn t m f g → OneOf (1 ∷ []) (tag_of declared.the_type g) → OpenTo codes c t m f g
-  open_refused g w k = record {
-    chain = λ s a e. w.chain (error 0x0F (barred s (survey t m f) c) a) ∙ refused-is g k (error 0x0F (barred s (survey t m f) c) a) ∙ sym (refused-is g k a);
-    place = no_place t (survey t m f) g k;
-  }
+  module _ (field : Field) (w : FoundIn t m f (Ok field)) where
+    abbrev st : ℕ
+    st = field.status
 
-  module _ (from to st : ℕ) (w : FoundIn t m f (Field from to st)) where
     barred-is : (q : Bool) → ((s : State) → s.codes ≡ codes → q ≡ both (coded st) (wrong_code s st c)) → (s : State) (a : Answer) → s.codes ≡ codes
         → on_field (survey t m f) f (error 0x0F (barred s (survey t m f) c) a) ≡ error 0x0F q a
     barred-is q b s a e =
@@ -76,10 +60,10 @@ module _ (codes : List ℕ) (c t : ℕ) (m : List ℕ) (f : ℕ) where
         ∙ ap (λ (x : ℕ). error 0x0F (both (coded x) (wrong_code s x c)) a) (sym w.place.status)
         ∙ ap (λ (x : Bool). error 0x0F x a) (sym (b s e))
 
-    pub open_barred : ((s : State) → s.codes ≡ codes → true ≡ both (coded st) (wrong_code s st c)) → OpenTo codes c t m f (Refused 0x0F)
+    pub open_barred : ((s : State) → s.codes ≡ codes → true ≡ both (coded st) (wrong_code s st c)) → OpenTo codes c t m f (Err (record { byte = 0x0F }))
     unfolding error
     open_barred b = record { chain = λ s a e. barred-is true b s a e; place = tt }
 
-    pub open_there : ((s : State) → s.codes ≡ codes → false ≡ both (coded st) (wrong_code s st c)) → OpenTo codes c t m f (Field from to st)
+    pub open_there : ((s : State) → s.codes ≡ codes → false ≡ both (coded st) (wrong_code s st c)) → OpenTo codes c t m f (Ok field)
     unfolding error
     open_there b = record { chain = λ s a e. barred-is false b s a e; place = w.place }

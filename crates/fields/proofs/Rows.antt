@@ -6,34 +6,36 @@ use mathlib.Core.List.{List, [], ◌∷◌}
 use lib.ListN.{length}
 use lib.Dec.{leb, eqb}
 use borrow.Author.Tests.{eqb-true, leb-true}
-use types.Run.{OneOf}
-use denote.Enum.Declared.{tag_of}
+use Rattle.std.specs.Prelude.{Ok, Err, IsErrAnd}
+use Rattle.std.proofs.lemmas.Result.{err_from_is_err_and}
 use Rattle.meaning.specs.Bytes.{arg, both}
 use Rattle.meaning.specs.State.{Plate, State}
 use Rattle.meaning.specs.Fields.{Survey, survey}
 use Rattle.meaning.specs.Commands as meaning
 use Rattle.meaning.specs.Commands.{asked, row, length_fits, refuse, accept, error, on_field, field_status, memory_status, free_byte, c4a, c4b, c4c, c4d}
-use Rattle.wire.specs.declared.answer.Answer.{Answer}
-use Rattle.wire.specs.declared.answer.Answer.TheVariants.{Refuse}
-use Rattle.wire.specs.Answers.{told, data_in, memory_after, Works}
+use Rattle.wire.specs.declared.codes.ErrorCode.{ErrorCode}
+use Rattle.wire.specs.Answers.{Answer, told, data_in, memory_after, Works}
 use Rattle.fields.specs.Replies.{Replied}
-use Rattle.fields.specs.Found.{code_in, FoundIn}
-use Rattle.fields.specs.declared.find.Found.{Found}
-use Rattle.fields.specs.declared.find.Found.TheVariants.{Field}
-use Rattle.fields.specs.contracts.find.Found as declared
-use Rattle.fields.proofs.Finds.{refused-is}
+use Rattle.fields.specs.Found.{FoundIn}
+use Rattle.fields.specs.declared.find.Field.{Field}
 
 -- an error code leaves all as it was
-pub works-refuse : (a : meaning.Answer) (m w : List ℕ) (e : ℕ) → a ≡ refuse e → Works a m w (Refuse e) m w
-works-refuse a m w e q = record {
+pub works-refuse : {a : meaning.Answer} {m w : List ℕ} {e : ErrorCode} → a ≡ refuse e.byte → Works a m w (Err e) m w
+works-refuse {m = m} {w = w} q = record {
   answer = ap told (sym q);
   memory = ap (λ (x : meaning.Answer). memory_after x m) (sym q);
   room = ap (λ (x : meaning.Answer). data_in x w) (sym q);
 }
 
+-- .. and so does one that is passed on
+pub works-passed : {a : meaning.Answer} {m w : List ℕ} (r : Answer) (e : ErrorCode) → IsErrAnd r (λ x. x ≡ e) → a ≡ refuse e.byte → Works a m w r m w
+works-passed r e k q =
+    let p = err_from_is_err_and r k in
+    rw (p.1, p.2) (works-refuse q)
+
 -- reply data stands in the room
-pub works-accept : (a : meaning.Answer) (m w d : List ℕ) (s : State) (m₂ : List ℕ) (r : Answer) (w₂ : List ℕ) → a ≡ accept d s m₂ → Replied d w r w₂ → Works a m w r m₂ w₂
-works-accept a m w d s m₂ r w₂ q y = record {
+pub works-accept : {a : meaning.Answer} {m w d : List ℕ} {s : State} {m₂ : List ℕ} {r : Answer} {w₂ : List ℕ} → a ≡ accept d s m₂ → Replied d w r w₂ → Works a m w r m₂ w₂
+works-accept {m = m} {w = w} q y = record {
   answer = y.answer ∙ ap told (sym q);
   memory = ap (λ (x : meaning.Answer). memory_after x m) (sym q);
   room = y.room ∙ ap (λ (x : meaning.Answer). data_in x w) (sym q);
@@ -72,11 +74,11 @@ module _ (p : Plate) (s : State) (m d : List ℕ) where
   unfolding field_status
   status_of_lem = refl
 
-  pub status-refused : (g : Found) → FoundIn p.total m (arg d 0) g → OneOf (1 ∷ []) (tag_of declared.the_type g) → field_status p s m d ≡ refuse (code_in g)
-  status-refused g w k = status_of_lem ∙ w.chain _ ∙ refused-is g k _
+  pub status-refused : (e : ErrorCode) → FoundIn p.total m (arg d 0) (Err e) → field_status p s m d ≡ refuse e.byte
+  status-refused e w = status_of_lem ∙ w.chain _
 
-  pub status-told : (from to st : ℕ) → FoundIn p.total m (arg d 0) (Field from to st) → field_status p s m d ≡ accept (arg d 0 ∷ st ∷ []) s m
-  status-told from to st w = status_of_lem ∙ w.chain _ ∙ ap (λ (x : ℕ). accept (arg d 0 ∷ x ∷ []) s m) (sym w.place.status)
+  pub status-told : (field : Field) → FoundIn p.total m (arg d 0) (Ok field) → field_status p s m d ≡ accept (arg d 0 ∷ field.status ∷ []) s m
+  status-told field w = status_of_lem ∙ w.chain _ ∙ ap (λ (x : ℕ). accept (arg d 0 ∷ x ∷ []) s m) (sym w.place.status)
 
   -- 4Eh, whatever field the survey was made for
   memory_of : (f : ℕ) → memory_status p s m d

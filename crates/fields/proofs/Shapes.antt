@@ -8,19 +8,15 @@ use lib.ListN.{length, set, length-take, length-drop, length-replicate, replicat
 use lib.Dec.{ltb, eqb}
 use borrow.Author.Tests.{lt-ltb, le-ltb, ltb-true, ltb-false, eq-eqb, ne_eqb}
 use borrow.Rule.Slice.PartMut.{put_mid, mid_of, Post-is}
-use types.Run.{OneOf, miss}
-use denote.Enum.Declared.{tag_of}
+use Rattle.std.specs.Prelude.{Ok, Err}
 use Rattle.meaning.specs.Bytes.{arg, both, differ, put, zeros}
 use Rattle.meaning.specs.State.{Plate, State}
 use Rattle.meaning.specs.Fields.{bytes_of, data_bytes, blocks, exists, attributes, clear, put_status, Survey, survey}
 use Rattle.meaning.specs.Commands.{Answer, refuse, accept, error, choose, wrong_code, create, modify, delete, resize, shape_field}
 use Rattle.meaning.proofs.Puts.{length-put, put_all, put-put, stored_is-put}
 use Rattle.fields.specs.Memory.{Sits}
-use Rattle.fields.specs.Shape.{stored_as, shaped, grant_code, Judged, Shapes}
+use Rattle.fields.specs.Shape.{Grant, stored_as, shaped, Judged, Shapes}
 use Rattle.fields.specs.declared.change.Change.{Change}
-use Rattle.fields.specs.declared.shape.Grant.{Grant}
-use Rattle.fields.specs.declared.shape.Grant.TheVariants.{Granted, Refused}
-use Rattle.fields.specs.contracts.shape.Grant as declared
 use Rattle.fields.proofs.Pieces.{mid_put}
 use Rattle.fields.proofs.Tables.{blocks-some}
 
@@ -79,7 +75,7 @@ stored_none st e = rw e
 
 -- a granted change, by its first block, its blocks and the status that is stored
 granted_as : (run : Change) (t : ℕ) (s : State) (m : List ℕ) (f asked b n st : ℕ) → run.from ≡ b → run.to - run.from ≡ n → stored_as asked ≡ st
-    → accept (f ∷ asked ∷ []) s (put_status t (clear m b n) f st) ≡ shaped (Granted run) t s m f asked
+    → accept (f ∷ asked ∷ []) s (put_status t (clear m b n) f st) ≡ shaped (Ok run) t s m f asked
 granted_as run t s m f asked b n st p q e = cc
 
 module _ (codes : List ℕ) (t f : ℕ) (v : Survey) (c : ℕ) where
@@ -101,11 +97,11 @@ module _ (codes : List ℕ) (t f : ℕ) (v : Survey) (c : ℕ) where
     create_as b k w l s m e =
         ap (λ (x : Bool). error 0x0F x (error 0x10 (ltb v.free (blocks new)) (made s m))) (sym (w s e)) ∙ ap (λ (x : Bool). error 0x0F b (error 0x10 x (made s m))) l
 
-    pub create-barred : Wrong new true → Creates (Refused 0x0F)
+    pub create-barred : Wrong new true → Creates (Err (record { byte = 0x0F }))
     unfolding error
     create-barred w = record { answer = λ s m e. create_as true _ w refl s m e; place = tt }
 
-    pub create-short : Wrong new false → (n : ℕ) → n ≡ blocks new → true ≡ ltb (0 + v.free) n → Creates (Refused 0x10)
+    pub create-short : Wrong new false → (n : ℕ) → n ≡ blocks new → true ≡ ltb (0 + v.free) n → Creates (Err (record { byte = 0x10 }))
     unfolding error
     create-short w n i h = record {
       answer = λ s m e. create_as false true w (lt-ltb v.free (blocks new) (omega (arith, ltb-true (0 + v.free) n (sym h)))) s m e;
@@ -113,7 +109,7 @@ module _ (codes : List ℕ) (t f : ℕ) (v : Survey) (c : ℕ) where
     }
 
     pub create-granted : Wrong new false → (n : ℕ) → n ≡ blocks new → false ≡ ltb (0 + v.free) n → Sits t v f → f ≡ v.fields → exists new ≡ true
-        → (run : Change) → run ≡ record { from = t - v.free + min 0 n; to = t - v.free + max 0 n } → Creates (Granted run)
+        → (run : Change) → run ≡ record { from = t - v.free + min 0 n; to = t - v.free + max 0 n } → Creates (Ok run)
     unfolding error made
     create-granted w n i h sits at x run e =
         let k = ltb-false (0 + v.free) n (sym h) in
@@ -143,7 +139,7 @@ module _ (codes : List ℕ) (t f : ℕ) (v : Survey) (c : ℕ) where
         ∙ ap (λ (x : Bool). error 0x0F b (error 0x10 x (error 0x10 (ltb (blocks v.status + v.free) (blocks new)) (sized s m)))) p
         ∙ ap (λ (x : Bool). error 0x0F b (error 0x10 k (error 0x10 x (sized s m)))) q
 
-    pub modify-barred : Wrong v.status true → Modifies (Refused 0x0F)
+    pub modify-barred : Wrong v.status true → Modifies (Err (record { byte = 0x0F }))
     unfolding error
     modify-barred w = record { answer = λ s m e. modify_as true _ _ w refl refl s m e; place = tt }
 
@@ -154,16 +150,16 @@ module _ (codes : List ℕ) (t f : ℕ) (v : Survey) (c : ℕ) where
       short_as : {k : Bool} → k ≡ ltb (old + v.free) n → ltb (blocks v.status + v.free) (blocks new) ≡ k
       short_as h = sym (h ∙ rw (i, o))
 
-      pub modify-held : Wrong v.status false → true ≡ both (differ n old) (differ (f + 1) v.fields) → Modifies (Refused 0x10)
+      pub modify-held : Wrong v.status false → true ≡ both (differ n old) (differ (f + 1) v.fields) → Modifies (Err (record { byte = 0x10 }))
       unfolding error
       modify-held w h = record { answer = λ s m e. modify_as false true _ w (held_as h) refl s m e; place = tt }
 
-      pub modify-short : Wrong v.status false → false ≡ both (differ n old) (differ (f + 1) v.fields) → true ≡ ltb (old + v.free) n → Modifies (Refused 0x10)
+      pub modify-short : Wrong v.status false → false ≡ both (differ n old) (differ (f + 1) v.fields) → true ≡ ltb (old + v.free) n → Modifies (Err (record { byte = 0x10 }))
       unfolding error
       modify-short w h k = record { answer = λ s m e. modify_as false false true w (held_as h) (short_as k) s m e; place = tt }
 
       pub modify-granted : Wrong v.status false → false ≡ both (differ n old) (differ (f + 1) v.fields) → false ≡ ltb (old + v.free) n → Sits t v f → f < v.fields → exists new ≡ true
-          → (run : Change) → run ≡ record { from = v.first + min old n; to = v.first + max old n } → Modifies (Granted run)
+          → (run : Change) → run ≡ record { from = v.first + min old n; to = v.first + max old n } → Modifies (Ok run)
       unfolding error sized resize
       modify-granted w h k sits there x run e =
           let r = sits.room in
@@ -195,13 +191,13 @@ module _ (codes : List ℕ) (t f : ℕ) (v : Survey) (c : ℕ) where
         ∙ ap (λ (x : Bool). error 0x0F b (error 0x0D x (error 0x10 (differ (f + 1) v.fields) (freed s m)))) n
         ∙ ap (λ (x : Bool). error 0x0F b (error 0x0D u (error 0x10 x (freed s m)))) p
 
-    pub delete-barred : Wrong v.status true → Deletes (Refused 0x0F)
+    pub delete-barred : Wrong v.status true → Deletes (Err (record { byte = 0x0F }))
     unfolding error
     delete-barred w = record { answer = λ s m e. delete_as true _ _ w refl refl s m e; place = tt }
 
     -- the attributes of the status that came, and of the stored one
     module _ (named stored : ℕ) (i : named ≡ attributes gone) (o : stored ≡ attributes v.status) where
-      pub delete_misnamed : Wrong v.status false → (named ≡ stored → ⊥) → Deletes (Refused 0x0D)
+      pub delete_misnamed : Wrong v.status false → (named ≡ stored → ⊥) → Deletes (Err (record { byte = 0x0D }))
       unfolding error
       delete_misnamed w n = record {
         answer = λ s m e. delete_as false true _ w (ap not (ne_eqb (attributes gone) (attributes v.status) (λ h. n (i ∙ h ∙ sym o)))) refl s m e;
@@ -211,12 +207,12 @@ module _ (codes : List ℕ) (t f : ℕ) (v : Survey) (c : ℕ) where
       as_named : named ≡ stored → differ (attributes gone) (attributes v.status) ≡ false
       as_named n = ap not (eq-eqb (attributes gone) (attributes v.status) (sym i ∙ n ∙ o))
 
-      pub delete-held : Wrong v.status false → named ≡ stored → (f + 1 ≡ v.fields → ⊥) → Deletes (Refused 0x10)
+      pub delete-held : Wrong v.status false → named ≡ stored → (f + 1 ≡ v.fields → ⊥) → Deletes (Err (record { byte = 0x10 }))
       unfolding error
       delete-held w n h = record { answer = λ s m e. delete_as false false true w (as_named n) (ap not (ne_eqb (f + 1) v.fields h)) s m e; place = tt }
 
       pub delete-granted : Wrong v.status false → named ≡ stored → f + 1 ≡ v.fields → (old : ℕ) → old ≡ blocks v.status → Sits t v f → exists gone ≡ false
-          → (run : Change) → run ≡ record { from = v.first + min old 0; to = v.first + max old 0 } → Deletes (Granted run)
+          → (run : Change) → run ≡ record { from = v.first + min old 0; to = v.first + max old 0 } → Deletes (Ok run)
       unfolding error freed
       delete-granted w n h old k sits x run e =
           let r = sits.room in
@@ -257,19 +253,19 @@ module _ (codes : List ℕ) (t : ℕ) (v : Survey) (d : List ℕ) where
       ∙ ap (λ (y : Bool). cases v b y (eqb f v.fields) (ltb f v.fields) s m) hx
       ∙ ap (λ (y : Bool). cases v b x y (ltb f v.fields) s m) hn ∙ ap (λ (y : Bool). cases v b x n y s m) hl
 
-  pub shape_unsound : v.trusted ≡ false → Shapes codes t v d (Refused 0x03)
+  pub shape_unsound : v.trusted ≡ false → Shapes codes t v d (Err (record { byte = 0x03 }))
   unfolding cases error
   shape_unsound h = record { answer = λ p s m e k q. shape_as false _ _ _ h refl refl refl p s m e q; place = tt }
 
   module _ (h : v.trusted ≡ true) where
-    pub shape_past : exists new ≡ true → v.fields < f → Shapes codes t v d (Refused 0x12)
+    pub shape_past : exists new ≡ true → v.fields < f → Shapes codes t v d (Err (record { byte = 0x12 }))
     unfolding cases error choose
     shape_past x l = record {
       answer = λ p s m e k q. shape_as true true false false h x (ne_eqb f v.fields (λ i. omega arith)) (le-ltb f v.fields (omega arith)) p s m e q;
       place = tt;
     }
 
-    pub shape_none : exists new ≡ false → v.fields ≤ f → Shapes codes t v d (Refused 0x12)
+    pub shape_none : exists new ≡ false → v.fields ≤ f → Shapes codes t v d (Err (record { byte = 0x12 }))
     unfolding cases error choose
     shape_none x l = record { answer = λ p s m e k q. shape_as true false _ false h x refl (le-ltb f v.fields l) p s m e q; place = tt }
 
@@ -293,8 +289,3 @@ module _ (codes : List ℕ) (t : ℕ) (v : Survey) (d : List ℕ) where
       answer = λ p s m e k q. shape_as true false _ true h x refl (lt-ltb f v.fields l) p s m e q ∙ j.answer s m k;
       place = j.place;
     }
-
--- in the `else` of `let Grant::Granted(..) = .. else` stands a refusal
-pub not-granted : (g : Grant) → OneOf (1 ∷ []) (tag_of declared.the_type g) → (t : ℕ) (s : State) (m : List ℕ) (f asked : ℕ) → shaped g t s m f asked ≡ refuse (grant_code g)
-not-granted (Granted c) k t s m f asked = absurd (miss (1 ∷ []) 0 tt k)
-not-granted (Refused e) k t s m f asked = refl

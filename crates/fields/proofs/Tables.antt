@@ -5,17 +5,16 @@ use mathlib.Core.Path.{◌≡◌, refl, sym, ap, subst, ◌∙◌}
 use mathlib.Core.List.{List, [], ◌∷◌}
 use native.Mathlib.Omega.{arith}
 use lib.ListN.{length, take, drop, length-take, length-drop}
-use lib.Seq.{take_all}
 use lib.Dec.{leb}
 use borrow.Author.Tests.{leb-true}
-use Rattle.fields.specs.declared.seen.Trust.{Trust}
-use Rattle.fields.specs.declared.seen.Trust.TheVariants.{Sound, Unsound}
-use Rattle.fields.specs.Memory.{Sits, Sized, trust_of}
+use Rattle.fields.specs.Memory.{CountedOn, Sits, Sized}
+use Rattle.fields.specs.declared.table.Tally.{Tally}
 use Rattle.meaning.specs.Bytes.{both, blank}
 use Rattle.meaning.specs.Fields.{bytes_of, blocks, exists, field_count, used, sound, table, free_blocks, status_at, Survey, survey}
 use Rattle.meaning.proofs.Choices.{both_right, and_both}
 use Rattle.meaning.proofs.Wire.{within}
 use Rattle.meaning.proofs.Tables.{used-nil, count_le}
+use Rattle.fields.proofs.Walk.{rest-is}
 
 module _ (s : ℕ) (r : List ℕ) where
   count_yes : exists s ≡ true → field_count (s ∷ r) ≡ suc (field_count r)
@@ -73,9 +72,10 @@ used_halt (s ∷ r) (suc f) = go (exists s) refl (used_halt r f)
     go true e h = rw (count_yes s (take f r) e, used_yes s r e, used_yes s (take f r) e) (omega arith)
     go false e h = rw (count_no s (take f r) e, used_no s (take f r) e) (omega arith)
 
--- `&l[a..]` is what is left at a
-pub rest-is : (l : List ℕ) (a : ℕ) → take (length l - a) (drop a l) ≡ drop a l
-rest-is l a = take_all (length l - a) (drop a l) (omega (arith, length-drop a l))
+-- the walk that halts before field f, counted from none
+pub halted_at : (l front : List ℕ) (f : ℕ) (r : Tally) → front ≡ take f l → CountedOn front (record { fields = 0; blocks = 0 }) r
+    → (r.fields ≡ field_count (take f l)) × (r.blocks ≡ used (take f l))
+halted_at l front f r e k = (omega (arith, k.fields, ap field_count e), omega (arith, k.blocks, ap used e))
 
 -- a walk that came to n fields of b blocks before field f, and went on from there
 module _ (l : List ℕ) (f n b : ℕ) (first : n ≡ field_count (take f l)) where
@@ -162,21 +162,3 @@ module _ (t : ℕ) (m : List ℕ) (fit : Sized t m) where
 
     pub fields-few : v.fields ≤ 255
     fields-few = subst (λ (w : Survey). w.fields ≤ 255) (sym e) (fields_in f)
-
--- what a command took apart
-trusted : Trust → Bool
-trusted Sound = true
-trusted Unsound = false
-
-by_trust : (t : Bool) → t ≡ trusted (trust_of t)
-unfolding trusted
-by_trust true = refl
-by_trust false = refl
-
-pub is-sound : (t : Bool) → trust_of t ≡ Sound → t ≡ true
-unfolding trusted
-is-sound t e = by_trust t ∙ ap trusted e
-
-pub unsound : (t : Bool) → trust_of t ≡ Unsound → t ≡ false
-unfolding trusted
-unsound t e = by_trust t ∙ ap trusted e

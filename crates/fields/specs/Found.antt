@@ -1,31 +1,30 @@
 -- What a look for a field comes to, in the terms of the meaning. Assumes nothing.
-use Rattle.std.specs.Prelude.{ℕ, ◌+◌, ◌≤◌, ◌≡◌, List}
+use Rattle.std.specs.Prelude.{ℕ, ◌+◌, ◌≤◌, ◌≡◌, List, Result, Ok, Err}
 use Rattle.meaning.specs.State.{State}
 use Rattle.meaning.specs.Fields.{bytes_of, data_bytes, blocks, Survey, survey}
 use Rattle.meaning.specs.Commands.{Answer, refuse, error, on_field, barred}
-use Rattle.fields.specs.declared.find.Found.{Found}
-use Rattle.fields.specs.declared.find.Found.TheVariants.{Field, Refused}
+use Rattle.wire.specs.declared.codes.ErrorCode.{ErrorCode}
+use Rattle.fields.specs.declared.find.Field.{Field}
+
+-- a look comes to the field, or to the error code
+abbrev pub Found : Type 0
+Found = Result Field ErrorCode
 
 -- what follows where the field is there, else the error code
 abbrev pub or_else : Found → Answer → Answer
-or_else (Field from to status) a = a
-or_else (Refused e) a = refuse e
-
--- the error code, 0 where there is none
-abbrev pub code_in : Found → ℕ
-code_in (Field from to status) = 0
-code_in (Refused e) = e
+or_else (Ok field) a = a
+or_else (Err e) a = refuse e.byte
 
 -- 01, "Fields lie one after another from block 0": the part of memory that a survey gives its field, within the 16T data bytes
-pub record Lies (t : ℕ) (v : Survey) (from to st : ℕ) : Type 0 where
-  pub starts : from ≡ bytes_of v.first
-  pub ends : to ≡ from + bytes_of (blocks st)
-  pub within : to ≤ data_bytes t
-  pub status : st ≡ v.status
+pub record Lies (t : ℕ) (v : Survey) (field : Field) : Type 0 where
+  pub starts : field.from ≡ bytes_of v.first
+  pub ends : field.to ≡ field.from + bytes_of (blocks field.status)
+  pub within : field.to ≤ data_bytes t
+  pub status : field.status ≡ v.status
 
 abbrev pub Placed : ℕ → Survey → Found → Type 0
-Placed t v (Field from to status) = Lies t v from to status
-Placed t v (Refused e) = Unit
+Placed t v (Ok field) = Lies t v field
+Placed t v (Err e) = Unit
 
 -- 03h; 12h: whatever follows, this is what it comes to
 pub record FoundIn (t : ℕ) (m : List ℕ) (f : ℕ) (r : Found) : Type 0 where

@@ -1,10 +1,8 @@
 -- The lent memory as the code holds it: its size, and what a walk of the table finds. Assumes nothing.
-use Rattle.std.specs.Prelude.{ℕ, ◌+◌, ◌*◌, ◌≤◌, ◌<◌, ◌≡◌, Bool, true, false, List, length, drop}
+use Rattle.std.specs.Prelude.{ℕ, ◌+◌, ◌*◌, ◌≤◌, ◌<◌, ◌≡◌, List, length, drop}
 use Rattle.meaning.specs.Bytes.{longest_reply}
 use Rattle.meaning.specs.Fields as meaning
 use Rattle.fields.specs.declared.seen.Survey.{Survey}
-use Rattle.fields.specs.declared.seen.Trust.{Trust}
-use Rattle.fields.specs.declared.seen.Trust.TheVariants.{Sound, Unsound}
 use Rattle.fields.specs.declared.table.Tally.{Tally}
 
 -- 01, "Plate" and "Memory": at most 112 blocks, and 17T bytes
@@ -41,11 +39,6 @@ survey_of v = record { trusted = v.sound; fields = v.fields; free = v.free; firs
 pub record Saw (t : ℕ) (m : List ℕ) (f : ℕ) (r : Survey) : Type 0 where
   pub total : r.total ≡ t
   pub seen : survey_of r ≡ meaning.survey t m f
-
--- 01, "03h": what a command takes apart
-abbrev pub trust_of : Bool → Trust
-trust_of true = Sound
-trust_of false = Unsound
 
 -- 01, "Fields lie one after another from block 0": what a survey of a sound table tells of field f. Each field has a block, and ends where the free blocks begin or before
 pub record Sits (t : ℕ) (v : meaning.Survey) (f : ℕ) : Type 0 where

@@ -1,12 +1,11 @@
 -- What the commands ask of request, survey, memory and room, and the data of a reply in the room. Assumes nothing.
-use Rattle.std.specs.Prelude.{ℕ, ◌+◌, ◌≤◌, true, ◌≡◌, List, [], ◌∷◌, length, drop, ltb}
+use Rattle.std.specs.Prelude.{ℕ, ◌+◌, ◌≤◌, true, ◌≡◌, List, [], ◌∷◌, length, drop, ltb, Some, Ok}
 use Rattle.meaning.specs.Bytes.{longest_reply, most_count, arg, part, put}
 use Rattle.meaning.specs.State.{State}
 use Rattle.meaning.specs.Fields.{survey}
 use Rattle.meaning.specs.Commands as Commands
 use Rattle.meaning.specs.Commands.{Command, asked, error, accept}
-use Rattle.wire.specs.declared.answer.Answer.{Answer}
-use Rattle.wire.specs.declared.answer.Answer.TheVariants.{Accept}
+use Rattle.wire.specs.Answers.{Answer}
 use Rattle.fields.specs.declared.seen.Survey.{Survey}
 use Rattle.fields.specs.Memory.{Lent, survey_of}
 
@@ -35,7 +34,7 @@ pub record Countable (v : Survey) (w : List ℕ) : Type 0 where
 
 -- the data d stands in the room w', and is told
 pub record Replied (d w : List ℕ) (r : Answer) (w' : List ℕ) : Type 0 where
-  pub answer : r ≡ Accept (length d)
+  pub answer : r ≡ Ok (Some (length d))
   pub room : w' ≡ put w 2 d
 
 -- 01, rows 4Ah and 4Bh: field, offset, count

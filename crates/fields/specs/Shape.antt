@@ -1,13 +1,12 @@
 -- What a judgement of 4Dh comes to, in the terms of the meaning. Assumes nothing.
-use Rattle.std.specs.Prelude.{ℕ, ◌-◌, ◌≤◌, ◌<◌, true, ◌≡◌, List, [], ◌∷◌, length, ℤ}
+use Rattle.std.specs.Prelude.{ℕ, ◌-◌, ◌≤◌, ◌<◌, true, ◌≡◌, List, [], ◌∷◌, length, ℤ, Result, Ok, Err}
 use Rattle.std.specs.Int.Signed.{mag}
 use Rattle.meaning.specs.Bytes.{pick, arg}
 use Rattle.meaning.specs.State.{Plate, State}
 use Rattle.meaning.specs.Fields.{exists, clear, Survey, survey, put_status}
 use Rattle.meaning.specs.Commands.{Answer, refuse, accept, shape_field}
+use Rattle.wire.specs.declared.codes.ErrorCode.{ErrorCode}
 use Rattle.fields.specs.declared.change.Change.{Change}
-use Rattle.fields.specs.declared.shape.Grant.{Grant}
-use Rattle.fields.specs.declared.shape.Grant.TheVariants.{Granted, Refused}
 use Rattle.fields.specs.Memory.{Sized, Sits}
 
 -- small enough for a signed number of 32 bits
@@ -19,15 +18,14 @@ pub record Chargeable (free : ℕ) (change : ℤ) : Type 0 where
 unfoldable pub stored_as : ℕ → ℕ
 stored_as status = pick (exists status) status 0
 
+-- a judgement comes to the change that is granted, or to the error code
+abbrev pub Grant : Type 0
+Grant = Result Change ErrorCode
+
 -- what is granted is done and told, with the status that was asked for; else the error code
 abbrev pub shaped : Grant → ℕ → State → List ℕ → ℕ → ℕ → Answer
-shaped (Granted c) t s m f asked = accept (f ∷ asked ∷ []) s (put_status t (clear m c.from (c.to - c.from)) f (stored_as asked))
-shaped (Refused e) t s m f asked = refuse e
-
--- the error code, 0 where there is none
-abbrev pub grant_code : Grant → ℕ
-grant_code (Granted c) = 0
-grant_code (Refused e) = e
+shaped (Ok c) t s m f asked = accept (f ∷ asked ∷ []) s (put_status t (clear m c.from (c.to - c.from)) f (stored_as asked))
+shaped (Err e) t s m f asked = refuse e.byte
 
 -- the field has its place in the table, and the run of blocks its place in the memory
 pub record Room (t f : ℕ) (c : Change) : Type 0 where
@@ -36,8 +34,8 @@ pub record Room (t f : ℕ) (c : Change) : Type 0 where
   pub within : c.to ≤ t
 
 abbrev pub SitsIn : ℕ → ℕ → Grant → Type 0
-SitsIn t f (Granted c) = Room t f c
-SitsIn t f (Refused e) = Unit
+SitsIn t f (Ok c) = Room t f c
+SitsIn t f (Err e) = Unit
 
 -- .. for the field that a request's data d names
 pub record Settable (t : ℕ) (m d : List ℕ) (c : Change) : Type 0 where

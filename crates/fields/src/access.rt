@@ -6,29 +6,30 @@ ghost use Rattle.wire.specs.Answers.{Works};
 ghost use Rattle.fields.specs.Replies.{Looked, Readable, Storable, read_own, store_own};
 
 use crate::cells::set_cells;
-use crate::find::{Found, open_field};
+use crate::find::open_field;
 use crate::reply::repeat_three;
 use crate::seen::Survey;
-use wire::codes::{MOST_COUNT, READ_ONLY, WRONG_ARGUMENT, WRONG_OFFSET};
+use wire::codes::{ErrorCode, MOST_COUNT};
 use wire::{Answer, fill};
 
 // The reader of offset and count, on the field's own part of memory. 11h; field, offset, count and the bytes.
+#[tactic(auto, using(crate::proofs::Accesses::read_past))]
 fn read_own(own: &[u8], request: &[u8], room: &mut [u8]) -> Answer
     requires { Readable request.now room.old }
     ensures { (s : State) (m : List ℕ) → Works (read_own own.now request.now s m) m room.old result m room.new }
 {
-    let count = request[2] as usize;
-    let from = request[1] as usize;
-    let to = from + count;
+    let from = usize::from(request[1]);
+    let to = from + usize::from(request[2]);
     if own.len() < to {
-        return Answer::Refuse(WRONG_OFFSET);
+        return Err(ErrorCode::WRONG_OFFSET);
     }
     repeat_three(request, room);
     fill(&own[from..to], &mut room[5..]);
-    Answer::Accept(3 + request[2])
+    Ok(Some(3 + request[2]))
 }
 
 // 4Ah: field, offset, count, code. 03h; 12h; 0Fh; 0Dh if count is 0 or over 128; 11h.
+#[tactic(auto, using(crate::proofs::Rows::asked_4a, crate::proofs::Accesses::read_many))]
 pub fn read_field(
     seen: Survey,
     memory: &[u8],
@@ -40,22 +41,14 @@ pub fn read_field(
     ensures { (p : Plate) (s : State) → p.total ≡ seen.total → s.codes ≡ codes.now
         → Works (read_field p s memory.now request.now) memory.now room.old result memory.now room.new }
 {
-    let found = open_field(seen, codes, request[0], request[3]);
-    let Found::Field {
-        from,
-        to,
-        status: _,
-    } = found
-    else {
-        return Answer::Refuse(found.code());
-    };
+    let found = open_field(seen, codes, request[0], request[3])?;
     if request[2] == 0 {
-        return Answer::Refuse(WRONG_ARGUMENT);
+        return Err(ErrorCode::WRONG_ARGUMENT);
     }
     if MOST_COUNT < request[2] {
-        return Answer::Refuse(WRONG_ARGUMENT);
+        return Err(ErrorCode::WRONG_ARGUMENT);
     }
-    read_own(&memory[from..to], request, room)
+    read_own(&memory[found.from..found.to], request, room)
 }
 
 // 11h; the bytes are stored into the field's own part of memory; field, offset, count.
@@ -63,17 +56,18 @@ fn store_own(own: &mut [u8], request: &[u8], room: &mut [u8]) -> Answer
     requires { Storable request.now room.old }
     ensures { (s : State) → Works (store_own own.old request.now s) own.old room.old result own.new room.new }
 {
-    let from = request[1] as usize;
-    let end = from + request[2] as usize;
+    let from = usize::from(request[1]);
+    let end = from + usize::from(request[2]);
     if own.len() < end {
-        return Answer::Refuse(WRONG_OFFSET);
+        return Err(ErrorCode::WRONG_OFFSET);
     }
     set_cells(&mut own[from..end], &request[4..]);
     repeat_three(request, room);
-    Answer::Accept(3)
+    Ok(Some(3))
 }
 
 // 4Bh: field, offset, count, code, data. 03h; 12h; 0Fh; 0Eh if bit 6 is clear; 11h; stores.
+#[tactic(auto, using(crate::proofs::Rows::asked_4b, crate::proofs::Accesses::store_locked))]
 pub fn store_field(
     seen: Survey,
     memory: &mut [u8],
@@ -85,12 +79,9 @@ pub fn store_field(
     ensures { (p : Plate) (s : State) → p.total ≡ seen.total → s.codes ≡ codes.now
         → Works (store_field p s memory.old request.now) memory.old room.old result memory.new room.new }
 {
-    let found = open_field(seen, codes, request[0], request[3]);
-    let Found::Field { from, to, status } = found else {
-        return Answer::Refuse(found.code());
-    };
-    if !wire::is_writable(status) {
-        return Answer::Refuse(READ_ONLY);
+    let found = open_field(seen, codes, request[0], request[3])?;
+    if !wire::is_writable(found.status) {
+        return Err(ErrorCode::READ_ONLY);
     }
-    store_own(&mut memory[from..to], request, room)
+    store_own(&mut memory[found.from..found.to], request, room)
 }

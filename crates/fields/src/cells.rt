@@ -7,11 +7,9 @@ pub(crate) fn set_cells(cells: &mut [u8], wanted: &[u8])
     requires { length cells.old ≡ length wanted.now }
     ensures { cells.new ≡ wanted.now }
 {
-    let mut i = 0;
-    while i < wanted.len() {
+    for i in 0..wanted.len() {
         if cells[i] != wanted[i] {
             cells[i] = wanted[i];
         }
-        i += 1;
     }
 }

@@ -5,10 +5,10 @@ ghost use Rattle.meaning.specs.Fields as meaning;
 ghost use Rattle.fields.specs.Shape.{Chargeable, Settable, stored_as};
 
 use crate::cells::set_cells;
-use crate::sizes::{BLOCK, bytes_of, least, most};
+use crate::sizes::{BLOCK, bytes_of};
 
 // The run of blocks to be cleared: the first of them, and the one past the last.
-#[derive(Drop)]
+#[derive(Clone, Copy)]
 pub struct Change {
     pub from: usize,
     pub to: usize,
@@ -18,7 +18,7 @@ pub struct Change {
 fn change_of(new: u8, old: u8) -> i32
     ensures { result ≡ pos new -ℤ pos old }
 {
-    new as i32 - old as i32
+    i32::from(new) - i32::from(old)
 }
 
 // The free blocks once the change is charged to them, or given back; below 0 where they do not suffice.
@@ -42,13 +42,12 @@ fn clear(part: &mut [u8])
     ensures { part.new ≡ zeros (length part.old) }
 {
     let blank = [0u8; BLOCK];
-    let mut i = 0;
-    while BLOCK <= part.len() - i {
-        set_cells(&mut part[i..i + BLOCK], &blank);
-        i += BLOCK;
+    let blocks = part.len() / BLOCK;
+    for i in 0..blocks {
+        set_cells(&mut part[BLOCK * i..BLOCK * (i + 1)], &blank);
     }
-    let rest = part.len() - i;
-    set_cells(&mut part[i..], &blank[..rest]);
+    let rest = part.len() - BLOCK * blocks;
+    set_cells(&mut part[BLOCK * blocks..], &blank[..rest]);
 }
 
 // The status that is stored: 00h where bit 7 is clear, for then the field goes (01, "00h where no field is").
@@ -71,7 +70,7 @@ pub(crate) fn apply(memory: &mut [u8], total: usize, request: &[u8], change: Cha
     let from = bytes_of(change.from);
     let to = bytes_of(change.to);
     clear(&mut memory[from..to]);
-    let at = bytes_of(total) + request[0] as usize;
+    let at = bytes_of(total) + usize::from(request[0]);
     let status = [stored_as(request[1])];
     set_cells(&mut memory[at..at + 1], &status);
 }
@@ -82,7 +81,7 @@ pub(crate) fn change_at(start: usize, old: u8, new: u8) -> Change
     ensures { result ≡ record { from = start + min old new; to = start + max old new } }
 {
     Change {
-        from: start + least(old as usize, new as usize),
-        to: start + most(old as usize, new as usize),
+        from: start + usize::from(old.min(new)),
+        to: start + usize::from(old.max(new)),
     }
 }

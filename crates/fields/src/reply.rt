@@ -11,7 +11,7 @@ pub(crate) fn reply_two(first: u8, second: u8, room: &mut [u8]) -> Answer
 {
     room[2] = first;
     room[3] = second;
-    Answer::Accept(2)
+    Ok(Some(2))
 }
 
 // Field, offset and count, as the request has them.

@@ -1,8 +1,7 @@
 // What a command reads of the status table, made once per request (01, "Memory").
-ghost use Rattle.std.specs.Prelude.{◌≡◌};
-ghost use Rattle.fields.specs.Memory.{trust_of};
 
 // Of how many blocks; whether the table is sound; the number of fields; the free blocks; of the named field its first block and its status.
+// The numbers stand whether the table is sound or not, as the meaning's `Survey` has them, so that `sound` is a flag beside them.
 #[derive(Clone, Copy)]
 pub struct Survey {
     pub total: usize,
@@ -11,22 +10,4 @@ pub struct Survey {
     pub free: usize,
     pub first: usize,
     pub status: u8,
-}
-
-// 01, "03h": the status table is sound, or not.
-#[derive(Drop)]
-pub enum Trust {
-    Sound,
-    Unsound,
-}
-
-impl Survey {
-    pub(crate) fn trust(self) -> Trust
-        ensures { result ≡ trust_of self.sound }
-    {
-        if self.sound {
-            return Trust::Sound;
-        }
-        Trust::Unsound
-    }
 }

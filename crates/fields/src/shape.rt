@@ -7,33 +7,14 @@ ghost use Rattle.meaning.specs.Commands.{c4d, create, modify, delete, shape_fiel
 ghost use Rattle.wire.specs.Answers.{Works};
 ghost use Rattle.fields.specs.Memory.{Sits, survey_of};
 ghost use Rattle.fields.specs.Replies.{Looked};
-ghost use Rattle.fields.specs.Shape.{Blocks, Judged, Shapes, Surveyed, grant_code};
+ghost use Rattle.fields.specs.Shape.{Blocks, Judged, Shapes, Surveyed};
 
 use crate::change::{Change, apply, change_at, lacks_room};
 use crate::reply::reply_two;
 use crate::seen::Survey;
 use crate::status::is_wrong_code;
 use wire::Answer;
-use wire::codes::{FIXED_SIZE, TABLE_DESTROYED, WRONG_ARGUMENT, WRONG_CODE, WRONG_FIELD};
-
-#[derive(Drop)]
-pub enum Grant {
-    Granted(Change),
-    // The error code.
-    Refused(u8),
-}
-
-impl Grant {
-    // The error code, 00h where the change is granted.
-    fn code(self) -> u8
-        ensures { result ≡ grant_code self }
-    {
-        match self {
-            Grant::Refused(code) => code,
-            Grant::Granted(_) => 0,
-        }
-    }
-}
+use wire::codes::ErrorCode;
 
 // 01, "10h if the size changes and the field is not the last".
 fn is_held(seen: Survey, field: u8, new: u8, old: u8) -> bool
@@ -42,92 +23,105 @@ fn is_held(seen: Survey, field: u8, new: u8, old: u8) -> bool
     if new == old {
         return false;
     }
-    field as usize + 1 != seen.fields
+    usize::from(field) + 1 != seen.fields
 }
 
 // 0Fh unless the code equals the one the new status names, whatever bit 3 says; 10h.
-fn judge_create(seen: Survey, codes: &[u8], new: u8, code: u8) -> Grant
+fn judge_create(seen: Survey, codes: &[u8], new: u8, code: u8) -> Result<Change, ErrorCode>
     requires { Blocks seen.total seen.free × (length codes.now ≡ 4) }
     ensures { (f : ℕ) → Sits seen.total (survey_of seen) f → f ≡ seen.fields → exists new ≡ true
         → Judged codes.now seen.total f new (λ (s : State) (m : List ℕ). create seen.total s m (survey_of seen) f new code) result }
 {
     if is_wrong_code(codes, new, code) {
-        return Grant::Refused(WRONG_CODE);
+        return Err(ErrorCode::WRONG_CODE);
     }
     let blocks = wire::blocks_in(new);
     if lacks_room(seen.free, blocks, 0) {
-        return Grant::Refused(FIXED_SIZE);
+        return Err(ErrorCode::FIXED_SIZE);
     }
-    Grant::Granted(change_at(seen.total - seen.free, 0, blocks))
+    Ok(change_at(seen.total - seen.free, 0, blocks))
 }
 
 // 0Fh unless the code equals the one the stored status names; 10h; 10h.
-fn judge_modify(seen: Survey, codes: &[u8], field: u8, new: u8, code: u8) -> Grant
+fn judge_modify(
+    seen: Survey,
+    codes: &[u8],
+    field: u8,
+    new: u8,
+    code: u8,
+) -> Result<Change, ErrorCode>
     requires { (seen.free ≤ 65535) × (seen.first ≤ 65535) × (length codes.now ≡ 4) }
     ensures { (t : ℕ) → Sits t (survey_of seen) field → field < seen.fields → exists new ≡ true
         → Judged codes.now t field new (λ (s : State) (m : List ℕ). modify t s m (survey_of seen) field new code) result }
 {
     let stored = seen.status;
     if is_wrong_code(codes, stored, code) {
-        return Grant::Refused(WRONG_CODE);
+        return Err(ErrorCode::WRONG_CODE);
     }
     let blocks = wire::blocks_in(new);
     let old = wire::blocks_in(stored);
     if is_held(seen, field, blocks, old) {
-        return Grant::Refused(FIXED_SIZE);
+        return Err(ErrorCode::FIXED_SIZE);
     }
     if lacks_room(seen.free, blocks, old) {
-        return Grant::Refused(FIXED_SIZE);
+        return Err(ErrorCode::FIXED_SIZE);
     }
-    Grant::Granted(change_at(seen.first, old, blocks))
+    Ok(change_at(seen.first, old, blocks))
 }
 
 // 0Fh as for modify; 0Dh if bits 0 to 6 differ from the stored ones (02, Req 02); 10h if not the last.
-fn judge_delete(seen: Survey, codes: &[u8], field: u8, gone: u8, code: u8) -> Grant
+fn judge_delete(
+    seen: Survey,
+    codes: &[u8],
+    field: u8,
+    gone: u8,
+    code: u8,
+) -> Result<Change, ErrorCode>
     requires { (seen.first ≤ 65535) × (length codes.now ≡ 4) }
     ensures { (t : ℕ) → Sits t (survey_of seen) field → field < seen.fields → exists gone ≡ false
         → Judged codes.now t field gone (λ (s : State) (m : List ℕ). delete t s m (survey_of seen) field gone code) result }
 {
     if is_wrong_code(codes, seen.status, code) {
-        return Grant::Refused(WRONG_CODE);
+        return Err(ErrorCode::WRONG_CODE);
     }
     if wire::attributes_in(gone) != wire::attributes_in(seen.status) {
-        return Grant::Refused(WRONG_ARGUMENT);
+        return Err(ErrorCode::WRONG_ARGUMENT);
     }
-    if field as usize + 1 != seen.fields {
-        return Grant::Refused(FIXED_SIZE);
+    if usize::from(field) + 1 != seen.fields {
+        return Err(ErrorCode::FIXED_SIZE);
     }
-    Grant::Granted(change_at(seen.first, wire::blocks_in(seen.status), 0))
+    Ok(change_at(seen.first, wire::blocks_in(seen.status), 0))
 }
 
 // 03h; then create, modify or delete, otherwise 12h.
-fn judge_shape(seen: Survey, codes: &[u8], request: &[u8]) -> Grant
+fn judge_shape(seen: Survey, codes: &[u8], request: &[u8]) -> Result<Change, ErrorCode>
     requires { Surveyed seen.total (survey_of seen) codes.now request.now }
     ensures { Shapes codes.now seen.total (survey_of seen) request.now result }
 {
     let field = request[0];
-    let number = field as usize;
+    let number = usize::from(field);
     let status = request[1];
     let code = request[2];
     if !seen.sound {
-        return Grant::Refused(TABLE_DESTROYED);
+        return Err(ErrorCode::TABLE_DESTROYED);
     }
     if wire::has_field(status) {
         if number == seen.fields {
             return judge_create(seen, codes, status, code);
         }
         if seen.fields < number {
-            return Grant::Refused(WRONG_FIELD);
+            return Err(ErrorCode::WRONG_FIELD);
         }
         return judge_modify(seen, codes, field, status, code);
     }
     if seen.fields <= number {
-        return Grant::Refused(WRONG_FIELD);
+        return Err(ErrorCode::WRONG_FIELD);
     }
     judge_delete(seen, codes, field, status, code)
 }
 
 // 4Dh: field, status, code. The reply repeats the status as received.
+#[tactic(auto, using(crate::proofs::Rows::asked_4d))]
 pub fn shape_field(
     seen: Survey,
     memory: &mut [u8],
@@ -140,10 +134,7 @@ pub fn shape_field(
         → Works (shape_field p s memory.old request.now) memory.old room.old result memory.new room.new }
 {
     let field = request[0];
-    let grant = judge_shape(seen, codes, request);
-    let Grant::Granted(change) = grant else {
-        return Answer::Refuse(grant.code());
-    };
+    let change = judge_shape(seen, codes, request)?;
     apply(memory, seen.total, request, change);
     reply_two(field, request[1], room)
 }

@@ -19,8 +19,7 @@ pub(crate) fn is_wrong_code(codes: &[u8], status: u8, code: u8) -> bool
     requires { length codes.now ≡ 4 }
     ensures { (s : State) → s.codes ≡ codes.now → result ≡ wrong_code s status code }
 {
-    let number = wire::code_number(status) as usize;
-    code != codes[number]
+    code != codes[usize::from(wire::code_number(status))]
 }
 
 // 01, "0Fh in 4Ah and 4Bh only where the field's status bit 3 is set".

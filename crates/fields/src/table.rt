@@ -5,7 +5,7 @@ ghost use Rattle.meaning.specs.Fields.{table};
 ghost use Rattle.fields.specs.Memory.{Counted, CountedOn, Saw, Sized, Statuses};
 
 use crate::seen::Survey;
-use crate::sizes::{bytes_of, less};
+use crate::sizes::bytes_of;
 
 // How many fields stand at the front, and their blocks.
 #[derive(Clone, Copy)]
@@ -19,17 +19,15 @@ fn count_on(statuses: &[u8], from: Tally) -> Tally
     requires { Counted statuses.now from }
     ensures { CountedOn statuses.now from result }
 {
-    let mut fields = from.fields;
-    let mut blocks = from.blocks;
-    while fields < statuses.len() {
-        let status = statuses[fields];
+    let mut counted = from;
+    for &status in &statuses[from.fields..] {
         if !wire::has_field(status) {
-            return Tally { fields, blocks };
+            return counted;
         }
-        blocks += wire::blocks_in(status) as usize;
-        fields += 1;
+        counted.fields += 1;
+        counted.blocks += usize::from(wire::blocks_in(status));
     }
-    Tally { fields, blocks }
+    counted
 }
 
 // 01, "the rest are 00h": four bytes at a time, and then what is left.
@@ -37,20 +35,13 @@ fn is_blank_from(statuses: &[u8], place: usize) -> bool
     requires { place ≤ length statuses.now }
     ensures { result ≡ blank (drop place statuses.now) }
 {
-    let mut i = place;
-    while i + 4 <= statuses.len() {
-        if wire::number_at(statuses, i) != 0 {
+    let (fours, rest) = statuses[place..].as_chunks::<4>();
+    for four in fours {
+        if wire::number_at(four, 0) != 0 {
             return false;
         }
-        i += 4;
     }
-    while i < statuses.len() {
-        if statuses[i] != 0 {
-            return false;
-        }
-        i += 1;
-    }
-    true
+    rest.iter().all(|&status| status == 0)
 }
 
 // The walk halts at the named field, to note where it starts, and goes on from there: no status is passed twice.
@@ -64,14 +55,12 @@ fn walk(statuses: &[u8], total: usize, field: usize) -> Survey
     };
     let before = count_on(wire::front(statuses, field), none);
     let all = count_on(statuses, before);
-    let fields = all.fields;
-    let used = all.blocks;
-    let rest_blank = is_blank_from(statuses, fields);
+    let rest_blank = is_blank_from(statuses, all.fields);
     Survey {
         total,
-        sound: rest_blank & (used <= total),
-        fields,
-        free: less(total, used),
+        sound: rest_blank & (all.blocks <= total),
+        fields: all.fields,
+        free: total.saturating_sub(all.blocks),
         first: before.blocks,
         status: wire::byte_at(statuses, field),
     }
@@ -84,5 +73,5 @@ pub fn survey(memory: &[u8], total: usize, field: u8) -> Survey
 {
     let from = bytes_of(total);
     let to = from + total;
-    walk(&memory[from..to], total, field as usize)
+    walk(&memory[from..to], total, usize::from(field))
 }

@@ -8,29 +8,22 @@ ghost use Rattle.wire.specs.Answers.{Works};
 ghost use Rattle.fields.specs.Memory.{survey_of};
 ghost use Rattle.fields.specs.Replies.{Countable, Tellable};
 
-use crate::find::{Found, find_field};
+use crate::find::find_field;
 use crate::reply::reply_two;
-use crate::seen::{Survey, Trust};
+use crate::seen::Survey;
 use wire::Answer;
-use wire::codes::TABLE_DESTROYED;
+use wire::codes::ErrorCode;
 
 // 4Ch: field. 03h; 12h; field and status.
+#[tactic(auto, using(crate::proofs::Rows::asked_4c))]
 pub fn field_status(seen: Survey, request: &[u8], room: &mut [u8]) -> Answer
     requires { Tellable c4c seen request.now room.old }
     ensures { (p : Plate) (s : State) (m : List ℕ) → survey_of seen ≡ survey p.total m (arg request.now 0)
         → Works (field_status p s m request.now) m room.old result m room.new }
 {
     let field = request[0];
-    let found = find_field(seen, field);
-    let Found::Field {
-        from: _,
-        to: _,
-        status,
-    } = found
-    else {
-        return Answer::Refuse(found.code());
-    };
-    reply_two(field, status, room)
+    let found = find_field(seen, field)?;
+    reply_two(field, found.status, room)
 }
 
 // 4Eh: the byte that tells the free blocks.
@@ -43,13 +36,14 @@ fn free_byte(free: usize) -> u8
 }
 
 // 4Eh: no data. 03h; free blocks, number of fields.
+#[tactic(auto, using(crate::proofs::Rows::memory_unsound))]
 pub fn memory_status(seen: Survey, room: &mut [u8]) -> Answer
     requires { Countable seen room.old }
     ensures { (p : Plate) (s : State) (m d : List ℕ) (f : ℕ) → survey_of seen ≡ survey p.total m f
         → Works (memory_status p s m d) m room.old result m room.new }
 {
-    let Trust::Sound = seen.trust() else {
-        return Answer::Refuse(TABLE_DESTROYED);
-    };
+    if !seen.sound {
+        return Err(ErrorCode::TABLE_DESTROYED);
+    }
     reply_two(free_byte(seen.free), seen.fields as u8, room)
 }

@@ -13,11 +13,9 @@ returns c =
     let run = c.args.change in
     let from = c.bytes_of-from.result in
     let to = c.bytes_of-to.result in
-    let field = arg c.args.request.now 0 in
-    let at = c.bytes_of.result + field in
-    let status = stored_as (arg c.args.request.now 1) in
+    let at = c.bytes_of.result + c.from.result in
     let cleared : put_mid from (to - from) m c.clear.new.part ≡ clear m run.from (run.to - run.from) =
     part_cleared m run.from (run.to - run.from) from to c.clear.new.part c.bytes_of-from.ensures
     (omega (arith, c.bytes_of-to.ensures)) (omega (arith, c.bytes_of-to.ensures)) c.clear.ensures in
     rw (c.set_cells.ensures, cleared, c.stored_as.ensures)
-    (status-put c.args.total (clear m run.from (run.to - run.from)) field status at (omega (arith, c.bytes_of.ensures)))
+    (status-put c.args.total (clear m run.from (run.to - run.from)) (arg c.args.request.now 0) (stored_as (arg c.args.request.now 1)) at (omega (arith, c.bytes_of.ensures, c.from.ensures)))

@@ -5,13 +5,7 @@ use Rattle.fields.specs.Memory.{survey_of}
 use Rattle.fields.proofs.Finds.{found_unsound, found_none, found_there}
 use Rattle.fields.proofs.find.find_field.Goals as goal
 
-pub returns-then-not-seen : goal.returns-then-not-seen
-returns-then-not-seen c t m e = found_unsound t m _ (survey_of c.args.seen) e (not-true _ c.if-not-seen.true)
-
-pub returns-then-seen-field : goal.returns-then-seen-field
-returns-then-seen-field c t m e = found_none t m _ (survey_of c.args.seen) e (not-false _ c.if-not-seen.false) c.if-seen-field.true
-
 pub returns : goal.returns
 returns c t m e =
-    found_there t m _ (survey_of c.args.seen) e (not-false _ c.if-not-seen.false) c.if-seen-field.false _ _ _
+    found_there t m _ (survey_of c.args.seen) e (not-false _ c.if-not-seen.false) (omega arith) _
     c.bytes_of-from.ensures (omega (arith, c.bytes_of.ensures, c.blocks_in.ensures)) refl

@@ -5,4 +5,4 @@ use Rattle.fields.proofs.table.survey.Goals as goal
 
 pub returns : goal.returns
 returns c =
-    c.walk.ensures c.args.memory.now (table_is c.args.total c.args.memory.now c.requires _ _ c.bytes_of-from.ensures refl)
+    rw (← c.from.ensures) (c.walk.ensures c.args.memory.now (table_is c.args.total c.args.memory.now c.requires _ _ c.bytes_of-from.ensures refl))
