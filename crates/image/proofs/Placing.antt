@@ -24,7 +24,6 @@ use Rattle.state.specs.Effects.{noting_of, noted_as, effect_on}
 use Rattle.state.specs.State.{state_with}
 use Rattle.state.proofs.Places.{notes_so}
 use Rattle.state.proofs.States.{notes}
-use Rattle.state.proofs.Ways.{with_one_code, counts, moves, turns, overflows, moves_up, empties, read_out, stays_so}
 use Rattle.image.specs.Image.{flag_byte, number_at, count_at, state_in, frame_in, kept_in, state_bytes}
 use Rattle.image.specs.Writes.{frame_bytes, HoldsState, measured_set, faults_set, code_set, counter_set, address_set, offset_set, PutsState, NotesIn, PutsEffect, PutsBoard}
 use Rattle.image.proofs.Numbers.{there-fits, few-counted}
@@ -259,41 +258,44 @@ module _ {x : Effect} {core core' : List ℕ} where
   puts_effect t p e = record { holds = λ l. ap (λ (z : State). state_with z l) p.holds ∙ e l; bytes = rw p.holds p }
 
   pub put-code : {n c : ℕ} → x ≡ Code n c → PutsState (code_set (state_in core) n c) core core' → PutsEffect x core core'
-  unfolding with_codes
-  put-code {n} {c} e p = puts_effect (code_set (state_in core) n c) p (λ l. with_one_code (state_in core) l e refl)
+  unfolding effect_on with_codes
+  put-code {n} {c} e p = puts_effect (code_set (state_in core) n c) p (λ l. rw e)
 
   pub put-counter : {n : ℕ} → x ≡ Counter n → PutsState (counter_set (state_in core) n) core core' → PutsEffect x core core'
-  unfolding with_counter
-  put-counter {n} e p = puts_effect (counter_set (state_in core) n) p (λ l. counts (state_in core) l e refl)
+  unfolding effect_on with_counter
+  put-counter {n} e p = puts_effect (counter_set (state_in core) n) p (λ l. rw e)
 
   pub put-address : {n : ℕ} → x ≡ Address n → PutsState (address_set (state_in core) n) core core' → PutsEffect x core core'
-  unfolding with_address
-  put-address {n} e p = puts_effect (address_set (state_in core) n) p (λ l. moves (state_in core) l e refl)
+  unfolding effect_on with_address
+  put-address {n} e p = puts_effect (address_set (state_in core) n) p (λ l. rw e)
 
   pub put-offset : {n : ℕ} → x ≡ Offset n → PutsState (offset_set (state_in core) n) core core' → PutsEffect x core core'
-  unfolding with_offset
-  put-offset {n} e p = puts_effect (offset_set (state_in core) n) p (λ l. turns (state_in core) l e refl)
+  unfolding effect_on with_offset
+  put-offset {n} e p = puts_effect (offset_set (state_in core) n) p (λ l. rw e)
 
   module _ {f : Faults} (same : f ≡ (state_in core).faults) where
-    pub put-oldest : {o : Oldest} → x ≡ OldestRead → Reads f o → PutsState (faults_set (state_in core) o.faults) core core' → PutsEffect x core core'
-    unfolding holding with_queue with_lock
+    pub put-oldest : {o : Oldest Faults} → x ≡ OldestRead → Reads f o → PutsState (faults_set (state_in core) o.rest) core core' → PutsEffect x core core'
+    unfolding effect_on with_queue
     put-oldest {o} e r p =
-        let t : State = faults_set (state_in core) o.faults in
-        puts_effect t p (λ l. moves_up (state_in core) l e (read_out (state_in core) l t o (rw same at r) refl))
+        let k = rw same at r in
+        puts_effect (faults_set (state_in core) o.rest) p (λ l. rw (e, k.rest.queue, k.rest.lock))
 
     pub put_emptied : {g : Faults} → x ≡ Emptied → Queues f [] g → PutsState (faults_set (state_in core) g) core core' → PutsEffect x core core'
-    unfolding holding with_queue with_lock
-    put_emptied {g} e r p = puts_effect (faults_set (state_in core) g) p (λ l. empties (state_in core) l g e (rw same at r) refl)
+    unfolding effect_on with_queue
+    put_emptied {g} e r p =
+        let k = rw same at r in
+        puts_effect (faults_set (state_in core) g) p (λ l. rw (e, k.queue, k.lock))
 
     pub put_overflow : {g : Faults} {mid : List ℕ} → x ≡ Overflow → Queues f (queued (queue_of f) 0x08) g → PutsState (counter_set (state_in core) 0) core mid
         → PutsState (faults_set (state_in mid) g) mid core' → PutsEffect x core core'
-    unfolding holding with_queue with_lock with_counter
+    unfolding effect_on with_queue with_counter
     put_overflow {g} e r p q =
+        let k = rw same at r in
         let u : State = counter_set (state_in core) 0 in
         let t : State = faults_set u g in
-        let z : PutsState t core core' = one_then_other u t p (rw p.holds at q) in
-        puts_effect t z (λ l. overflows (state_in core) l (state_with u l) g e (rw same at r) refl refl)
+        puts_effect t (one_then_other u t p (rw p.holds at q)) (λ l. rw (e, k.queue, k.lock))
 
 -- nothing is written
 pub put-nothing : {x : Effect} (core : List ℕ) → x ≡ Nothing → HoldsState core → ((i : ℕ) → arg core i < 256) → PutsEffect x core core
-put-nothing core e h small = record { holds = λ l. stays_so (state_in core) l e; bytes = state-there core h small }
+unfolding effect_on
+put-nothing core e h small = record { holds = λ l. rw e; bytes = state-there core h small }

@@ -17,7 +17,7 @@ use crate::layout::{
 use crate::read::faults_in;
 use line::OpenFrame;
 use state::{Effect, Faults, Noting, State};
-use wire::codes::{COUNTER_OVERFLOW, LONGEST_REQUEST};
+use wire::codes::{ErrorCode, LONGEST_REQUEST};
 
 #[tactic(auto, unfolding(crate::specs::Image::flag_byte))]
 fn flag_byte(on: bool) -> u8
@@ -175,13 +175,13 @@ pub fn put_effect(effect: Effect, core: &mut [u8])
         }
         Effect::Offset(offset) => put_offset(offset, core),
         Effect::Overflow => {
-            let faults = faults_in(core).queued(COUNTER_OVERFLOW);
+            let faults = faults_in(core).queued(ErrorCode::COUNTER_OVERFLOW.byte);
             put_counter(0, core);
             put_faults(faults, core);
         }
         Effect::OldestRead => {
             let oldest = faults_in(core).read();
-            put_faults(oldest.faults, core);
+            put_faults(oldest.rest, core);
         }
         Effect::Emptied => put_faults(faults_in(core).emptied(), core),
     }

@@ -13,10 +13,11 @@ use Rattle.meaning.specs.Characters as characters
 use Rattle.meaning.specs.Frames as frames
 use Rattle.wire.specs.declared.table.Row.{Row}
 use Rattle.wire.specs.Table.{length_of, row_of}
+use Rattle.wire.specs.declared.codes.ErrorCode.{ErrorCode}
 use Rattle.line.specs.declared.judge.Judgement.{Judgement}
 use Rattle.line.specs.declared.judge.Judgement.TheVariants.{Short, Elsewhere, Fault, Request}
 use Rattle.line.specs.contracts.judge.Judgement.{the_type}
-use Rattle.line.specs.Judge.{addressed, is_silent, judgement_of, ending_by, code_to_answer}
+use Rattle.line.specs.Judge.{addressed, is_silent, fault, judgement_of, ending_by, code_to_answer}
 
 abbrev pub asking : Judgement → Bool
 asking Short = false
@@ -39,17 +40,17 @@ module _ (own : ℕ) (b : characters.Frame) where
     for_another a = rw (long, a)
 
     module _ (a : addressed (arg b.bytes 0) own ≡ true) where
-      pub parity-fault : b.parity ≡ true → Fault 0x09 ≡ judgement_of own b
+      pub parity-fault : b.parity ≡ true → fault 0x09 ≡ judgement_of own b
       unfolding judgement_of
       parity-fault p = rw (long, a, p)
 
       module _ (p : b.parity ≡ false) where
-        pub wrong_sum : eqb b.sum 0 ≡ false → Fault 0x0A ≡ judgement_of own b
+        pub wrong_sum : eqb b.sum 0 ≡ false → fault 0x0A ≡ judgement_of own b
         unfolding judgement_of
         wrong_sum c = rw (long, a, p, c)
 
         module _ (c : eqb b.sum 0 ≡ true) where
-          pub too_long : b.longer ≡ true → Fault 0x0C ≡ judgement_of own b
+          pub too_long : b.longer ≡ true → fault 0x0C ≡ judgement_of own b
           unfolding judgement_of
           too_long d = rw (long, a, p, c, d)
 
@@ -58,7 +59,7 @@ module _ (own : ℕ) (b : characters.Frame) where
             unfolding command_byte
             known = ap (λ (x : meaning.Row). x.known) (sym same)
 
-            pub unknown : r.known ≡ false → Fault 0x0B ≡ judgement_of own b
+            pub unknown : r.known ≡ false → fault 0x0B ≡ judgement_of own b
             unfolding judgement_of
             unknown e = rw (long, a, p, c, d, known, e)
 
@@ -70,7 +71,7 @@ module _ (own : ℕ) (b : characters.Frame) where
                   ap (λ (x : meaning.Row). length_fits x.request (data_of b.bytes) (data_of b.bytes)) (sym same)
                   ∙ ap (λ (x : List ℕ). length_fits (length_of r.request) x x) (sym part) ∙ sym (fitting d' refl)
 
-              pub wrong_length : t ≡ false → Fault 0x0C ≡ judgement_of own b
+              pub wrong_length : t ≡ false → fault 0x0C ≡ judgement_of own b
               unfolding judgement_of
               wrong_length g = rw (long, a, p, c, d, known, e, right, g)
 
@@ -98,7 +99,7 @@ ends_as_judged p s m b =
   where
     go : (a : meaning.Answer) → a ≡ worked (command_of (command_byte b.bytes)) p s m (data_of b.bytes) → (t u v w x y z : Bool)
         → pick t short (pick u elsewhere (answered (error 0x09 v (error 0x0A w (error 0x0C x (error 0x0B y (error 0x0C z a)))))))
-        ≡ ending_by p s m b (pick t Short (pick u Elsewhere (pick v (Fault 0x09) (pick w (Fault 0x0A) (pick x (Fault 0x0C) (pick y (Fault 0x0B) (pick z (Fault 0x0C) (Request (command_byte b.bytes)))))))))
+        ≡ ending_by p s m b (pick t Short (pick u Elsewhere (pick v (fault 0x09) (pick w (fault 0x0A) (pick x (fault 0x0C) (pick y (fault 0x0B) (pick z (fault 0x0C) (Request (command_byte b.bytes)))))))))
     go a q true u v w x y z = refl
     go a q false true v w x y z = refl
     go a q false false true w x y z = refl
@@ -133,7 +134,7 @@ request-fits own b {c} e =
     (not (row (command_of (command_byte b.bytes))).known) (asked (command_of (command_byte b.bytes)) (data_of b.bytes)) refl refl e
   where
     go : (t u v w x y z : Bool) → ltb (length b.bytes) 3 ≡ t → asked (command_of (command_byte b.bytes)) (data_of b.bytes) ≡ z
-        → pick t Short (pick u Elsewhere (pick v (Fault 0x09) (pick w (Fault 0x0A) (pick x (Fault 0x0C) (pick y (Fault 0x0B) (pick (not z) (Fault 0x0C) (Request (command_byte b.bytes))))))))
+        → pick t Short (pick u Elsewhere (pick v (fault 0x09) (pick w (fault 0x0A) (pick x (fault 0x0C) (pick y (fault 0x0B) (pick (not z) (fault 0x0C) (Request (command_byte b.bytes))))))))
         ≡ Request c → Asks b c
     go true u v w x y z i j e = absurd (false≢true (ap asking e))
     go false true v w x y z i j e = absurd (false≢true (ap asking e))
@@ -145,18 +146,18 @@ request-fits own b {c} e =
     go false false false false false false true i j e = record { long = i; byte = ap (asked_for 0) e; right = j }
 
 -- an error code to answer is never 00h
-pub some-fault : (own : ℕ) (b : characters.Frame) {x : ℕ} → judgement_of own b ≡ Fault x → eqb x 0 ≡ false
+pub some-fault : (own : ℕ) (b : characters.Frame) {x : ErrorCode} → judgement_of own b ≡ Fault x → eqb x.byte 0 ≡ false
 unfolding judgement_of
 some-fault own b {x} e =
     go (ltb (length b.bytes) 3) (not (addressed (arg b.bytes 0) own)) b.parity (differ b.sum 0) b.longer
     (not (row (command_of (command_byte b.bytes))).known) (not (asked (command_of (command_byte b.bytes)) (data_of b.bytes))) e
   where
-    same_code : {n : ℕ} → Fault n ≡ Fault x → eqb n 0 ≡ eqb x 0
+    same_code : {n : ℕ} → fault n ≡ Fault x → eqb n 0 ≡ eqb x.byte 0
     same_code h = ap (λ (j : Judgement). eqb (code_to_answer j) 0) h
 
     go : (t u v w y z a : Bool)
-        → pick t Short (pick u Elsewhere (pick v (Fault 0x09) (pick w (Fault 0x0A) (pick y (Fault 0x0C) (pick z (Fault 0x0B) (pick a (Fault 0x0C) (Request (command_byte b.bytes))))))))
-        ≡ Fault x → eqb x 0 ≡ false
+        → pick t Short (pick u Elsewhere (pick v (fault 0x09) (pick w (fault 0x0A) (pick y (fault 0x0C) (pick z (fault 0x0B) (pick a (fault 0x0C) (Request (command_byte b.bytes))))))))
+        ≡ Fault x → eqb x.byte 0 ≡ false
     go true u v w y z a h = absurd (false≢true (ap silent (sym h)))
     go false true v w y z a h = absurd (false≢true (ap silent (sym h)))
     go false false true w y z a h = sym (same_code h)

@@ -4,14 +4,14 @@ ghost use Rattle.line.specs.Line.{frame_of};
 ghost use Rattle.line.specs.Judge.{is_silent, judgement_of, code_to_answer, addressed};
 
 use crate::characters::OpenFrame;
-use wire::codes::{BROADCAST, CHECKSUM_ERROR, PARITY_ERROR, UNKNOWN_COMMAND, WRONG_LENGTH};
+use wire::codes::{BROADCAST, ErrorCode};
 
 // Too short; for another address; an error code to answer; a command whose data has its row's length.
-#[derive(Drop)]
+#[derive(Clone, Copy, PartialEq, Eq)]
 pub enum Judgement {
     Short,
     Elsewhere,
-    Fault(u8),
+    Fault(ErrorCode),
     Request(u8),
 }
 
@@ -21,10 +21,8 @@ impl Judgement {
         ensures { result ≡ code_to_answer self }
     {
         match self {
-            Judgement::Short => 0,
-            Judgement::Elsewhere => 0,
-            Judgement::Fault(code) => code,
-            Judgement::Request(_) => 0,
+            Judgement::Fault(code) => code.byte,
+            Judgement::Short | Judgement::Elsewhere | Judgement::Request(_) => 0,
         }
     }
 }
@@ -33,13 +31,7 @@ impl Judgement {
 fn is_addressed(to: u8, own: u8) -> bool
     ensures { result ≡ addressed to own }
 {
-    if to == own {
-        return true;
-    }
-    if to == BROADCAST {
-        return true;
-    }
-    false
+    to == own || to == BROADCAST
 }
 
 // 01, "judged in this order", 1: fewer than three bytes, or for another board, as most frames on a bus are.
@@ -47,10 +39,7 @@ fn is_addressed(to: u8, own: u8) -> bool
 pub fn is_silent(own: u8, bytes: &[u8]) -> bool
     ensures { result ≡ is_silent own bytes.now }
 {
-    if bytes.len() < 3 {
-        return true;
-    }
-    !is_addressed(bytes[0], own)
+    bytes.len() < 3 || !is_addressed(bytes[0], own)
 }
 
 impl OpenFrame {
@@ -65,24 +54,24 @@ impl OpenFrame {
             return Judgement::Elsewhere;
         }
         if self.parity {
-            return Judgement::Fault(PARITY_ERROR);
+            return Judgement::Fault(ErrorCode::PARITY_ERROR);
         }
         if self.sum != 0 {
-            return Judgement::Fault(CHECKSUM_ERROR);
+            return Judgement::Fault(ErrorCode::CHECKSUM_ERROR);
         }
         if self.longer {
-            return Judgement::Fault(WRONG_LENGTH);
+            return Judgement::Fault(ErrorCode::WRONG_LENGTH);
         }
         let command = bytes[1];
         let row = wire::row_of(command);
         let wanted = row.request;
         if !row.known {
-            return Judgement::Fault(UNKNOWN_COMMAND);
+            return Judgement::Fault(ErrorCode::UNKNOWN_COMMAND);
         }
         let request = wire::data_part(bytes);
         if wire::length_fits(wanted, request, request.len()) {
             return Judgement::Request(command);
         }
-        Judgement::Fault(WRONG_LENGTH)
+        Judgement::Fault(ErrorCode::WRONG_LENGTH)
     }
 }

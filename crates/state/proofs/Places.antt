@@ -2,10 +2,9 @@
 use Prim.Native.Nat.{ℕ, ◌+◌, ◌<◌, ◌%◌}
 use native.Mathlib.Omega.{arith}
 use mathlib.Core.Path.{◌≡◌, refl, sym, ap, ◌∙◌, subst}
-use mathlib.Core.Bool.{Bool, true, false, not, false≢true}
+use mathlib.Core.Bool.{Bool, true, false, not, ◌||◌, false≢true}
 use mathlib.Core.List.{List, [], ◌∷◌, ◌++◌}
 use borrow.Author.Tests.{eqb-true, eqb-false, ne_eqb}
-use lib.Bits.{bit_and}
 use lib.Dec.{eqb, leb}
 use lib.ListN.{length, drop}
 use Rattle.meaning.specs.Bytes.{pick, both, either, among, arg}
@@ -16,10 +15,9 @@ use Rattle.state.specs.declared.faults.Faults.{Faults}
 use Rattle.state.specs.declared.faults.Oldest.{Oldest}
 use Rattle.state.specs.declared.faults.Noting.{Noting}
 use Rattle.state.specs.declared.faults.Noting.TheVariants.{Ignored, Locks, First, Second, Third, Fourth}
-use Rattle.state.specs.Queue.{waiting, queue_of, no_faults, holding, Queues, Reads}
+use Rattle.state.specs.Queue.{waiting, queue_of, holding, Queues, Reads}
 use Rattle.state.specs.Effects.{place_at, place_for, noting_of, noted_as}
 use Rattle.meaning.proofs.Choices.{both_true, both_false, either-false}
-use Rattle.meaning.proofs.Every.{alike, as_told, every, at}
 
 no_more_one : (c : ℕ) (q : List ℕ) → not (waits (waiting c q)) ≡ both (eqb c 0) (not (waits q))
 unfolding waits waiting
@@ -34,23 +32,32 @@ no_more_one c (x ∷ q) = go (eqb c 0)
     go true = refl
     go false = refl
 
--- 00h in all places is an empty queue
-pub no_more : (x y z : ℕ) {t : Bool} → both (eqb x 0) (both (eqb y 0) (both (eqb z 0) true)) ≡ t → t ≡ not (waits (waiting x (waiting y (waiting z []))))
-unfolding waits
-no_more x y z e = rw (no_more_one x (waiting y (waiting z [])), no_more_one y (waiting z []), no_more_one z []) (sym e)
+-- `|` of the code, for the four places
+four_either : (a b c d : Bool) → ((a || b) || c) || d ≡ either a (either b (either c d))
+four_either true b c d = refl
+four_either false true c d = refl
+four_either false false true d = refl
+four_either false false false d = refl
 
-none-waits : (f : Faults) {t : Bool} → both (eqb f.first 0) (not (waits (waiting f.second (waiting f.third (waiting f.fourth []))))) ≡ t
-    → t ≡ not (waits (queue_of f))
-unfolding queue_of
-none-waits f e = rw (no_more_one f.first (waiting f.second (waiting f.third (waiting f.fourth [])))) (sym e)
-
-pub some_wait : (f : Faults) {t : Bool} → both (eqb f.first 0) (not (waits (waiting f.second (waiting f.third (waiting f.fourth []))))) ≡ t
-    → not t ≡ waits (queue_of f)
-some_wait f e = ap not (none-waits f e) ∙ twice (waits (queue_of f))
+waits_one : (c : ℕ) (q : List ℕ) → waits (waiting c q) ≡ either (not (eqb c 0)) (waits q)
+unfolding waits waiting
+waits_one c [] = go (eqb c 0)
   where
-    twice : (b : Bool) → not (not b) ≡ b
-    twice true = refl
-    twice false = refl
+    go : (t : Bool) → waits (pick t [] (c ∷ [])) ≡ either (not t) false
+    go true = refl
+    go false = refl
+waits_one c (x ∷ q) = go (eqb c 0)
+  where
+    go : (t : Bool) → true ≡ either (not t) true
+    go true = refl
+    go false = refl
+
+-- a code waits, if one place is not 00h
+pub some_wait : (f : Faults) → ((not (eqb f.first 0) || not (eqb f.second 0)) || not (eqb f.third 0)) || not (eqb f.fourth 0) ≡ waits (queue_of f)
+unfolding queue_of waits
+some_wait f =
+    four_either (not (eqb f.first 0)) (not (eqb f.second 0)) (not (eqb f.third 0)) (not (eqb f.fourth 0))
+    ∙ sym (rw (waits_one f.first (waiting f.second (waiting f.third (waiting f.fourth []))), waits_one f.second (waiting f.third (waiting f.fourth [])), waits_one f.third (waiting f.fourth []), waits_one f.fourth [], either-false (not (eqb f.fourth 0))))
 
 positive : (c : ℕ) → eqb c 0 ≡ false → 0 < c
 positive c e = omega (arith, eqb-false c 0 e)
@@ -102,26 +109,12 @@ among_three : (c x y z : ℕ) → 0 < c
     → among c (waiting x (waiting y (waiting z []))) ≡ either (eqb c x) (either (eqb c y) (eqb c z))
 among_three c x y z h = rw (among-more c x (waiting y (waiting z [])) h, among-more c y (waiting z []) h, among_one c z h)
 
-pub among-four : (f : Faults) (c : ℕ) {t : Bool} → 0 < c
-    → either (eqb c f.first) (either (eqb c f.second) (either (eqb c f.third) (eqb c f.fourth))) ≡ t
-    → t ≡ among c (queue_of f)
+pub among_four : (f : Faults) (c : ℕ) → 0 < c → ((eqb c f.first || eqb c f.second) || eqb c f.third) || eqb c f.fourth ≡ among c (queue_of f)
 unfolding queue_of
-among-four f c h e =
-    sym e
+among_four f c h =
+    four_either (eqb c f.first) (eqb c f.second) (eqb c f.third) (eqb c f.fourth)
     ∙ sym (among-more c f.first (waiting f.second (waiting f.third (waiting f.fourth []))) h
     ∙ ap (either (eqb c f.first)) (among_three c f.second f.third f.fourth h))
-
--- 01, "22h and 24h lock the position": one test for both, computed for every byte
-one_test : ℕ → Bool
-one_test c = alike (eqb (bit_and (c + 0xDE) 0xFD) 0) (locks c)
-
-one_test_computed : every one_test 256 ≡ true
-unfolding every one_test locks
-one_test_computed = refl
-
-pub locks_by_one_test : (c : ℕ) → c < 256 → eqb (bit_and (c + 0xDE) 0xFD) 0 ≡ locks c
-unfolding one_test
-locks_by_one_test c h = as_told _ _ (at one_test 256 one_test_computed c h)
 
 -- 00h locks nothing
 pub lock_fills : (c : ℕ) → locks c ≡ true → eqb c 0 ≡ false
@@ -222,6 +215,9 @@ module _ (f : Faults) where
       go true false e x = absurd (false≢true e)
 
   module _ (h : eqb f.first 0 ≡ false) where
+    pub apart_places : both (waits (queue_of f)) (apart (queue_of f)) ≡ four_apart f
+    apart_places = rw (some_first h, places-apart h)
+
     pub apart_so : {t : Bool} → four_apart f ≡ t → t ≡ both (waits (queue_of f)) (apart (queue_of f))
     apart_so e = sym e ∙ sym (rw (some_first h, places-apart h))
 
@@ -284,14 +280,10 @@ unfolding queue_of
 moved f = rw (behind f.first (waiting f.second (waiting f.third (waiting f.fourth []))), at_end)
 
 -- 01, row 50h
-pub oldest-first : (f : Faults) (r : Oldest) → r.code ≡ f.first
-    → r.faults ≡ (record { first = f.second; second = f.third; third = f.fourth; fourth = 0; locked = f.locked }) → Reads f r
+pub oldest_first : (f : Faults) (r : Oldest Faults) → r.code ≡ f.first
+    → r.rest ≡ (record { first = f.second; second = f.third; third = f.fourth; fourth = 0; locked = f.locked }) → Reads f r
 unfolding queue_of
-oldest-first f r e k = record { oldest = e ∙ sym (front f.first _); rest = record { queue = rw k (moved f); lock = rw k } }
-
-pub emptied : (f : Faults) {r : Faults} → r ≡ no_faults → Queues f [] (record { first = r.first; second = r.second; third = r.third; fourth = r.fourth; locked = f.locked })
-unfolding queue_of waiting
-emptied f e = record { queue = rw e; lock = refl }
+oldest_first f r e k = record { oldest = e ∙ sym (front f.first _); rest = record { queue = rw k (moved f); lock = rw k } }
 
 -- 01, "Bit 7 of every reply's command byte"
 pub unmarked : (c : ℕ) (q : List ℕ) → waits q ≡ false → c % 128 ≡ warned c q
@@ -342,22 +334,22 @@ sound-some q w e = sym (rw w at e)
 
 -- how many wait, by the places
 module _ (f : Faults) where
-  four_wait : eqb f.fourth 0 ≡ false → length (queue_of f) ≡ 4
+  pub four_wait : eqb f.fourth 0 ≡ false → length (queue_of f) ≡ 4
   unfolding queue_of waiting
   four_wait d = rw d
 
   module _ (d : eqb f.fourth 0 ≡ true) where
-    three_wait : eqb f.third 0 ≡ false → length (queue_of f) ≡ 3
+    pub three_wait : eqb f.third 0 ≡ false → length (queue_of f) ≡ 3
     unfolding queue_of waiting
     three_wait e = rw (d, e)
 
     module _ (e : eqb f.third 0 ≡ true) where
-      two_wait : eqb f.second 0 ≡ false → length (queue_of f) ≡ 2
+      pub two_wait : eqb f.second 0 ≡ false → length (queue_of f) ≡ 2
       unfolding queue_of waiting
       two_wait h = rw (d, e, h)
 
       module _ (h : eqb f.second 0 ≡ true) where
-        one_waits : eqb f.first 0 ≡ false → length (queue_of f) ≡ 1
+        pub one_waits : eqb f.first 0 ≡ false → length (queue_of f) ≡ 1
         unfolding queue_of waiting
         one_waits k = rw (d, e, h, k)
 

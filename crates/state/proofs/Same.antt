@@ -9,15 +9,16 @@ use Rattle.meaning.specs.Bytes.{arg}
 use Rattle.meaning.specs.State as meaning
 use Rattle.meaning.specs.State.{with_lock, with_queue, none, state_ok}
 use Rattle.meaning.specs.Commands.{Command}
-use Rattle.wire.specs.declared.answer.Answer.{Answer}
+use Rattle.wire.specs.declared.codes.ErrorCode.{ErrorCode}
 use Rattle.state.specs.declared.faults.Faults.{Faults}
 use Rattle.state.specs.declared.faults.Oldest.{Oldest}
 use Rattle.state.specs.declared.state.State.{State}
 use Rattle.state.specs.declared.rows.Worked.{Worked}
-use Rattle.state.specs.declared.effects.Effect.{Effect}
 use Rattle.state.specs.Queue.{waiting, queue_of, holding, Queues, Reads}
 use Rattle.state.specs.State.{state_with}
-use Rattle.state.specs.Rows.{Answers}
+use Rattle.std.specs.Prelude.{Result, Ok, Err}
+use Rattle.state.specs.Rows.{answer_in, effect_in, Answers}
+use Rattle.std.proofs.Common.{rules}
 use Rattle.state.proofs.Places.{front, behind}
 
 same-front : (c e : ℕ) (q u : List ℕ) → waiting c q ≡ waiting e u → c ≡ e
@@ -68,15 +69,18 @@ is_ok_tight s bits a b h i =
 pub queues_tight : (f : Faults) (q : List ℕ) (r t : Faults) → Queues f q r → Queues f q t → r ≡ t
 queues_tight f q r t h i = same_faults r t (h.queue ∙ sym i.queue) (h.lock ∙ sym i.lock)
 
-oldest : {c d : ℕ} {f g : Faults} → c ≡ d → f ≡ g → ◌≡◌ {A = Oldest} (record { code = c; faults = f }) (record { code = d; faults = g })
+oldest : {c d : ℕ} {f g : Faults} → c ≡ d → f ≡ g → ◌≡◌ {A = Oldest Faults} (record { code = c; rest = f }) (record { code = d; rest = g })
 oldest i j = rw (i, j)
 
-pub reads_tight : (f : Faults) (r t : Oldest) → Reads f r → Reads f t → r ≡ t
-reads_tight f r t h i = oldest (h.oldest ∙ sym i.oldest) (queues_tight f _ r.faults t.faults h.rest i.rest)
+pub reads_tight : (f : Faults) (r t : Oldest Faults) → Reads f r → Reads f t → r ≡ t
+reads_tight f r t h i = oldest (h.oldest ∙ sym i.oldest) (queues_tight f _ r.rest t.rest h.rest i.rest)
 
-outcomes : {e f : Effect} {x y : Answer} → e ≡ f → x ≡ y → ◌≡◌ {A = Worked} (record { effect = e; answer = x }) (record { effect = f; answer = y })
-outcomes i j = rw (i, j)
+outcomes : (r t : Result Worked ErrorCode) → effect_in r ≡ effect_in t → answer_in r ≡ answer_in t → r ≡ t
+outcomes (Ok x) (Ok y) i j = search rules
+outcomes (Err x) (Err y) i j = search rules
+outcomes (Ok x) (Err y) i j = absurd (search rules)
+outcomes (Err x) (Ok y) i j = absurd (search rules)
 
-pub row_tight : (k : Command) (p : meaning.Plate) (s : State) (l : meaning.Line) (m d w : List ℕ) (r t : Worked) (u v : List ℕ) → Answers k p s l m d w r u → Answers k p s l m d w t v
-    → (r ≡ t) × (u ≡ v)
-row_tight k p s l m d w r t u v h i = (outcomes (h.effect ∙ sym i.effect) (h.answer ∙ sym i.answer), h.room ∙ sym i.room)
+pub row_tight : (k : Command) (p : meaning.Plate) (s : State) (l : meaning.Line) (m d w : List ℕ) (r t : Result Worked ErrorCode) (u v : List ℕ)
+    → Answers k p s l m d w r u → Answers k p s l m d w t v → (r ≡ t) × (u ≡ v)
+row_tight k p s l m d w r t u v h i = (outcomes r t (h.effect ∙ sym i.effect) (h.answer ∙ sym i.answer), h.room ∙ sym i.room)

@@ -26,6 +26,6 @@ pub record Queues (f : Faults) (q : List ℕ) (r : Faults) : Type 0 where
   pub queue : queue_of r ≡ q
   pub lock : r.locked ≡ f.locked
 
-pub record Reads (f : Faults) (r : Oldest) : Type 0 where
+pub record Reads (f : Faults) (r : Oldest Faults) : Type 0 where
   pub oldest : r.code ≡ arg (queue_of f) 0
-  pub rest : Queues f (drop 1 (queue_of f)) r.faults
+  pub rest : Queues f (drop 1 (queue_of f)) r.rest

@@ -17,7 +17,7 @@ pub struct Faults {
 }
 
 // What a noted code comes to: nothing, the lock, or the place that it takes. Who holds the queue writes that alone.
-#[derive(Drop)]
+#[derive(Clone, Copy, PartialEq, Eq)]
 pub enum Noting {
     Ignored,
     Locks,
@@ -27,11 +27,11 @@ pub enum Noting {
     Fourth,
 }
 
-// The oldest code, or 00h, and the queue without it.
-#[derive(Drop)]
-pub struct Oldest {
+// The oldest code, or 00h, and what is left without it: the queue, the state, the board.
+#[derive(Clone, Copy)]
+pub struct Oldest<T> {
     pub code: u8,
-    pub faults: Faults,
+    pub rest: T,
 }
 
 impl Faults {
@@ -47,26 +47,16 @@ impl Faults {
         }
     }
 
+    #[tactic(auto, using(crate::proofs::Places::among_four))]
     fn holds(self, code: u8) -> bool
         requires { 0 < code }
         ensures { result ≡ among code (queue_of self) }
     {
-        if code == self.first {
-            return true;
-        }
-        if code == self.second {
-            return true;
-        }
-        if code == self.third {
-            return true;
-        }
-        if code == self.fourth {
-            return true;
-        }
-        false
+        (code == self.first) | (code == self.second) | (code == self.third) | (code == self.fourth)
     }
 
     // 01, "a queue of four, oldest first; one already waiting, or a fifth, is dropped". That none waits is told at once.
+    #[tactic(auto, using(crate::proofs::Places::none_yet, crate::proofs::Places::four_wait, crate::proofs::Places::three_wait, crate::proofs::Places::two_wait, crate::proofs::Places::one_waits), unfolding(crate::specs::Effects::place_for))]
     fn place_for(self, code: u8) -> Noting
         requires { 0 < code }
         ensures { result ≡ place_for self code }
@@ -90,6 +80,7 @@ impl Faults {
     }
 
     // 01, "00h is ignored. 22h and 24h lock the position until power-on and are not queued".
+    #[tactic(auto, unfolding(crate::specs::Effects::noting_of))]
     pub fn noting(self, code: u8) -> Noting
         ensures { result ≡ noting_of self code }
     {
@@ -106,29 +97,28 @@ impl Faults {
     fn noted(self, code: u8, noting: Noting) -> Faults
         ensures { result ≡ noted_as self code noting }
     {
-        let mut next = self;
         match noting {
             Noting::Ignored => self,
-            Noting::Locks => {
-                next.locked = true;
-                next
-            }
-            Noting::First => {
-                next.first = code;
-                next
-            }
-            Noting::Second => {
-                next.second = code;
-                next
-            }
-            Noting::Third => {
-                next.third = code;
-                next
-            }
-            Noting::Fourth => {
-                next.fourth = code;
-                next
-            }
+            Noting::Locks => Faults {
+                locked: true,
+                ..self
+            },
+            Noting::First => Faults {
+                first: code,
+                ..self
+            },
+            Noting::Second => Faults {
+                second: code,
+                ..self
+            },
+            Noting::Third => Faults {
+                third: code,
+                ..self
+            },
+            Noting::Fourth => Faults {
+                fourth: code,
+                ..self
+            },
         }
     }
 
@@ -141,6 +131,7 @@ impl Faults {
     }
 
     // 01, "The host notes codes".
+    #[tactic(auto, using(crate::proofs::Places::notes_so))]
     pub(crate) fn note(self, code: u8) -> Faults
         ensures { (s : State) → holding s result ≡ noted (holding s self) code }
     {
@@ -148,7 +139,7 @@ impl Faults {
     }
 
     // 01, row 50h: the oldest is handed back, and the others move up.
-    pub fn read(self) -> Oldest
+    pub fn read(self) -> Oldest<Faults>
         ensures { Reads self result }
     {
         let rest = Faults {
@@ -156,40 +147,35 @@ impl Faults {
             second: self.third,
             third: self.fourth,
             fourth: 0,
-            locked: self.locked,
+            ..self
         };
         Oldest {
             code: self.first,
-            faults: rest,
+            rest,
         }
     }
 
     // 01, row 53h. The lock lasts until power-on.
+    #[tactic(auto, unfolding(crate::specs::Queue::queue_of, crate::specs::Queue::waiting))]
     pub fn emptied(self) -> Faults
         ensures { Queues self [] result }
     {
-        let mut next = Faults::none();
-        next.locked = self.locked;
-        next
-    }
-
-    pub(crate) fn power_on(self) -> Faults
-        ensures { result ≡ no_faults }
-    {
-        Faults::none()
+        Faults {
+            locked: self.locked,
+            ..Faults::none()
+        }
     }
 
     // Whether a code waits.
+    #[tactic(auto, using(crate::proofs::Places::some_wait))]
     pub fn waits(self) -> bool
         ensures { result ≡ waits (queue_of self) }
     {
-        if self.first != 0 {
-            return true;
-        }
-        !no_more(self.second, self.third, self.fourth)
+        (self.first != 0) | (self.second != 0) | (self.third != 0) | (self.fourth != 0)
     }
 
     // 01, "State limits": whether codes wait, and all different, none of them 00h, 22h or 24h. Each is held to those before it, and two are told at once.
+    #[tactic(auto, using(crate::proofs::Places::apart_places, crate::proofs::Places::first_empty, crate::proofs::Places::lock_fills, crate::proofs::Places::two_so), unfolding(crate::proofs::Places::four_apart))]
     pub fn waits_apart(self) -> bool
         ensures { result ≡ both (waits (queue_of self)) (apart (queue_of self)) }
     {
@@ -228,6 +214,7 @@ impl Faults {
 }
 
 // 01, "Bit 7 of every reply's command byte is set exactly if the fault queue is not empty".
+#[tactic(auto, using(crate::proofs::Places::marked, crate::proofs::Places::unmarked))]
 pub fn marked(command: u8, waiting: bool) -> u8
     ensures { (q : List ℕ) → waiting ≡ waits q → result ≡ warned command q }
 {
@@ -238,34 +225,17 @@ pub fn marked(command: u8, waiting: bool) -> u8
     low
 }
 
-// 01, "22h and 24h lock the position". One test for both: with 0xDE added they are 100h and 102h, and no other code is; 0xFD leaves nothing of either.
+// 01, "22h and 24h lock the position".
+#[tactic(auto, unfolding(meaning::specs::State::locks))]
 pub fn locks(code: u8) -> bool
     ensures { result ≡ locks code }
 {
-    (code as u32 + 0xDE) & 0xFD == 0
+    matches!(code, 0x22 | 0x24)
 }
 
 // Whether the code is one of those two.
 fn is_among(code: u8, third: u8, fourth: u8) -> bool
     ensures { result ≡ either (eqb code third) (eqb code fourth) }
 {
-    if code == third {
-        return true;
-    }
-    code == fourth
-}
-
-fn no_more(second: u8, third: u8, fourth: u8) -> bool
-    ensures { result ≡ not (waits (waiting second (waiting third (waiting fourth [])))) }
-{
-    if second != 0 {
-        return false;
-    }
-    if third != 0 {
-        return false;
-    }
-    if fourth != 0 {
-        return false;
-    }
-    true
+    code == third || code == fourth
 }

@@ -14,4 +14,4 @@ pub use rows::{
     Worked, clear_counter, read_counter, read_fault, read_position, reset, set_address, set_code,
     set_position, step_counter,
 };
-pub use state::{LAST_COUNT, OldestFault, State, offset_fits};
+pub use state::{LAST_COUNT, State, offset_fits};

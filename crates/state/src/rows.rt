@@ -1,98 +1,81 @@
 // The commands that work on the state alone, their checks in the row's order (01, "The commands"). Reply data goes to place 2 of the room on.
-ghost use Rattle.std.specs.Prelude.{◌≡◌, not, List, ◌∷◌, [], ℕ, ◌≤◌, ◌<◌, ◌^◌, leb, ltb, length, get_or};
-ghost use Rattle.meaning.specs.Bytes.{differ, longest_reply, put, number, bytes3, bytes4};
+ghost use Rattle.std.specs.Prelude.{◌≡◌, not, List, ℕ, ◌+◌, ◌≤◌, ◌<◌, ◌^◌, leb, ltb, length, get_or, Some, Ok};
+ghost use Rattle.meaning.specs.Bytes.{differ, longest_reply, put};
 ghost use Rattle.meaning.specs.State.{Plate, Line, board_byte, last_count, position, offset_for};
 ghost use Rattle.meaning.specs.Commands.{c42, c43, c46, c47, c49, c4f, c50, c53, c55};
 ghost use Rattle.state.specs.State.{state_with};
-ghost use Rattle.state.specs.Rows.{check_of, Answers};
+ghost use Rattle.state.specs.Rows.{refused_if, Answers};
 
 use crate::effects::Effect;
 use crate::state::{LAST_COUNT, State, size};
-use wire::Answer;
-use wire::codes::{POSITION_LOCKED, WRONG_ARGUMENT, WRONG_CODE};
+use wire::codes::ErrorCode;
 
-// What a command changes in the state, and what it comes to.
-#[derive(Drop)]
+// What an accepted command changes in the state, and how many bytes of reply data stand from place 2 of the room on; None is no reply.
+#[derive(Clone, Copy)]
 pub struct Worked {
     pub effect: Effect,
-    pub answer: Answer,
+    pub reply: Option<u8>,
 }
 
-// What one of the row's checks comes to.
-#[derive(Drop)]
-enum Check {
-    Passed,
-    Failed,
-}
-
-fn refused(code: u8) -> Worked
-    ensures { result ≡ record { effect = Effect.Nothing; answer = Answer.Refuse code } }
+pub(crate) fn accepted(effect: Effect, count: u8) -> Result<Worked, ErrorCode>
+    ensures { result ≡ Ok (record { effect = effect; reply = Some count }) }
 {
-    Worked {
-        effect: Effect::Nothing,
-        answer: Answer::Refuse(code),
-    }
-}
-
-pub(crate) fn accepted(effect: Effect, count: u8) -> Worked
-    ensures { result ≡ record { effect = effect; answer = Answer.Accept count } }
-{
-    Worked {
+    Ok(Worked {
         effect,
-        answer: Answer::Accept(count),
-    }
+        reply: Some(count),
+    })
 }
 
 // 01, "02h if locked".
-fn check_unlocked(state: State) -> Check
-    ensures { result ≡ check_of state.faults.locked }
+fn check_unlocked(state: State) -> Result<(), ErrorCode>
+    ensures { result ≡ refused_if state.faults.locked 0x02 }
 {
     if state.faults.locked {
-        return Check::Failed;
+        return Err(ErrorCode::POSITION_LOCKED);
     }
-    Check::Passed
+    Ok(())
 }
 
 // 01, "0Fh unless".
-fn check_code(codes: [u8; 4], number: usize, given: u8) -> Check
+fn check_code(codes: [u8; 4], number: usize, given: u8) -> Result<(), ErrorCode>
     requires { number < 4 }
-    ensures { result ≡ check_of (differ given (get_or codes number 0)) }
+    ensures { result ≡ refused_if (differ given (get_or codes number 0)) 0x0F }
 {
-    if given == codes[number] {
-        return Check::Passed;
+    if given != codes[number] {
+        return Err(ErrorCode::WRONG_CODE);
     }
-    Check::Failed
+    Ok(())
 }
 
 // 01, row 43h, "0Dh if position ≥ 2^P".
-fn check_position(bits: u32, wanted: u64) -> Check
+fn check_position(bits: u32, wanted: u32) -> Result<(), ErrorCode>
     requires { bits ≤ 32 }
-    ensures { result ≡ check_of (leb (2 ^ bits) wanted) }
+    ensures { result ≡ refused_if (leb (2 ^ bits) wanted) 0x0D }
 {
-    if size(bits) <= wanted {
-        return Check::Failed;
+    if size(bits) <= u64::from(wanted) {
+        return Err(ErrorCode::WRONG_ARGUMENT);
     }
-    Check::Passed
+    Ok(())
 }
 
 // 01, row 4Fh, "0Dh if number over 3".
-fn check_number(number: u8) -> Check
-    ensures { result ≡ check_of (ltb 3 number) }
+fn check_number(number: u8) -> Result<(), ErrorCode>
+    ensures { result ≡ refused_if (ltb 3 number) 0x0D }
 {
     if 3 < number {
-        return Check::Failed;
+        return Err(ErrorCode::WRONG_ARGUMENT);
     }
-    Check::Passed
+    Ok(())
 }
 
 // 000, table 30, "40...5Fh".
-fn check_address(byte: u8) -> Check
-    ensures { result ≡ check_of (not (board_byte byte)) }
+fn check_address(byte: u8) -> Result<(), ErrorCode>
+    ensures { result ≡ refused_if (not (board_byte byte)) 0x0D }
 {
-    if wire::is_board(byte) {
-        return Check::Passed;
+    if !wire::is_board(byte) {
+        return Err(ErrorCode::WRONG_ARGUMENT);
     }
-    Check::Failed
+    Ok(())
 }
 
 // 01, "Position is (measured + offset) mod 2^P".
@@ -101,89 +84,62 @@ fn position(bits: u32, state: State) -> u32
     ensures { (p : Plate) (l : Line) → p.bits ≡ bits → result ≡ position p (state_with state l) }
 {
     let size = size(bits);
-    ((state.measured as u64 % size + state.offset as u64) % size) as u32
+    ((u64::from(state.measured) % size + u64::from(state.offset)) % size) as u32
 }
 
 // 01, "43h sets offset to (wanted − measured) mod 2^P".
-fn offset_for(bits: u32, state: State, wanted: u64) -> u32
-    requires { (bits ≤ 32) × (wanted < 4294967296) }
+fn offset_for(bits: u32, state: State, wanted: u32) -> u32
+    requires { bits ≤ 32 }
     ensures { (p : Plate) (l : Line) → p.bits ≡ bits → result ≡ offset_for p (state_with state l) wanted }
 {
     let size = size(bits);
-    ((wanted + size - state.measured as u64 % size) % size) as u32
+    ((u64::from(wanted) + size - u64::from(state.measured) % size) % size) as u32
 }
 
-// Four bytes, high first.
-fn number_of(a: u8, b: u8, c: u8, d: u8) -> u64
-    ensures { (result ≡ number (a ∷ b ∷ c ∷ d ∷ []) 0) × (result < 4294967296) }
+// Reply data, to the room's place 2 on.
+pub(crate) fn put_data(bytes: &[u8], room: &mut [u8])
+    requires { 2 + length bytes.now ≤ length room.old }
+    ensures { room.new ≡ put room.old 2 bytes.now }
 {
-    ((a as u64 * 256 + b as u64) * 256 + c as u64) * 256 + d as u64
+    wire::fill(bytes, &mut room[2..]);
 }
 
-fn put_bytes4(x: u32, room: &mut [u8])
-    requires { longest_reply ≤ length room.old }
-    ensures { room.new ≡ put room.old 2 (bytes4 x) }
-{
-    let bytes = wire::bytes_of(x);
-    room[2] = bytes[3];
-    room[3] = bytes[2];
-    room[4] = bytes[1];
-    room[5] = bytes[0];
-}
-
-fn put_bytes3(x: u32, room: &mut [u8])
-    requires { longest_reply ≤ length room.old }
-    ensures { room.new ≡ put room.old 2 (bytes3 x) }
-{
-    let bytes = wire::bytes_of(x);
-    room[2] = bytes[2];
-    room[3] = bytes[1];
-    room[4] = bytes[0];
-}
+// Bits, room and request come as the caller has them, and each function asks what it needs: a type of their own would have to be made at every call.
 
 // 42h: 02h if locked.
-pub fn read_position(bits: u32, state: State, room: &mut [u8]) -> Worked
+pub fn read_position(bits: u32, state: State, room: &mut [u8]) -> Result<Worked, ErrorCode>
     requires { (bits ≤ 32) × (longest_reply ≤ length room.old) }
     ensures { (p : Plate) (l : Line) (m d : List ℕ) → p.bits ≡ bits → Answers c42 p state l m d room.old result room.new }
 {
-    let Check::Passed = check_unlocked(state) else {
-        return refused(POSITION_LOCKED);
-    };
-    put_bytes4(position(bits, state), room);
+    check_unlocked(state)?;
+    put_data(&position(bits, state).to_be_bytes(), room);
     accepted(Effect::Nothing, 4)
 }
 
 // 43h: 02h if locked; 0Fh unless Code0; 0Dh if position ≥ 2^P.
-pub fn set_position(bits: u32, state: State, request: &[u8]) -> Worked
+pub fn set_position(bits: u32, state: State, request: &[u8]) -> Result<Worked, ErrorCode>
     requires { (bits ≤ 32) × (length request.now ≡ 5) }
     ensures { (p : Plate) (l : Line) (m w : List ℕ) → p.bits ≡ bits → Answers c43 p state l m request.now w result w }
 {
-    let Check::Passed = check_unlocked(state) else {
-        return refused(POSITION_LOCKED);
-    };
-    let codes = state.codes;
-    let Check::Passed = check_code(codes, 0, request[4]) else {
-        return refused(WRONG_CODE);
-    };
-    let wanted = number_of(request[0], request[1], request[2], request[3]);
-    let Check::Passed = check_position(bits, wanted) else {
-        return refused(WRONG_ARGUMENT);
-    };
+    check_unlocked(state)?;
+    check_code(state.codes, 0, request[4])?;
+    let wanted = u32::from_be_bytes([request[0], request[1], request[2], request[3]]);
+    check_position(bits, wanted)?;
     let offset = offset_for(bits, state, wanted);
     accepted(Effect::Offset(offset), 0)
 }
 
 // 46h
-pub fn read_counter(state: State, room: &mut [u8]) -> Worked
+pub fn read_counter(state: State, room: &mut [u8]) -> Result<Worked, ErrorCode>
     requires { longest_reply ≤ length room.old }
     ensures { (p : Plate) (l : Line) (m d : List ℕ) → Answers c46 p state l m d room.old result room.new }
 {
-    put_bytes3(state.counter, room);
+    put_data(&state.counter.to_be_bytes()[1..], room);
     accepted(Effect::Nothing, 3)
 }
 
 // 47h: from FFFFFFh the counter goes to 0 and 08h is queued.
-pub fn step_counter(state: State) -> Worked
+pub fn step_counter(state: State) -> Result<Worked, ErrorCode>
     requires { state.counter ≤ last_count }
     ensures { (p : Plate) (l : Line) (m d w : List ℕ) → Answers c47 p state l m d w result w }
 {
@@ -194,35 +150,27 @@ pub fn step_counter(state: State) -> Worked
 }
 
 // 49h: 0Fh unless Code0.
-pub fn clear_counter(state: State, request: &[u8]) -> Worked
+pub fn clear_counter(state: State, request: &[u8]) -> Result<Worked, ErrorCode>
     ensures { (p : Plate) (l : Line) (m w : List ℕ) → Answers c49 p state l m request.now w result w }
 {
-    let codes = state.codes;
-    let Check::Passed = check_code(codes, 0, wire::byte_at(request, 0)) else {
-        return refused(WRONG_CODE);
-    };
+    check_code(state.codes, 0, wire::byte_at(request, 0))?;
     accepted(Effect::Counter(0), 0)
 }
 
 // 4Fh: 0Dh if the number is over 3; 0Fh if the old code differs.
-pub fn set_code(state: State, request: &[u8], room: &mut [u8]) -> Worked
+pub fn set_code(state: State, request: &[u8], room: &mut [u8]) -> Result<Worked, ErrorCode>
     requires { (length request.now ≡ 3) × (longest_reply ≤ length room.old) }
     ensures { (p : Plate) (l : Line) (m : List ℕ) → Answers c4f p state l m request.now room.old result room.new }
 {
-    let number = request[0];
-    let Check::Passed = check_number(number) else {
-        return refused(WRONG_ARGUMENT);
-    };
-    let codes = state.codes;
-    let Check::Passed = check_code(codes, number as usize, request[1]) else {
-        return refused(WRONG_CODE);
-    };
-    room[2] = number;
-    accepted(Effect::Code(number as usize, request[2]), 1)
+    check_number(request[0])?;
+    let number = usize::from(request[0]);
+    check_code(state.codes, number, request[1])?;
+    room[2] = request[0];
+    accepted(Effect::Code(number, request[2]), 1)
 }
 
 // 50h: the oldest code, or 00h, which is then removed.
-pub fn read_fault(state: State, room: &mut [u8]) -> Worked
+pub fn read_fault(state: State, room: &mut [u8]) -> Result<Worked, ErrorCode>
     requires { longest_reply ≤ length room.old }
     ensures { (p : Plate) (l : Line) (m d : List ℕ) → Answers c50 p state l m d room.old result room.new }
 {
@@ -232,27 +180,22 @@ pub fn read_fault(state: State, room: &mut [u8]) -> Worked
 }
 
 // 53h: the queue is emptied, and no reply follows (000, "Encoder Reset").
-pub fn reset(state: State) -> Worked
+pub fn reset(state: State) -> Result<Worked, ErrorCode>
     ensures { (p : Plate) (l : Line) (m d w : List ℕ) → Answers c53 p state l m d w result w }
 {
-    Worked {
+    Ok(Worked {
         effect: Effect::Emptied,
-        answer: Answer::Quiet,
-    }
+        reply: None,
+    })
 }
 
 // 02, Req 01, 55h: 0Fh unless Code0; 0Dh unless the new byte is a board's.
-pub fn set_address(state: State, request: &[u8]) -> Worked
+pub fn set_address(state: State, request: &[u8]) -> Result<Worked, ErrorCode>
     requires { length request.now ≡ 2 }
     ensures { (p : Plate) (l : Line) (m w : List ℕ) → Answers c55 p state l m request.now w result w }
 {
-    let codes = state.codes;
-    let Check::Passed = check_code(codes, 0, request[1]) else {
-        return refused(WRONG_CODE);
-    };
+    check_code(state.codes, 0, request[1])?;
     let byte = request[0];
-    let Check::Passed = check_address(byte) else {
-        return refused(WRONG_ARGUMENT);
-    };
+    check_address(byte)?;
     accepted(Effect::Address(byte - 0x40), 0)
 }

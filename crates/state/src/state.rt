@@ -1,14 +1,13 @@
 // The board's state but for the open frame (01, "Fresh state"). State values are made in this file only.
-ghost use Rattle.std.specs.Prelude.{◌≡◌, ◌≤◌, ◌<◌, ◌^◌, length, set, ltb};
+ghost use Rattle.std.specs.Prelude.{◌≡◌, ◌≤◌, ◌<◌, ◌^◌, length, ltb};
 ghost use Rattle.meaning.specs.Bytes.{longest_request};
-ghost use Rattle.meaning.specs.State.{Plate, Line, fresh, state_ok, with_codes, with_counter, with_address, with_offset, with_measured, none, noted, powered_on};
+ghost use Rattle.meaning.specs.State.{Plate, Line, fresh, state_ok, with_measured, none, noted, powered_on};
 ghost use Rattle.state.specs.State.{state_with, ReadsOut};
 ghost use Rattle.state.specs.Effects.{Bounded, effect_on};
-ghost use Rattle.state.specs.Queue.{holding};
 
 use crate::effects::Effect;
-use crate::faults::Faults;
-use wire::codes::{COUNTER_OVERFLOW, LAST_ADDRESS};
+use crate::faults::{Faults, Oldest};
+use wire::codes::{ErrorCode, LAST_ADDRESS};
 
 // 01, "counter at most FFFFFFh".
 pub const LAST_COUNT: u32 = 0xFFFFFF;
@@ -23,15 +22,9 @@ pub struct State {
     pub faults: Faults,
 }
 
-// The oldest waiting code, or 00h, and the state without it.
-#[derive(Drop)]
-pub struct OldestFault {
-    pub code: u8,
-    pub state: State,
-}
-
 impl State {
     // With the plate's address (02, Req 01).
+    #[tactic(auto, unfolding(crate::specs::Queue::queue_of, crate::specs::Queue::waiting, meaning::specs::State::fresh))]
     pub fn fresh(address: u8) -> State
         ensures { (p : Plate) → p.address ≡ address → state_with result none ≡ fresh p }
     {
@@ -45,109 +38,81 @@ impl State {
         }
     }
 
-    #[tactic(auto, unfolding(meaning::specs::State::with_codes))]
-    fn with_code(self, number: usize, code: u8) -> State
-        requires { number < 4 }
-        ensures { (l : Line) → state_with result l ≡ with_codes (state_with self l) (set self.codes number code) }
-    {
-        let mut next = self;
-        next.codes[number] = code;
-        next
-    }
-
-    #[tactic(auto, unfolding(meaning::specs::State::with_counter))]
-    fn with_counter(self, counter: u32) -> State
-        ensures { (l : Line) → state_with result l ≡ with_counter (state_with self l) counter }
-    {
-        let mut next = self;
-        next.counter = counter;
-        next
-    }
-
-    #[tactic(auto, unfolding(meaning::specs::State::with_address))]
-    fn with_address(self, address: u8) -> State
-        ensures { (l : Line) → state_with result l ≡ with_address (state_with self l) address }
-    {
-        let mut next = self;
-        next.address = address;
-        next
-    }
-
-    #[tactic(auto, unfolding(meaning::specs::State::with_offset))]
-    fn with_offset(self, offset: u32) -> State
-        ensures { (l : Line) → state_with result l ≡ with_offset (state_with self l) offset }
-    {
-        let mut next = self;
-        next.offset = offset;
-        next
-    }
-
     #[tactic(auto, unfolding(meaning::specs::State::with_measured))]
     pub fn with_measured(self, measured: u32) -> State
         ensures { (l : Line) → state_with result l ≡ with_measured (state_with self l) measured }
     {
-        let mut next = self;
-        next.measured = measured;
-        next
-    }
-
-    #[tactic(auto, unfolding(crate::specs::Queue::holding, meaning::specs::State::with_lock, meaning::specs::State::with_queue))]
-    fn with_faults(self, faults: Faults) -> State
-        ensures { (l : Line) → state_with result l ≡ holding (state_with self l) faults }
-    {
-        let mut next = self;
-        next.faults = faults;
-        next
+        State { measured, ..self }
     }
 
     // What a command changes, changed; all else stays.
+    #[tactic(auto, unfolding(crate::specs::Effects::effect_on, meaning::specs::State::with_codes, meaning::specs::State::with_counter, meaning::specs::State::with_address, meaning::specs::State::with_offset, meaning::specs::State::with_queue))]
     pub fn after(self, effect: Effect) -> State
         requires { Bounded effect }
         ensures { (l : Line) → state_with result l ≡ effect_on effect (state_with self l) }
     {
         match effect {
             Effect::Nothing => self,
-            Effect::Code(number, code) => self.with_code(number, code),
-            Effect::Counter(counter) => self.with_counter(counter),
-            Effect::Address(address) => self.with_address(address),
-            Effect::Offset(offset) => self.with_offset(offset),
+            Effect::Code(number, code) => {
+                let mut codes = self.codes;
+                codes[number] = code;
+                State { codes, ..self }
+            }
+            Effect::Counter(counter) => State { counter, ..self },
+            Effect::Address(address) => State { address, ..self },
+            Effect::Offset(offset) => State { offset, ..self },
             Effect::Overflow => {
-                let faults = self.faults.queued(COUNTER_OVERFLOW);
-                self.with_counter(0).with_faults(faults)
+                let faults = self.faults.queued(ErrorCode::COUNTER_OVERFLOW.byte);
+                State {
+                    counter: 0,
+                    faults,
+                    ..self
+                }
             }
-            Effect::OldestRead => {
-                let oldest = self.read();
-                oldest.state
-            }
-            Effect::Emptied => self.with_faults(self.faults.emptied()),
+            Effect::OldestRead => self.read().rest,
+            Effect::Emptied => State {
+                faults: self.faults.emptied(),
+                ..self
+            },
         }
     }
 
     // 01, "The host notes codes".
+    #[tactic(auto, unfolding(crate::specs::Queue::holding, meaning::specs::State::with_lock, meaning::specs::State::with_queue))]
     pub fn note(self, code: u8) -> State
         ensures { (l : Line) → state_with result l ≡ noted (state_with self l) code }
     {
-        self.with_faults(self.faults.note(code))
+        State {
+            faults: self.faults.note(code),
+            ..self
+        }
     }
 
     // 01, row 50h: "oldest queued code, or 00h"; "removes it".
-    pub fn read(self) -> OldestFault
-        ensures { (l : Line) → ReadsOut (state_with self l) result.code (state_with result.state l) }
+    #[tactic(auto, unfolding(meaning::specs::State::with_queue))]
+    pub fn read(self) -> Oldest<State>
+        ensures { (l : Line) → ReadsOut (state_with self l) result.code (state_with result.rest l) }
     {
         let oldest = self.faults.read();
-        let rest = oldest.faults;
-        let state = self.with_faults(rest);
-        OldestFault {
+        let rest = State {
+            faults: oldest.rest,
+            ..self
+        };
+        Oldest {
             code: oldest.code,
-            state,
+            rest,
         }
     }
 
     // 01, "Power-on empties the queue .. and unlocks; all else stays"; the open frame is dropped by who holds it.
+    #[tactic(auto, unfolding(crate::specs::Queue::queue_of, crate::specs::Queue::waiting, meaning::specs::State::powered_on, meaning::specs::State::with_lock, meaning::specs::State::with_queue, meaning::specs::State::with_line))]
     pub fn power_on(self) -> State
         ensures { (l : Line) → state_with result none ≡ powered_on (state_with self l) }
     {
-        self.with_faults(self.faults.power_on())
+        State {
+            faults: Faults::none(),
+            ..self
+        }
     }
 
     // 01, "State limits", but for the kept bytes.
@@ -174,10 +139,7 @@ impl State {
 pub fn offset_fits(offset: u32, bits: u32) -> bool
     ensures { result ≡ ltb offset (2 ^ bits) }
 {
-    if 32 < bits {
-        return true;
-    }
-    (offset as u64) < size(bits)
+    32 < bits || u64::from(offset) < size(bits)
 }
 
 // 2 to the number of position bits.

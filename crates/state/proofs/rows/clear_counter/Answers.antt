@@ -1,14 +1,15 @@
 -- What is left to show of `state::rows::clear_counter`.
-use Rattle.std.proofs.Common.{sym, ◌∙◌, get_or}
-use Rattle.state.proofs.Ways.{barred_49, cleared_49, given_byte}
+use Rattle.std.proofs.Common.{refl, arith}
+use Rattle.meaning.specs.State.{code}
+use Rattle.meaning.specs.Commands.{c49, worked, clear_counter, error}
+use Rattle.state.specs.Effects.{effect_on, row_effect}
+use Rattle.state.proofs.Answering.{refuses, accepts-bare, passed}
 use Rattle.state.proofs.rows.clear_counter.Goals as goal
 
-pub returns-in_default : goal.returns-in_default
-returns-in_default c p l m w =
-    barred_49 p _ l m _ w c.refused.ensures
-    (given_byte (get_or c.args.state.codes 0 0) c.byte_at.ensures (sym c.check_code.ensures ∙ c.in_default.is))
+pub returns-in_err-check_code : goal.returns-in_err-check_code
+unfolding worked clear_counter error code
+returns-in_err-check_code c p l m w = refuses c49 p _ l m _ w _ _ c.in_err-check_code.ensures c.from_residual.ensures.1 (λ t. rw (← c.byte_at.ensures, t))
 
 pub returns : goal.returns
-returns c p l m w =
-    cleared_49 p _ l m _ w c.accepted.ensures
-    (given_byte (get_or c.args.state.codes 0 0) c.byte_at.ensures (sym c.check_code.ensures ∙ c.in-Passed.is))
+unfolding worked clear_counter error code effect_on row_effect
+returns c p l m w = accepts-bare c49 p _ l m _ w c.accepted.ensures (rw (← c.byte_at.ensures, passed _ _ c.in_ok-check_code.ensures)) refl (omega arith)

@@ -1,25 +1,31 @@
 -- What is left to show of `state::rows::set_position`.
-use Rattle.std.proofs.Common.{sym, ◌∙◌}
-use Rattle.state.proofs.Answering.{failed, passed}
-use Rattle.state.proofs.Ways.{locked_43, barred_43, high_43, set_43, wanted_of, reaches, turned}
+use Rattle.meaning.specs.State.{code}
+use Rattle.meaning.specs.Commands.{c43, worked, set_position, error}
+use Rattle.state.specs.Effects.{effect_on, row_effect}
+use Rattle.state.proofs.Answering.{refuses, accepts-bare, passed, wanted}
 use Rattle.state.proofs.rows.set_position.Goals as goal
 
-pub returns-in_default : goal.returns-in_default
-returns-in_default c p l m w e = locked_43 p _ l m _ w c.refused.ensures (failed _ (sym c.check_unlocked.ensures ∙ c.in_default.is))
+pub returns-in_err-check_unlocked : goal.returns-in_err-check_unlocked
+unfolding worked set_position error
+returns-in_err-check_unlocked c p l m w e = refuses c43 p _ l m _ w _ _ c.in_err-check_unlocked.ensures c.from_residual.ensures.1 (λ t. rw t)
 
-pub returns-in_default-check_code : goal.returns-in_default-check_code
-returns-in_default-check_code c p l m w e =
-    barred_43 p _ l m _ w (passed _ (sym c.check_unlocked.ensures ∙ c.in-Passed.is)) c.refused-in_default-check_code.ensures
-    (sym c.check_code.ensures ∙ c.in_default-check_code.is)
+pub returns-in_err-check_code : goal.returns-in_err-check_code
+unfolding worked set_position error code
+returns-in_err-check_code c p l m w e =
+    refuses c43 p _ l m _ w _ _ c.in_err-check_code.ensures c.from_residual-in_err-check_code.ensures.1 (λ t. rw (passed _ _ c.in_ok-check_unlocked.ensures, t))
 
-pub returns-in_default-check_position : goal.returns-in_default-check_position
-returns-in_default-check_position c p l m w e =
-    let wanted = wanted_of c.args.request.now c.requires.1 c.number_of-wanted.ensures.0 in
-    high_43 p _ l m _ w (passed _ (sym c.check_unlocked.ensures ∙ c.in-Passed.is)) (sym c.check_code.ensures ∙ c.in-Passed-check_code.is) c.refused-in_default-check_position.ensures
-    (reaches e wanted (failed _ (sym c.check_position.ensures ∙ c.in_default-check_position.is)))
+pub returns-in_err-check_position : goal.returns-in_err-check_position
+unfolding worked set_position error code
+returns-in_err-check_position c p l m w e =
+    refuses c43 p _ l m _ w _ _ c.in_err-check_position.ensures c.from_residual-in_err-check_position.ensures.1
+    (λ t. rw (passed _ _ c.in_ok-check_unlocked.ensures, passed _ _ c.in_ok-check_code.ensures, wanted c.args.request.now c.requires.1, e, ← c.from_be_bytes-wanted.ensures, t))
 
 pub returns : goal.returns
+unfolding worked set_position error code effect_on row_effect
 returns c p l m w e =
-    let wanted = wanted_of c.args.request.now c.requires.1 c.number_of-wanted.ensures.0 in
-    set_43 p _ l m _ w (passed _ (sym c.check_unlocked.ensures ∙ c.in-Passed.is)) (sym c.check_code.ensures ∙ c.in-Passed-check_code.is) c.accepted.ensures
-    (reaches e wanted (passed _ (sym c.check_position.ensures ∙ c.in-Passed-check_position.is))) (turned p _ l wanted (c.offset_for-offset.ensures p l e))
+    let given = wanted c.args.request.now c.requires.1 in
+    let told = c.from_be_bytes-wanted.ensures in
+    let turned = c.offset_for-offset.ensures p l e in
+    accepts-bare c43 p _ l m _ w c.accepted.ensures
+    (rw (given, ← told, ← turned, passed _ _ c.in_ok-check_unlocked.ensures, passed _ _ c.in_ok-check_code.ensures, e, passed _ _ c.in_ok-check_position.ensures))
+    (rw (given, ← told, ← turned)) tt

@@ -1,6 +1,9 @@
 -- What is left to show of `state::state::State::note`.
-use Rattle.state.proofs.States.{notes}
+use Rattle.meaning.specs.State.{with_lock, with_queue}
+use Rattle.state.specs.Queue.{holding}
+use Rattle.state.specs.State.{state_with}
 use Rattle.state.proofs.state.State.note.Goals as goal
 
 pub returns : goal.returns
-returns c l = notes _ _ l _ c.with_faults.result (c.with_faults.ensures l) (c.note.ensures _)
+unfolding holding with_lock with_queue
+returns c l = c.note.ensures (state_with c.args.self l)
