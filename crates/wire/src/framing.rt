@@ -9,11 +9,7 @@ pub fn fill(src: &[u8], dst: &mut [u8])
     requires { length src.now ≤ length dst.old }
     ensures { dst.new ≡ put dst.old 0 src.now }
 {
-    let mut i = 0;
-    while i < src.len() {
-        dst[i] = src[i];
-        i += 1;
-    }
+    dst[..src.len()].copy_from_slice(src);
 }
 
 // 01, "A frame is address, command, data, checksum": the n bytes of data already stand at place 2.
