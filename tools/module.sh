@@ -3,7 +3,7 @@
 # module.sh --check NAME: looks at that text once more.
 # module.sh --compile NAME TRIPLE OBJECT WORD...: compiles it for another processor; WORDs are the compiler's.
 # The module is the archive's own: compiled for x86-64 as rattle has it, the text must give the archive's object, byte for byte. And it must be as its compilation for
-# another processor expects it: x86-64 stands in two target lines and one line of attributes, which are replaced, and only numbers and pointers cross its exports.
+# another processor expects it: x86-64 stands in two target lines and in rattle's attributes of a function, which are replaced, and only numbers and pointers cross its exports.
 # Where one of these is not so it stops, and tells what differs. Nothing of the kit is changed: a kit of links stands in its place. Beyond all that the back end for
 # the other processor is to be believed.
 set -euo pipefail
@@ -69,12 +69,18 @@ expect() {
     fail "not as expected: $2: above are the lines that match '$3', and $1 should"
 }
 
+# Rattle's attributes of a function: one line, and one more for each hint on inlining that a function of the sources has.
+hint='(alwaysinline |noinline )?'
+for_x86=' "probe-stack"="inline-asm" "stack-probe-size"="3072" "target-cpu"="x86-64"'
+
 is_as_expected() {
+    local lines
+    lines=$(grep -cE "^attributes #[0-9]+ = \{ ${hint}nounwind$for_x86 \}\$" "$text" || true)
     expect 2 'its head' '^target '
     expect 1 'its head' '^target triple = "x86_64-unknown-linux-gnu"$'
-    expect 1 'its attributes' '^attributes #0 = \{ nounwind "probe-stack"="inline-asm" "stack-probe-size"="3072" "target-cpu"="x86-64" \}$'
-    expect 1 'its attributes' '^attributes .*(target-|probe-)'
-    expect 2 'x86' 'x86'
+    [ "$lines" -gt 0 ] || fail "not as expected: its attributes: there are none of rattle's"
+    expect "$lines" 'its attributes' '^attributes .*(target-|probe-)'
+    expect $((lines + 1)) 'x86' 'x86'
     expect 0 'a word that depends on the machine' 'ptrtoint|inttoptr|addrspacecast|byval|sret|inreg| asm |<[0-9]+ x '
     expect 0 'an export that takes or returns more than numbers and pointers' '^define ([^@]*[^@a-z0-9 ][^@]*)?@[a-z]|^define [^@]*@[a-z][^(]*\([^)]*[{<[]'
     expect 0 'an export that returns a number under 32 bits' '^define (.* )?i(1|8|16) @[a-z]'
@@ -104,7 +110,7 @@ for_processor() {
     [ $# -ge 2 ] || use
     {
         "$clang" --target="$1" "${@:3}" --no-default-config -S -emit-llvm -x c /dev/null -o - | grep '^target '
-        sed -e '/^target /d' -e 's/^attributes #0 = .*/attributes #0 = { nounwind }/' "$text"
+        sed -E -e '/^target /d' -e "s/^(attributes #[0-9]+ = \{ ${hint}nounwind)$for_x86 \}\$/\1 }/" "$text"
     } >"$work/module.ll"
     compile "$1" "$work/module.ll" "$2" "${@:3}"
 }

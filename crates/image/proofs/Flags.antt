@@ -5,8 +5,8 @@ use native.Mathlib.Nat.{mod-eq_of_lt}
 use mathlib.Core.Path.{◌≡◌, refl, sym, ap, ◌∙◌}
 use mathlib.Core.Bool.{Bool, true, false}
 use mathlib.Core.List.{List, [], ◌∷◌}
-use borrow.Author.Tests.{leb-true, le-leb}
-use lib.Dec.{leb, lit<}
+use borrow.Author.Tests.{leb-true, le-leb, eqb-true, eqb-false}
+use lib.Dec.{eqb, leb, lit<}
 use lib.Bits.{bit_and, and_block, and_high}
 use Rattle.meaning.specs.Bytes.{arg, part, both, little}
 use Rattle.wire.proofs.Numbers.{little-at}
@@ -64,7 +64,7 @@ module _ (core : List ℕ) (small : (i : ℕ) → arg core i < 256) where
   tested : bit_and (little (part core 20 4)) 0xFEFEFEFE ≡ ((upper d * 256 + upper c) * 256 + upper b) * 256 + upper a
   tested = ap (λ (x : ℕ). bit_and x 0xFEFEFEFE) (little-at core 20) ∙ word a b c d (small 20) (small 21) (small 22) (small 23)
 
-  pub flags_fine : bit_and (little (part core 20 4)) 0xFEFEFEFE ≡ 0 → flags_ok core ≡ true
+  flags_fine : bit_and (little (part core 20 4)) 0xFEFEFEFE ≡ 0 → flags_ok core ≡ true
   unfolding flags_ok
   flags_fine e =
       let z : Blank (upper a) (upper b) (upper c) (upper d) = blank (upper a) (upper b) (upper c) (upper d) (sym tested ∙ e) in
@@ -74,7 +74,7 @@ module _ (core : List ℕ) (small : (i : ℕ) → arg core i < 256) where
       let s : d ≤ 1 = low_bit d (small 23) z.four in
       rw (le-leb a 1 p, le-leb b 1 q, le-leb c 1 r, le-leb d 1 s)
 
-  pub flags_bad : (bit_and (little (part core 20 4)) 0xFEFEFEFE ≡ 0 → ⊥) → flags_ok core ≡ false
+  flags_bad : (bit_and (little (part core 20 4)) 0xFEFEFEFE ≡ 0 → ⊥) → flags_ok core ≡ false
   unfolding flags_ok
   flags_bad n = go (flags_ok core) refl
     where
@@ -92,3 +92,10 @@ module _ (core : List ℕ) (small : (i : ℕ) → arg core i < 256) where
           let u : (x : ℕ) → x ≤ 1 → upper x ≡ 0 = λ x h. omega arith in
           let z : ((upper d * 256 + upper c) * 256 + upper b) * 256 + upper a ≡ 0 = rw (u a p, u b q, u c r, u d s) in
           absurd (n (tested ∙ z))
+
+  pub flags_word : eqb (bit_and (little (part core 20 4)) 0xFEFEFEFE) 0 ≡ flags_ok core
+  flags_word = go (eqb (bit_and (little (part core 20 4)) 0xFEFEFEFE) 0) refl
+    where
+      go : (t : Bool) → eqb (bit_and (little (part core 20 4)) 0xFEFEFEFE) 0 ≡ t → t ≡ flags_ok core
+      go true e = sym (flags_fine (eqb-true _ 0 e))
+      go false e = sym (flags_bad (eqb-false _ 0 e))

@@ -8,6 +8,7 @@ use mathlib.Core.List.{List, [], ◌∷◌, ◌++◌, append-nil}
 use lib.Dec.{eqb}
 use lib.ListN.{length, take, drop, drop_of_length-le, length-drop}
 use lib.Seq.{drop-drop, length-take-le}
+use Rattle.std.specs.Int.{from_bool}
 use Rattle.meaning.specs.Bytes.{arg, part, pick, put}
 use Rattle.meaning.specs.State.{Line, last_count, none}
 use Rattle.meaning.proofs.Puts.{put-at}
@@ -49,6 +50,11 @@ places f =
       third = later-place f.first 1 _ ∙ later-place f.second 0 _ ∙ front f.third _;
       fourth = later-place f.first 2 _ ∙ later-place f.second 1 _ ∙ later-place f.third 0 _ ∙ front f.fourth _;
     }
+
+pub flag_of : (t : Bool) → from_bool t ≡ flag_byte t
+unfolding flag_byte
+flag_of true = refl
+flag_of false = refl
 
 pub flag_again : (t : Bool) → eqb (flag_byte t) 1 ≡ t
 unfolding flag_byte
@@ -158,12 +164,14 @@ part_filled core i n row {after} h l e =
     let w : after ≡ row = e ∙ put_whole (take n (drop i core)) row (omega arith) in
     rw w (lent-part core i n row l)
 
-pub puts_frame : (f : OpenFrame) (core : List ℕ) {a b d : ℕ} {row after : List ℕ} → 30 ≤ length core → f.last < 2 ^ 32
-    → a ≡ flag_byte f.begun → b ≡ flag_byte f.longer → d ≡ flag_byte f.parity → row ≡ frame_row f a b d
-    → after ≡ put (take 9 (drop 21 core)) 0 row → PutsFrame f core (take 21 core ++ (after ++ drop 9 (drop 21 core)))
+pub puts_frame : (f : OpenFrame) (core : List ℕ) {a b d : ℕ} {t after : List ℕ} → 30 ≤ length core → f.last < 2 ^ 32
+    → a ≡ flag_byte f.begun → b ≡ flag_byte f.longer → d ≡ flag_byte f.parity → t ≡ low4 f.last []
+    → after ≡ put (take 9 (drop 21 core)) 0 (a ∷ b ∷ d ∷ arg t 0 ∷ arg t 1 ∷ arg t 2 ∷ arg t 3 ∷ f.sum ∷ f.len ∷ [])
+    → PutsFrame f core (take 21 core ++ (after ++ drop 9 (drop 21 core)))
 unfolding frame_row
-puts_frame f core {a} {b} {d} {row} {after} h k ea eb ed er e =
-    let r : row ≡ frame_bytes f = er ∙ rw (ea, eb, ed) in
+puts_frame f core {a} {b} {d} {t} {after} h k ea eb ed et e =
+    let row : List ℕ = a ∷ b ∷ d ∷ arg t 0 ∷ arg t 1 ∷ arg t 2 ∷ arg t 3 ∷ f.sum ∷ f.len ∷ [] in
+    let r : row ≡ frame_bytes f = rw (ea, eb, ed, et) in
     let z : take 21 core ++ (after ++ drop 9 (drop 21 core)) ≡ put core 21 row = part_filled core 21 9 row h (ap length r) e in
     let q : take 21 core ++ (after ++ drop 9 (drop 21 core)) ≡ put core 21 (frame_bytes f) = z ∙ ap (put core 21) r in
     record { bytes = q; holds = ap frame_in q ∙ frame_again f core h k }

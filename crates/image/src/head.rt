@@ -16,16 +16,7 @@ use wire::codes::LABEL_LENGTH;
 pub fn is_ours(image: &[u8]) -> bool
     ensures { result ≡ is_ours image.now }
 {
-    if image.len() != LENGTH {
-        return false;
-    }
-    image[LAYOUT] == LAYOUT_NUMBER
-}
-
-fn number(byte: u8) -> u32
-    ensures { result ≡ byte }
-{
-    byte as u32
+    image.len() == LENGTH && image[LAYOUT] == LAYOUT_NUMBER
 }
 
 #[tactic(auto, unfolding(crate::specs::Image::plate_of_head))]
@@ -34,11 +25,11 @@ pub fn plate_in(image: &[u8]) -> Plate
     ensures { result ≡ plate_of_head image.now }
 {
     Plate {
-        total: number(image[TOTAL]),
-        bits: number(image[BITS]),
-        address: number(image[PLATE_ADDRESS]),
-        ticks: number(image[TICKS]),
-        pause: number(image[PAUSE]),
+        total: u32::from(image[TOTAL]),
+        bits: u32::from(image[BITS]),
+        address: u32::from(image[PLATE_ADDRESS]),
+        ticks: u32::from(image[TICKS]),
+        pause: u32::from(image[PAUSE]),
     }
 }
 

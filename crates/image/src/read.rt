@@ -12,21 +12,12 @@ use line::OpenFrame;
 use state::{Faults, State};
 use wire::codes::LONGEST_REQUEST;
 
-fn is_one(byte: u8) -> bool
-    ensures { result ≡ eqb byte 1 }
-{
-    byte == 1
-}
-
 // 01, R1: a flag is 0 or 1. The four stand side by side and are tested as one word.
 fn flags_ok(core: &[u8]) -> bool
     requires { core_length ≤ length core.now }
     ensures { result ≡ flags_ok core.now }
 {
-    if wire::number_at(core, LOCKED) & 0xFEFEFEFE != 0 {
-        return false;
-    }
-    true
+    wire::number_at(core, LOCKED) & 0xFEFEFEFE == 0
 }
 
 // 01, R1, of what a core may hold and the board's own state may not.
@@ -34,16 +25,7 @@ fn flags_ok(core: &[u8]) -> bool
 pub fn is_core(core: &[u8]) -> bool
     ensures { result ≡ is_core core.now }
 {
-    if core.len() != CORE_LENGTH {
-        return false;
-    }
-    if !flags_ok(core) {
-        return false;
-    }
-    if (LONGEST_REQUEST as u8) < core[COUNT] {
-        return false;
-    }
-    true
+    core.len() == CORE_LENGTH && flags_ok(core) && usize::from(core[COUNT]) <= LONGEST_REQUEST
 }
 
 // 02, Req 01, the address "limits 0 to 31". It is the high byte of one word with the counter.
@@ -72,29 +54,19 @@ pub fn faults_in(core: &[u8]) -> Faults
         second: core[WAITING + 1],
         third: core[WAITING + 2],
         fourth: core[WAITING + 3],
-        locked: is_one(core[LOCKED]),
+        locked: core[LOCKED] == 1,
     }
 }
 
-#[tactic(auto, unfolding(crate::specs::Image::state_in))]
+#[tactic(auto, unfolding(crate::specs::Image::state_in, crate::specs::Image::rested_in))]
 pub fn state_in(core: &[u8]) -> State
     requires { core_length ≤ length core.now }
     ensures { result ≡ state_in core.now }
 {
-    let codes = [
-        core[CODES],
-        core[CODES + 1],
-        core[CODES + 2],
-        core[CODES + 3],
-    ];
-    let faults = faults_in(core);
     State {
-        codes: codes,
-        counter: counter_in(core),
-        address: core[ADDRESS],
-        offset: wire::number_at(core, OFFSET),
         measured: wire::number_at(core, MEASURED),
-        faults: faults,
+        faults: faults_in(core),
+        ..lasting_in(core)
     }
 }
 
@@ -104,12 +76,12 @@ pub fn frame_in(core: &[u8]) -> OpenFrame
     ensures { result ≡ frame_in core.now }
 {
     OpenFrame {
-        begun: is_one(core[FRAME]),
+        begun: core[FRAME] == 1,
         last: wire::number_at(core, LAST),
         len: core[COUNT],
         sum: core[SUM],
-        longer: is_one(core[LONGER]),
-        parity: is_one(core[PARITY]),
+        longer: core[LONGER] == 1,
+        parity: core[PARITY] == 1,
     }
 }
 
@@ -119,14 +91,8 @@ pub fn lasting_in(lasting: &[u8]) -> State
     requires { lasting_length ≤ length lasting.now }
     ensures { result ≡ rested_in lasting.now }
 {
-    let codes = [
-        lasting[CODES],
-        lasting[CODES + 1],
-        lasting[CODES + 2],
-        lasting[CODES + 3],
-    ];
     State {
-        codes: codes,
+        codes: [lasting[0], lasting[1], lasting[2], lasting[3]],
         counter: counter_in(lasting),
         address: lasting[ADDRESS],
         offset: wire::number_at(lasting, OFFSET),

@@ -19,58 +19,37 @@ use line::OpenFrame;
 use state::{Effect, Faults, Noting, State};
 use wire::codes::{ErrorCode, LONGEST_REQUEST};
 
-#[tactic(auto, unfolding(crate::specs::Image::flag_byte))]
-fn flag_byte(on: bool) -> u8
-    ensures { result ≡ flag_byte on }
-{
-    if on {
-        return 1;
-    }
-    0
-}
-
-fn state_row(state: State, locked: u8) -> [u8; 21]
-    requires { locked ≡ flag_byte state.faults.locked }
+// The 21 bytes of a state.
+fn state_row(state: State) -> [u8; 21]
     ensures { (l : Line) → result ≡ state_bytes (state_with state l) }
 {
-    let codes = state.codes;
+    let [code_0, code_1, code_2, code_3] = state.codes;
+    let [counter_0, counter_1, counter_2, _] = wire::bytes_of(state.counter);
+    let [offset_0, offset_1, offset_2, offset_3] = wire::bytes_of(state.offset);
+    let [measured_0, measured_1, measured_2, measured_3] = wire::bytes_of(state.measured);
     let faults = state.faults;
-    let counter = wire::bytes_of(state.counter);
-    let offset = wire::bytes_of(state.offset);
-    let measured = wire::bytes_of(state.measured);
     [
-        codes[0],
-        codes[1],
-        codes[2],
-        codes[3],
-        counter[0],
-        counter[1],
-        counter[2],
+        code_0,
+        code_1,
+        code_2,
+        code_3,
+        counter_0,
+        counter_1,
+        counter_2,
         state.address,
-        offset[0],
-        offset[1],
-        offset[2],
-        offset[3],
-        measured[0],
-        measured[1],
-        measured[2],
-        measured[3],
+        offset_0,
+        offset_1,
+        offset_2,
+        offset_3,
+        measured_0,
+        measured_1,
+        measured_2,
+        measured_3,
         faults.first,
         faults.second,
         faults.third,
         faults.fourth,
-        locked,
-    ]
-}
-
-// The flags come as bytes.
-#[tactic(auto, unfolding(crate::specs::Writes::frame_row))]
-fn frame_row(frame: OpenFrame, begun: u8, longer: u8, parity: u8) -> [u8; 9]
-    ensures { result ≡ frame_row frame begun longer parity }
-{
-    let last = wire::bytes_of(frame.last);
-    [
-        begun, longer, parity, last[0], last[1], last[2], last[3], frame.sum, frame.len,
+        u8::from(faults.locked),
     ]
 }
 
@@ -79,17 +58,14 @@ fn put_state(state: State, core: &mut [u8])
     requires room_for_state { frame_at ≤ length core.old }
     ensures { PutsState state core.old core.new }
 {
-    let faults = state.faults;
-    let row = state_row(state, flag_byte(faults.locked));
-    wire::fill(&row, core);
+    wire::fill(&state_row(state), core);
 }
 
 fn put_number(number: u32, place: &mut [u8])
     requires { length place.old ≡ 4 }
     ensures { place.new ≡ put place.old 0 (low4 number []) }
 {
-    let bytes = wire::bytes_of(number);
-    wire::fill(&bytes, place);
+    wire::fill(&wire::bytes_of(number), place);
 }
 
 pub fn put_measured(measured: u32, core: &mut [u8])
@@ -104,13 +80,12 @@ pub fn put_faults(faults: Faults, core: &mut [u8])
     requires { HoldsState core.old }
     ensures { PutsState (faults_set (state_in core.old) faults) core.old core.new }
 {
-    let locked = flag_byte(faults.locked);
     let row = [
         faults.first,
         faults.second,
         faults.third,
         faults.fourth,
-        locked,
+        u8::from(faults.locked),
     ];
     wire::fill(&row, &mut core[WAITING..FRAME]);
 }
@@ -120,24 +95,13 @@ pub fn note(code: u8, core: &mut [u8])
     requires { HoldsState core.old }
     ensures { NotesIn code core.old core.new }
 {
-    let noting = faults_in(core).noting(code);
-    match noting {
+    match faults_in(core).noting(code) {
         Noting::Ignored => {}
-        Noting::Locks => {
-            core[LOCKED] = 1;
-        }
-        Noting::First => {
-            core[WAITING] = code;
-        }
-        Noting::Second => {
-            core[WAITING + 1] = code;
-        }
-        Noting::Third => {
-            core[WAITING + 2] = code;
-        }
-        Noting::Fourth => {
-            core[WAITING + 3] = code;
-        }
+        Noting::Locks => core[LOCKED] = 1,
+        Noting::First => core[WAITING] = code,
+        Noting::Second => core[WAITING + 1] = code,
+        Noting::Third => core[WAITING + 2] = code,
+        Noting::Fourth => core[WAITING + 3] = code,
     }
 }
 
@@ -146,9 +110,8 @@ fn put_counter(counter: u32, core: &mut [u8])
     requires holds_state { HoldsState core.old }
     ensures { PutsState (counter_set (state_in core.old) counter) core.old core.new }
 {
-    let bytes = wire::bytes_of(counter);
-    let row = [bytes[0], bytes[1], bytes[2]];
-    wire::fill(&row, &mut core[COUNTER..ADDRESS]);
+    let [low, middle, high, _] = wire::bytes_of(counter);
+    wire::fill(&[low, middle, high], &mut core[COUNTER..ADDRESS]);
 }
 
 fn put_offset(offset: u32, core: &mut [u8])
@@ -166,13 +129,9 @@ pub fn put_effect(effect: Effect, core: &mut [u8])
 {
     match effect {
         Effect::Nothing => {}
-        Effect::Code(number, code) => {
-            core[number] = code;
-        }
+        Effect::Code(number, code) => core[number] = code,
         Effect::Counter(counter) => put_counter(counter, core),
-        Effect::Address(address) => {
-            core[ADDRESS] = address;
-        }
+        Effect::Address(address) => core[ADDRESS] = address,
         Effect::Offset(offset) => put_offset(offset, core),
         Effect::Overflow => {
             let faults = faults_in(core).queued(ErrorCode::COUNTER_OVERFLOW.byte);
@@ -191,10 +150,18 @@ pub fn put_frame(frame: OpenFrame, core: &mut [u8])
     requires { kept_at ≤ length core.old }
     ensures { PutsFrame frame core.old core.new }
 {
-    let begun = flag_byte(frame.begun);
-    let longer = flag_byte(frame.longer);
-    let parity = flag_byte(frame.parity);
-    let row = frame_row(frame, begun, longer, parity);
+    let [last_0, last_1, last_2, last_3] = wire::bytes_of(frame.last);
+    let row = [
+        u8::from(frame.begun),
+        u8::from(frame.longer),
+        u8::from(frame.parity),
+        last_0,
+        last_1,
+        last_2,
+        last_3,
+        frame.sum,
+        frame.len,
+    ];
     wire::fill(&row, &mut core[FRAME..KEPT]);
 }
 
@@ -221,8 +188,8 @@ fn put_stamp(parity: u8, tick: u32, sum: u8, core: &mut [u8])
     requires { length core.old ≡ core_length }
     ensures { core.new ≡ put core.old parity_at (parity ∷ low4 tick (sum ∷ [])) }
 {
-    let stamp = wire::bytes_of(tick);
-    let row = [parity, stamp[0], stamp[1], stamp[2], stamp[3], sum];
+    let [tick_0, tick_1, tick_2, tick_3] = wire::bytes_of(tick);
+    let row = [parity, tick_0, tick_1, tick_2, tick_3, sum];
     wire::fill(&row, &mut core[PARITY..COUNT]);
 }
 
@@ -233,11 +200,10 @@ fn go_on(tick: u32, value: u8, parity: bool, core: &mut [u8])
 {
     let count = core[COUNT];
     let sum = core[SUM] ^ value;
-    let faulty = core[PARITY] | flag_byte(parity);
+    let faulty = core[PARITY] | u8::from(parity);
     put_stamp(faulty, tick, sum, core);
     if count < LONGEST_REQUEST as u8 {
-        let at = KEPT + count as usize;
-        core[at] = value;
+        core[KEPT + count as usize] = value;
         core[COUNT] = count + 1;
         return;
     }

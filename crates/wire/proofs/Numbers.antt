@@ -6,11 +6,15 @@ use mathlib.Core.Path.{◌≡◌, refl, ap, ◌∙◌}
 use mathlib.Core.List.{List, [], ◌∷◌}
 use lib.ListN.{take, drop}
 use lib.Seq.{get_or-drop}
+use Rattle.std.specs.Int.{w32, from_le_bytes}
 use Rattle.meaning.specs.Bytes.{arg, part, little}
 
 pub low_first : (a b c d : ℕ) → little (a ∷ b ∷ c ∷ d ∷ []) ≡ a + 0x100 * b + 0x10000 * c + 0x1000000 * d
 unfolding little
 low_first a b c d = omega arith
+
+pub four_bytes : (a b c d : ℕ) → from_le_bytes w32 (a ∷ b ∷ c ∷ d ∷ []) ≡ little (a ∷ b ∷ c ∷ d ∷ [])
+four_bytes a b c d = omega (arith, low_first a b c d)
 
 -- past the end of a list there are only zeros
 first-four : (s : List ℕ) → little (take 4 s) ≡ little (arg s 0 ∷ arg s 1 ∷ arg s 2 ∷ arg s 3 ∷ [])

@@ -15,8 +15,5 @@ pub fn own_byte(address: u8) -> u8
 pub fn is_board(byte: u8) -> bool
     ensures { result ≡ board_byte byte }
 {
-    if byte < 0x40 {
-        return false;
-    }
-    byte <= 0x5F
+    matches!(byte, 0x40..=0x5F)
 }

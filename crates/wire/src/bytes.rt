@@ -8,10 +8,7 @@ ghost use Rattle.meaning.specs.Frames.{data_of};
 pub fn byte_at(s: &[u8], i: usize) -> u8
     ensures { result ≡ arg s.now i }
 {
-    if i < s.len() {
-        return s[i];
-    }
-    0
+    s.get(i).copied().unwrap_or(0)
 }
 
 // The first n bytes, or all where there are fewer.
@@ -19,10 +16,7 @@ pub fn front(s: &[u8], n: usize) -> &[u8]
     ensures value { result.now ≡ take n s.now }
     ensures place { result.ref_ptr ≡ s.entry.ref_ptr }
 {
-    if n < s.len() {
-        return &s[..n];
-    }
-    s
+    &s[..n.min(s.len())]
 }
 
 // 01, "A frame is address, command, data, checksum".
@@ -40,15 +34,5 @@ pub fn data_part(frame: &[u8]) -> &[u8]
 pub fn same(a: &[u8], b: &[u8]) -> bool
     ensures { result ≡ bytes.same a.now b.now }
 {
-    if a.len() != b.len() {
-        return false;
-    }
-    let mut i = 0;
-    while i < a.len() {
-        if a[i] != b[i] {
-            return false;
-        }
-        i += 1;
-    }
-    true
+    a == b
 }

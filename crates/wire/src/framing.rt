@@ -9,10 +9,9 @@ pub fn fill(src: &[u8], dst: &mut [u8])
     requires { length src.now ≤ length dst.old }
     ensures { dst.new ≡ put dst.old 0 src.now }
 {
-    let mut i = 0;
-    while i < src.len() {
+    // By index: copy_from_slice becomes a call of memmove, and the C libraries need nothing from outside.
+    for i in 0..src.len() {
         dst[i] = src[i];
-        i += 1;
     }
 }
 

@@ -7,10 +7,8 @@ pub(crate) fn xor_from(start: u8, s: &[u8]) -> u8
     ensures { result ≡ xor_from start s.now }
 {
     let mut sum = start;
-    let mut i = 0;
-    while i < s.len() {
-        sum ^= s[i];
-        i += 1;
+    for byte in s {
+        sum ^= byte;
     }
     sum
 }

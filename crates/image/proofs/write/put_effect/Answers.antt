@@ -1,6 +1,5 @@
 -- What is left to show of `image::write::put_effect`: what each arm writes is the state that the effect leaves.
-use Rattle.std.proofs.Common.{ℕ, ◌<◌, rules}
-use Rattle.meaning.specs.Bytes.{arg}
+use Rattle.std.proofs.Common.{rules}
 use Rattle.state.proofs.Ways.{placed-code}
 use Rattle.image.specs.Image.{state_in}
 use Rattle.image.specs.Writes.{counter_set}
@@ -11,29 +10,22 @@ pub put_faults-requires : goal.put_faults-requires
 put_faults-requires c = still-holds (counter_set (state_in c.args.core.now) 0) c.requires.holds_state c.put_counter-in-Overflow.ensures
 
 pub returns-in-Nothing : goal.returns-in-Nothing
-returns-in-Nothing c =
-    let small : (i : ℕ) → arg c.args.core.now i < 256 = λ i. search rules in
-    put-nothing c.args.core.now c.in-Nothing.is c.requires.holds_state small
+returns-in-Nothing c = put-nothing c.args.core.now c.in-Nothing.is c.requires.holds_state (λ i. search rules)
 
 pub returns-in-Code : goal.returns-in-Code
-returns-in-Code c =
-    let small : (i : ℕ) → arg c.args.core.now i < 256 = λ i. search rules in
-    put-code c.in-Code.is (with_code c.args.core.now c.requires.holds_state small _ _ (placed-code c.requires.bounded c.in-Code.is))
+returns-in-Code c = put-code c.in-Code.is (with_code c.args.core.now c.requires.holds_state (λ i. search rules) _ _ (placed-code c.requires.bounded c.in-Code.is))
 
 pub returns-in-Counter : goal.returns-in-Counter
 returns-in-Counter c = put-counter c.in-Counter.is c.put_counter.ensures
 
 pub returns-in-Address : goal.returns-in-Address
-returns-in-Address c =
-    let small : (i : ℕ) → arg c.args.core.now i < 256 = λ i. search rules in
-    put-address c.in-Address.is (with_address_lem c.args.core.now c.requires.holds_state small _)
+returns-in-Address c = put-address c.in-Address.is (with_address_lem c.args.core.now c.requires.holds_state (λ i. search rules) _)
 
 pub returns-in-Offset : goal.returns-in-Offset
 returns-in-Offset c = put-offset c.in-Offset.is c.put_offset.ensures
 
 pub returns-in-Overflow : goal.returns-in-Overflow
-returns-in-Overflow c =
-    put_overflow c.faults_in.ensures c.in-Overflow.is c.queued-faults.ensures c.put_counter-in-Overflow.ensures c.put_faults.ensures
+returns-in-Overflow c = put_overflow c.faults_in.ensures c.in-Overflow.is c.queued-faults.ensures c.put_counter-in-Overflow.ensures c.put_faults.ensures
 
 pub returns-in-OldestRead : goal.returns-in-OldestRead
 returns-in-OldestRead c = put-oldest c.faults_in-in-OldestRead.ensures c.in-OldestRead.is c.read-oldest.ensures c.put_faults-in-OldestRead.ensures

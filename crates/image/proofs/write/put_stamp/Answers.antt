@@ -4,4 +4,4 @@ use Rattle.image.proofs.Standing.{part_filled}
 use Rattle.image.proofs.write.put_stamp.Goals as goal
 
 pub returns : goal.returns
-returns c = part_filled c.args.core.now 23 6 _ (omega (arith, c.requires)) refl (rw c.bytes_of-stamp.ensures at c.fill.ensures)
+returns c = part_filled c.args.core.now 23 6 _ (omega (arith, c.requires)) refl (rw c.bytes_of.ensures at c.fill.ensures)

@@ -6,4 +6,4 @@ use Rattle.image.proofs.write.put_state.Goals as goal
 pub returns : goal.returns
 returns c =
     let typed : Typed c.args.state = record { codes = search rules; counter = search rules; offset = search rules; measured = search rules } in
-    puts_state _ _ typed c.state_row-row.ensures c.fill.ensures
+    puts_state _ _ typed c.state_row.ensures c.fill.ensures
