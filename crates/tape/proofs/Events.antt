@@ -6,11 +6,10 @@ use mathlib.Core.List.{List, [], ◌∷◌}
 use native.Mathlib.Omega.{arith}
 use lib.ListN.{length, get_or, take, length-take}
 use lib.Dec.{eqb, leb}
-use lib.Seq.{take_all}
 use borrow.Author.Tests.{eqb-true, eq-eqb, ne_eqb, lt-leb, le-leb}
 use Rattle.std.specs.Prelude.{Result, Ok, Err, Option, None, Some}
 use Rattle.std.specs.Int.{w32, from_le_bytes}
-use Rattle.meaning.specs.Bytes.{pick, part, arg, little, zeros}
+use Rattle.meaning.specs.Bytes.{pick, arg, little, zeros}
 use Rattle.meaning.specs.State.{Plate, label_length}
 use Rattle.meaning.specs.Run.{character}
 use Rattle.tape.specs.Kinds.{Said, plate, call, unfit, character_in, sized, call_of}
