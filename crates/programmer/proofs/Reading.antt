@@ -9,14 +9,13 @@ use lib.Dec.{eqb, ltb}
 use lib.ListN.{length, get_or, take, drop, length-drop, drop_of_length-le}
 use lib.Seq.{drop-drop, drop-cons, get_or-drop, take-nil}
 use borrow.Author.Tests.{ltb-true, eqb-true, ne_eqb}
+use Rattle.std.specs.Prelude.{Result, Ok, Err}
 use Rattle.meaning.specs.Bytes.{pick, both, arg, part, little}
 use Rattle.meaning.specs.Fields.{bytes_of, blocks, exists}
 use Rattle.records.specs.Records.{cut, length_at, whole_length, record_at}
-use Rattle.records.specs.Reader.{read_at}
-use Rattle.records.specs.declared.record.Cursor.{Cursor}
-use Rattle.records.specs.declared.record.Read.{Read}
-use Rattle.records.specs.declared.record.Read.TheVariants.{Record, More}
-use Rattle.records.specs.declared.record.Read.TheVariants as read
+use Rattle.records.specs.Reader.{Whole, read_at}
+use Rattle.records.specs.declared.record.Unread.{Unread}
+use Rattle.records.specs.declared.record.Unread.TheVariants.{More, Bad}
 use Rattle.records.proofs.Bytes.{length_part, part-byte, part-drop}
 use Rattle.records.proofs.Windows.{record_read}
 use Rattle.records.proofs.Windows.{record_cut, record_whole}
@@ -24,12 +23,6 @@ use Rattle.programmer.specs.Wishes.{Field, Wish, no_field, wanted, field_in, bod
 use Rattle.programmer.specs.Reading.{RecordLies, FieldLies, FoundField}
 use Rattle.programmer.specs.declared.wish.Checked.{Checked}
 use Rattle.programmer.specs.declared.wish.Checked.TheVariants.{BadRecord}
-
--- what is no whole record
-abbrev pub Unread : Read → Type 0
-Unread (Record kind start n next) = ⊥
-Unread More = Unit
-Unread read.Bad = Unit
 
 -- a length of two bytes is no more than they can say
 pub short-length : (l : List ℕ) → ((i : ℕ) → get_or l i 0 < 256) → little (take 2 l) ≤ 0xFFFF
@@ -43,33 +36,35 @@ module _ (s : List ℕ) (at : ℕ) where
   abbrev t : List ℕ
   t = drop at s
 
-  pub stands-whole : (longest kind start n : ℕ) (next : Cursor) → read_at longest at t ≡ Record kind start n next → RecordLies s at kind start n next.at
-  stands-whole longest kind start n next e =
-      let w = record_read longest at t kind start n next e in
-      let b : part t 4 (length_at t - 2) ≡ part s start n = part-drop s at 4 (length_at t - 2) ∙ rw (w.body_at, w.body-length) in
+  pub stands-whole : (longest : ℕ) (w : Whole) → read_at longest at t ≡ Ok w → RecordLies s at w.kind w.start (length w.body) w.next
+  stands-whole longest w e =
+      let r = record_read longest at t w e in
+      let n : length w.body ≡ length_at t - 2 = rw r.body_is (length_part t 4 (length_at t - 2) (omega (arith, r.has_kind, r.inside))) in
+      let b : part t 4 (length_at t - 2) ≡ part s w.start (length w.body) = part-drop s at 4 (length_at t - 2) ∙ rw (r.body_at, n) in
       record {
-        record_is = record_whole t w.has_kind w.inside ∙ rw (w.kind_is, b);
-        inside = omega (arith, w.body_at, w.body-length, w.has_kind, w.inside, length-drop at s);
-        past = w.past;
-        onward = omega (arith, w.past);
+        record_is = record_whole t r.has_kind r.inside ∙ rw (r.kind_is, b);
+        inside = omega (arith, r.body_at, n, r.has_kind, r.inside, length-drop at s);
+        past = r.past;
+        onward = omega (arith, r.past);
       }
 
-  pub stands-cut : ((i : ℕ) → get_or s i 0 < 256) → (v : Read) → Unread v → v ≡ read_at 0xFFFF at t → record_at t ≡ cut
+  pub stands-cut : ((i : ℕ) → get_or s i 0 < 256) → (u : Unread) → Err u ≡ read_at 0xFFFF at t → record_at t ≡ cut
   unfolding read_at length_at
-  stands-cut B v u e =
-      record_cut t (go (ltb (length t) 4) (ltb (length_at t) 2) (ltb 0xFFFF (length_at t)) (ltb (length t) (whole_length t)) refl refl refl refl u e)
+  stands-cut B u e =
+      record_cut t (go (ltb (length t) 4) (ltb (length_at t) 2) (ltb 0xFFFF (length_at t)) (ltb (length t) (whole_length t)) refl refl refl refl e)
     where
       few : length_at t ≤ 0xFFFF
       few = short-length t (λ i. rw (get_or-drop at s i 0) (B (at + i)))
 
-      go : (a b c d : Bool) → ltb (length t) 4 ≡ a → ltb (length_at t) 2 ≡ b → ltb 0xFFFF (length_at t) ≡ c → ltb (length t) (whole_length t) ≡ d → Unread v
-          → v ≡ pick a More (pick b read.Bad (pick c read.Bad (pick d More (Record (little (part t 2 2)) (at + 4) (length_at t - 2) (record { at = at + whole_length t })))))
+      go : (a b c d : Bool) → ltb (length t) 4 ≡ a → ltb (length_at t) 2 ≡ b → ltb 0xFFFF (length_at t) ≡ c → ltb (length t) (whole_length t) ≡ d
+          → ◌≡◌ {A = Result Whole Unread} (Err u) (pick a (Err More) (pick b (Err Bad) (pick c (Err Bad) (pick d (Err More)
+          (Ok (record { kind = little (part t 2 2); start = at + 4; body = part t 4 (length_at t - 2); next = at + whole_length t }))))))
           → 2 ≤ length_at t → length t < whole_length t
-      go true b c d f g h k u e l = omega (arith, ltb-true (length t) 4 f)
-      go false true c d f g h k u e l = absurd (omega (arith, ltb-true (length_at t) 2 g))
-      go false false true d f g h k u e l = absurd (omega (arith, ltb-true 0xFFFF (length_at t) h, few))
-      go false false false true f g h k u e l = ltb-true (length t) (whole_length t) k
-      go false false false false f g h k u e l = absurd (rw e at u)
+      go true b c d f g h k e l = omega (arith, ltb-true (length t) 4 f)
+      go false true c d f g h k e l = absurd (omega (arith, ltb-true (length_at t) 2 g))
+      go false false true d f g h k e l = absurd (omega (arith, ltb-true 0xFFFF (length_at t) h, few))
+      go false false false true f g h k e l = ltb-true (length t) (whole_length t) k
+      go false false false false f g h k e l = let z : ◌≡◌ {A = ℕ} 0 1 = cc in absurd (omega arith)
 
 pub head_of : (s : List ℕ) (kind start n next : ℕ) → RecordLies s 0 kind start n next → is_codes (record_at s) ≡ both (eqb kind 0x20) (eqb n 4)
 unfolding is_codes

@@ -7,7 +7,7 @@ ghost use Rattle.programmer.specs.Wishes.{is_codes, of_its_size, checked_from, c
 ghost use Rattle.programmer.specs.Wishes as specs;
 ghost use Rattle.programmer.specs.Reading.{RecordStands, FieldAt, Finds};
 
-use records::{Cursor, Read};
+use records::Cursor;
 
 // What the check of a tape says: good; a bad record; a body that is not of its field's size. The place is that of the record's first byte.
 #[derive(Clone, Copy)]
@@ -55,21 +55,14 @@ pub enum Wanted {
 fn entry_at(tape: &[u8], at: usize) -> Entry
     ensures { RecordStands tape.now at result }
 {
-    let cursor = Cursor { at };
-    match cursor.read(tape, 0xFFFF) {
-        Read::Record {
-            kind,
-            start,
-            length,
-            next,
-        } => Entry::Whole {
-            kind,
-            start,
-            length,
-            next: next.at,
+    match (Cursor { at }).read(tape, u16::MAX) {
+        Ok(record) => Entry::Whole {
+            kind: record.kind,
+            start: record.start,
+            length: record.body.len(),
+            next: record.next.at,
         },
-        Read::More => Entry::Cut,
-        Read::Bad => Entry::Cut,
+        Err(_) => Entry::Cut,
     }
 }
 
