@@ -1,15 +1,16 @@
 -- A command's ways out: refused, accepted, quiet; and the bytes that it puts into the room. Assumes nothing.
-use Prim.Native.Nat.{ℕ}
+use Prim.Native.Nat.{ℕ, ◌≤◌}
 use native.Mathlib.Omega.{arith}
 use mathlib.Core.Path.{◌≡◌, refl, sym, ap, ◌∙◌}
 use mathlib.Core.Bool.{Bool, true, false, false≢true}
 use mathlib.Core.List.{List, [], ◌∷◌}
-use lib.ListN.{length, get_or, take}
+use lib.ListN.{length, get_or, take, set}
 use Rattle.std.specs.Prelude.{Some, Result, Ok, Err, IsErrAnd, is_ok}
 use Rattle.std.specs.Int.{w32, from_be_bytes}
-use Rattle.meaning.specs.Bytes.{put, number}
+use Rattle.meaning.specs.Bytes.{longest_reply, arg, put, number, bytes4}
 use Rattle.meaning.specs.State.{Plate, Line}
 use Rattle.meaning.specs.Commands.{Command, refuse, accept, worked}
+use Rattle.wire.specs.Numbers.{low4}
 use Rattle.wire.specs.declared.codes.ErrorCode.{ErrorCode}
 use Rattle.state.specs.declared.state.State.{State}
 use Rattle.state.specs.declared.rows.Worked.{Worked}
@@ -17,7 +18,7 @@ use Rattle.state.specs.State.{state_with}
 use Rattle.state.specs.declared.effects.Effect.{Effect}
 use Rattle.state.specs.Effects.{Bounded, effect_on, row_effect}
 use Rattle.state.specs.Rows.{refused_if, Answers}
-use Rattle.meaning.proofs.Puts.{put-nothing}
+use Rattle.meaning.proofs.Puts.{put-nothing, stored_is-put}
 
 code_in : Result Unit ErrorCode → ErrorCode
 code_in (Ok u) = record { byte = 0 }
@@ -51,6 +52,12 @@ module _ (k : Command) (p : Plate) (s : State) (l : Line) (m d w : List ℕ) whe
   pub accepts-bare : {x : Effect} {r : Result Worked ErrorCode} → r ≡ Ok (record { effect = x; reply = Some 0 }) → worked k p (state_with s l) m d ≡ accept [] (effect_on x (state_with s l)) m
       → row_effect k p (state_with s l) d ≡ x → Bounded x → Answers k p s l m d w r w
   accepts-bare h q x t = accepts [] h q x t refl (put-nothing w 2)
+
+-- a number's four bytes, low first, stand in a reply high first
+pub put_four : (w : List ℕ) (x : ℕ) {b : List ℕ} → longest_reply ≤ length w → b ≡ low4 x []
+    → set (set (set (set w 2 (arg b 3)) 3 (arg b 2)) 4 (arg b 1)) 5 (arg b 0) ≡ put w 2 (bytes4 x)
+unfolding bytes4
+put_four w x h e = rw e (stored_is-put w 2 (bytes4 x) (omega arith))
 
 -- the first four bytes of a request, one by one
 first-four : (d : List ℕ) → length d ≡ 5 → take 4 d ≡ get_or d 0 0 ∷ get_or d 1 0 ∷ get_or d 2 0 ∷ get_or d 3 0 ∷ []

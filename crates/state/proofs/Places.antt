@@ -5,6 +5,7 @@ use mathlib.Core.Path.{◌≡◌, refl, sym, ap, ◌∙◌, subst}
 use mathlib.Core.Bool.{Bool, true, false, not, ◌||◌, false≢true}
 use mathlib.Core.List.{List, [], ◌∷◌, ◌++◌}
 use borrow.Author.Tests.{eqb-true, eqb-false, ne_eqb}
+use lib.Bits.{bit_and}
 use lib.Dec.{eqb, leb}
 use lib.ListN.{length, drop}
 use Rattle.meaning.specs.Bytes.{pick, both, either, among, arg}
@@ -18,6 +19,7 @@ use Rattle.state.specs.declared.faults.Noting.TheVariants.{Ignored, Locks, First
 use Rattle.state.specs.Queue.{waiting, queue_of, holding, Queues, Reads}
 use Rattle.state.specs.Effects.{place_at, place_for, noting_of, noted_as}
 use Rattle.meaning.proofs.Choices.{both_true, both_false, either-false}
+use Rattle.meaning.proofs.Every.{alike, as_told, every, at}
 
 no_more_one : (c : ℕ) (q : List ℕ) → not (waits (waiting c q)) ≡ both (eqb c 0) (not (waits q))
 unfolding waits waiting
@@ -115,6 +117,18 @@ among_four f c h =
     four_either (eqb c f.first) (eqb c f.second) (eqb c f.third) (eqb c f.fourth)
     ∙ sym (among-more c f.first (waiting f.second (waiting f.third (waiting f.fourth []))) h
     ∙ ap (either (eqb c f.first)) (among_three c f.second f.third f.fourth h))
+
+-- 01, "22h and 24h lock the position": one test for both, computed for every byte
+one_test : ℕ → Bool
+one_test c = alike (eqb (bit_and (c + 0xDE) 0xFD) 0) (locks c)
+
+one_test_computed : every one_test 256 ≡ true
+unfolding every one_test locks
+one_test_computed = refl
+
+pub locks_by_one_test : (c : ℕ) → c < 256 → eqb (bit_and (c + 0xDE) 0xFD) 0 ≡ locks c
+unfolding one_test
+locks_by_one_test c h = as_told _ _ (at one_test 256 one_test_computed c h)
 
 -- 00h locks nothing
 pub lock_fills : (c : ℕ) → locks c ≡ true → eqb c 0 ≡ false

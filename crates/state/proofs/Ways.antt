@@ -1,9 +1,9 @@
--- What the rows and the image rest on: a byte that is a board's, label bytes told, a code that is set (01, "The commands"). Assumes nothing.
+-- What the rows and the image rest on: a byte that is a board's, label bytes told, a code that is set; and what reading, overflow and emptying do to the queue (01, "The commands"). Assumes nothing.
 use Prim.Native.Nat.{ℕ, ◌+◌, ◌≤◌, ◌<◌}
 use native.Mathlib.Omega.{arith}
-use mathlib.Core.Path.{◌≡◌, sym}
+use mathlib.Core.Path.{◌≡◌, refl, sym, ap, ◌∙◌}
 use mathlib.Core.Bool.{true, not}
-use mathlib.Core.List.{List}
+use mathlib.Core.List.{List, []}
 use borrow.Author.Tests.{leb-true, not-false}
 use lib.Dec.{leb}
 use lib.ListN.{length, drop, length-drop}
@@ -11,13 +11,17 @@ use lib.Seq.{length-take-le}
 use Rattle.std.specs.Prelude.{Some, Result, Ok}
 use Rattle.wire.specs.declared.codes.ErrorCode.{ErrorCode}
 use Rattle.meaning.specs.Bytes.{both, part, put}
-use Rattle.meaning.specs.State.{Plate, Line, label_length, board_byte}
+use Rattle.meaning.specs.State as meaning
+use Rattle.meaning.specs.State.{Plate, Line, label_length, board_byte, queued, with_counter, with_queue, with_lock}
 use Rattle.meaning.specs.Commands.{Command, accept, worked}
+use Rattle.state.specs.declared.faults.Faults.{Faults}
+use Rattle.state.specs.declared.faults.Oldest.{Oldest}
 use Rattle.state.specs.declared.state.State.{State}
 use Rattle.state.specs.declared.rows.Worked.{Worked}
-use Rattle.state.specs.State.{state_with}
+use Rattle.state.specs.Queue.{queue_of, holding, Queues, Reads}
+use Rattle.state.specs.State.{state_with, ReadsOut}
 use Rattle.state.specs.declared.effects.Effect.{Effect}
-use Rattle.state.specs.declared.effects.Effect.TheVariants.{Nothing, Code}
+use Rattle.state.specs.declared.effects.Effect.TheVariants.{Nothing, Code, Overflow, OldestRead, Emptied}
 use Rattle.state.specs.Effects.{Bounded, effect_on, row_effect}
 use Rattle.state.specs.Rows.{refused_if, Answers}
 use Rattle.state.proofs.Answering.{accepts, passed}
@@ -42,3 +46,34 @@ told-label k p s l m d w i n q x all few h o = accepts k p s l m d w (part p.lab
 -- the code that an effect sets is one of four
 pub placed-code : {x : Effect} {n c : ℕ} → Bounded x → x ≡ Code n c → n < 4
 placed-code h e = rw e at h
+
+-- a queue put into a state whose lock is the same
+queue-alone : (s : meaning.State) (f g : Faults) (q : List ℕ) → s.locked ≡ f.locked → Queues f q g → holding s g ≡ with_queue s q
+unfolding holding with_lock with_queue
+queue-alone s f g q e h = rw (h.queue, h.lock, ← e)
+
+-- the oldest code read out of a state
+pub read_out : (s : State) (l : Line) (t : State) (o : Oldest Faults) → Reads s.faults o → state_with t l ≡ holding (state_with s l) o.rest
+    → ReadsOut (state_with s l) o.code (state_with t l)
+read_out s l t o b q =
+    record {
+      oldest = b.oldest;
+      rest = q ∙ queue-alone (state_with s l) s.faults o.rest (drop 1 (queue_of s.faults)) refl b.rest;
+    }
+
+-- the queue after an overflow, a reading and a reset
+module _ (s : State) (l : Line) {x : Effect} {t : meaning.State} where
+  pub overflows : (u : meaning.State) (f : Faults) → x ≡ Overflow → Queues s.faults (queued (queue_of s.faults) 0x08) f → u ≡ with_counter (state_with s l) 0
+      → t ≡ holding u f → t ≡ effect_on x (state_with s l)
+  unfolding effect_on with_counter
+  overflows u f e h i j =
+      let z : meaning.State = with_counter (state_with s l) 0 in
+      rw e (j ∙ ap (λ (y : meaning.State). holding y f) i ∙ queue-alone z s.faults f (queued (queue_of s.faults) 0x08) refl h)
+
+  pub moves_up : {c : ℕ} → x ≡ OldestRead → ReadsOut (state_with s l) c t → t ≡ effect_on x (state_with s l)
+  unfolding effect_on
+  moves_up e h = rw e h.rest
+
+  pub empties : (f : Faults) → x ≡ Emptied → Queues s.faults [] f → t ≡ holding (state_with s l) f → t ≡ effect_on x (state_with s l)
+  unfolding effect_on
+  empties f e h q = rw e (q ∙ queue-alone (state_with s l) s.faults f [] refl h)

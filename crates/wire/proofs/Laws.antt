@@ -1,13 +1,13 @@
 -- Laws of the checksum's loop, of lists compared, of bytes put into a buffer, and of a frame that is sealed round its data. Assumes nothing.
-use mathlib.Core.Path.{◌≡◌, refl, sym, ◌∙◌}
+use mathlib.Core.Path.{◌≡◌, refl, sym, ap, ◌∙◌}
 use mathlib.Core.Bool.{Bool, true, false, ◌&&◌}
 use mathlib.Core.List.{List, [], ◌∷◌, ◌++◌, append-nil}
 use Prim.Native.Nat.{ℕ, suc, ◌+◌, ◌-◌, ◌<◌, ◌≤◌}
 use native.Mathlib.Numerals.{add-one}
 use native.Mathlib.Nat.{zero-add}
 use native.Mathlib.Omega.{arith}
-use lib.ListN.{length, take, drop, get_or, set, length-append, length-take, length-drop}
-use lib.Seq.{drop-cons, set_split, append_snoc, take-length, drop-length, drop-drop}
+use lib.ListN.{length, take, drop, get_or, set, length-append, length-take, length-drop, drop_of_length-le}
+use lib.Seq.{drop-cons, take-suc, set_at, set_split, append_snoc, length-take-le, take-length, drop-length, drop-drop}
 use lib.Bits.{bit_xor, xor_self}
 use lib.Dec.{eqb}
 use lib.Pointwise.{pointwise}
@@ -16,6 +16,7 @@ use borrow.Rule.Slice.PartMut.{put_mid, mid_of}
 use Rattle.meaning.specs.Bytes.{both, arg, xor_from, xor_all, part, put, same}
 use Rattle.meaning.specs.Commands.{counted, length_fits}
 use Rattle.meaning.specs.Frames.{sealed}
+use Rattle.meaning.proofs.Choices.{both_false}
 use Rattle.meaning.proofs.Puts.{drop-put-low, put_front, part-put}
 use Rattle.meaning.proofs.Wire.{xor_snoc, length-sealed}
 use Rattle.meaning.proofs.Bytewise.{xor_cancel}
@@ -29,6 +30,32 @@ xor_more s i x h = rw (add-one, drop-cons s i 0)
 pub xor_opens : (s : List ℕ) (z : ℕ) → xor_all (s ++ (z ∷ [])) ≡ 0 → z ≡ xor_all s
 unfolding xor_all
 xor_opens s z e = sym (xor_cancel (xor_from 0 s) z z (sym (xor_snoc 0 s z) ∙ e ∙ sym (xor_self z)))
+
+-- lists of different lengths differ
+pub same-long : (a b : List ℕ) → (length a ≡ length b → ⊥) → same a b ≡ false
+unfolding same
+same-long [] [] n = absurd (n refl)
+same-long [] (y ∷ ys) n = refl
+same-long (x ∷ xs) [] n = refl
+same-long (x ∷ xs) (y ∷ ys) n = rw (same-long xs ys (λ e. n (ap suc e))) (both_false (eqb x y))
+
+-- one byte more is compared
+pub same_more : (a b : List ℕ) (i : ℕ) → i < length a → i < length b
+    → same (drop i a) (drop i b) ≡ both (eqb (get_or a i 0) (get_or b i 0)) (same (drop (i + 1) a) (drop (i + 1) b))
+unfolding same
+same_more a b i h k = rw (add-one, drop-cons a i 0 h, drop-cons b i 0 k)
+
+-- no byte is left
+pub same_end : (a b : List ℕ) (i : ℕ) → length a ≤ i → length b ≤ i → same (drop i a) (drop i b) ≡ true
+unfolding same
+same_end a b i h k = rw (drop_of_length-le a h, drop_of_length-le b k)
+
+-- one byte more is copied
+pub fill_more : (s d : List ℕ) (i : ℕ) → i < length s → i < length d
+    → set (take i s ++ drop i d) i (get_or s i 0) ≡ take (i + 1) s ++ drop (i + 1) d
+fill_more s d i h k =
+    rw (add-one, drop-cons d i 0, take-suc s i 0)
+    (set_at (take i s) (get_or d i 0) (drop (suc i) d) (get_or s i 0) i (length-take-le i s (omega arith)) ∙ sym (append_snoc (take i s) (get_or s i 0) (drop (suc i) d)))
 
 and_both : (a b : Bool) → (a && b) ≡ both a b
 and_both true b = refl
