@@ -3,8 +3,7 @@ use Prim.Native.Nat.{ℕ, ◌+◌, ◌≤◌}
 use mathlib.Core.Bool.{Bool, true, false, not}
 use mathlib.Core.Path.{◌≡◌, refl, sym, ap, ◌∙◌}
 use mathlib.Core.List.{List, [], ◌∷◌}
-use native.Mathlib.Omega.{arith}
-use lib.ListN.{length, take}
+use lib.ListN.{length}
 use lib.Dec.{leb, eqb}
 use borrow.Author.Tests.{eqb-true, leb-true}
 use Rattle.std.specs.Prelude.{Ok, Err, IsErrAnd}
@@ -16,7 +15,7 @@ use Rattle.meaning.specs.Commands as meaning
 use Rattle.meaning.specs.Commands.{asked, row, length_fits, refuse, accept, error, on_field, field_status, memory_status, free_byte, c4a, c4b, c4c, c4d}
 use Rattle.wire.specs.declared.codes.ErrorCode.{ErrorCode}
 use Rattle.wire.specs.Answers.{Answer, told, data_in, memory_after, Works}
-use Rattle.fields.specs.Replies.{Replied, named}
+use Rattle.fields.specs.Replies.{Replied}
 use Rattle.fields.specs.Found.{FoundIn}
 use Rattle.fields.specs.declared.find.Field.{Field}
 
@@ -33,13 +32,6 @@ pub works-passed : {a : meaning.Answer} {m w : List ℕ} (r : Answer) (e : Error
 works-passed r e k q =
     let p = err_from_is_err_and r k in
     rw (p.1, p.2) (works-refuse q)
-
--- the first three bytes of a request's data
-pub named_is : (d : List ℕ) → 3 ≤ length d → take 3 d ≡ named d
-named_is [] h = absurd (omega arith)
-named_is (a ∷ []) h = absurd (omega arith)
-named_is (a ∷ b ∷ []) h = absurd (omega arith)
-named_is (a ∷ b ∷ c ∷ d) h = refl
 
 -- reply data stands in the room
 pub works-accept : {a : meaning.Answer} {m w d : List ℕ} {s : State} {m₂ : List ℕ} {r : Answer} {w₂ : List ℕ} → a ≡ accept d s m₂ → Replied d w r w₂ → Works a m w r m₂ w₂
