@@ -1,18 +1,16 @@
 -- What the programmer's entry points answer (02, Req 04). Assumes nothing.
-use Rattle.std.specs.Prelude.{ℕ, max, Bool, true, false, not, List, length, eqb, leb, ltb}
+use Rattle.std.specs.Prelude.{ℕ, max, Bool, true, false, not, List, length, eqb, leb, ltb, Result, Ok, Err}
 use Rattle.meaning.specs.Bytes.{pick, both}
 use Rattle.meaning.specs.Fields.{writable}
 use Rattle.meaning.specs.Bench as meaning
 use Rattle.meaning.specs.Bench.{address_ok, writes}
 use Rattle.bench.specs.declared.request.Written.{Written}
 use Rattle.bench.specs.declared.request.Written.TheVariants as written
-use Rattle.programmer.specs.Wishes.{Wish, wanted}
+use Rattle.programmer.specs.Wishes.{Checked, Wish, wanted}
 use Rattle.programmer.specs.Steps.{due, after_reply, still_there, in_all, answered_at}
-use Rattle.programmer.specs.declared.wish.Checked as code
-use Rattle.programmer.specs.declared.wish.Checked.TheVariants as checked
 use Rattle.programmer.specs.declared.run.Programmer.{Programmer}
-use Rattle.programmer.specs.declared.run.Started.{Started}
-use Rattle.programmer.specs.declared.run.Started.TheVariants as started
+use Rattle.programmer.specs.declared.run.StartRefusal.{StartRefusal}
+use Rattle.programmer.specs.declared.run.StartRefusal.TheVariants.{Tape, R5}
 use Rattle.programmer.specs.declared.run.Asked.{Asked}
 use Rattle.programmer.specs.declared.run.Asked.TheVariants as asked
 use Rattle.programmer.specs.declared.count.Progress.{Progress}
@@ -27,10 +25,12 @@ abbrev pub at_first : ℕ → Programmer  -- the first request is 4Eh, and no fi
 at_first n = record { address = n; present = 0; standing = At Count }
 
 -- "The whole tape is checked before the first request"; then R5, an address that the bench does not write
-abbrev pub started_by : ℕ → code.Checked → Started
-started_by n checked.Good = pick (address_ok n) (started.Ready (at_first n)) started.R5
-started_by n (checked.BadRecord at) = started.BadRecord at
-started_by n (checked.WrongSize at) = started.WrongSize at
+abbrev pub Started : Type 0
+Started = Result Programmer StartRefusal
+
+abbrev pub started_by : ℕ → Checked → Started
+started_by n (Ok u) = pick (address_ok n) (Ok (at_first n)) (Err R5)
+started_by n (Err fault) = Err (Tape fault)
 
 abbrev pub told_by : Written → Asked
 told_by (written.Request n) = asked.Request n

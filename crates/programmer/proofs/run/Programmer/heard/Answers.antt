@@ -39,4 +39,4 @@ returns c =
     (heard-at c.args.self.address l c.args.self.standing c.in-At.step c.in-At.is q r c.on_verdict-next.result e
     (c.on_verdict-next.ensures (judge q r) c.judge-verdict.ensures
     (cut_out r c.piece-piece.result.from c.piece-piece.result.count ∙ rw h at (piece_is_data q r))))
-    (c.larger.ensures ∙ ap (max c.args.self.present) c.still_there.ensures)
+    (c.max.ensures ∙ ap (max c.args.self.present) c.still_there.ensures)
