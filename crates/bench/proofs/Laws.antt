@@ -18,7 +18,8 @@ use Rattle.meaning.proofs.Wire.{length-sealed, writes_well}
 use Rattle.wire.specs.Table.{length_of, row_of}
 use Rattle.wire.specs.declared.table.Row.{Row}
 use Rattle.bench.specs.Outcomes.{written_of}
-use Rattle.bench.specs.declared.request.Written.TheVariants.{Request, R4, R5}
+use Rattle.bench.specs.declared.request.Unwritten.TheVariants.{R4, R5}
+use Rattle.std.specs.Prelude.{Some, None, Ok, Err}
 use Rattle.meaning.proofs.Choices.{both_left}
 
 either_cases : (a b : Bool) → either a b ≡ true → b ≡ false → a ≡ true
@@ -30,21 +31,24 @@ unfolding address_ok
 address_small n e k = leb-true n 31 (either_cases (leb n 31) (eqb n 255) e (ne_eqb n 255 k))
 
 -- the length of a request's data is right by the code's row just where it is by the meaning's
-pub fits-asked : (r : Row) (c : ℕ) (d : List ℕ) (b : Bool) → row_of r ≡ row (command_of c) → b ≡ length_fits (length_of r.request) d d
-    → asked (command_of c) d ≡ b
+pub fits-asked : (r : Row) (c : ℕ) (d : List ℕ) (b : Bool) → row_of (Some r) ≡ row (command_of c)
+    → ((x : List ℕ) → length x ≡ length d → b ≡ length_fits (length_of r.request) d x) → asked (command_of c) d ≡ b
 unfolding asked
-fits-asked r c d b e h = ap (λ (w : meaning.Row). length_fits w.request d d) (sym e) ∙ sym h
+fits-asked r c d b e h = ap (λ (w : meaning.Row). length_fits w.request d d) (sym e) ∙ sym (h d refl)
+
+-- .. and of an unknown command none is
+pub none-allowed : (c : ℕ) (d : List ℕ) → row_of None ≡ row (command_of c) → allowed (command_of c) d ≡ false
+unfolding allowed asked length_fits
+none-allowed c d e = rw (← ap (λ (w : meaning.Row). w.request) e) refl
+
+pub none-fits : (q p : List ℕ) → row_of None ≡ row (command_of (command_byte q)) → right_length q p ≡ false
+unfolding right_length length_fits
+none-fits q p e = rw (← ap (λ (w : meaning.Row). w.reply) e) refl
 
 -- R5: "4Ah's count 0 or over 128; 4Fh's number over 3. Not otherwise"
-in_range_4a : (c : ℕ) (d : List ℕ) (n : ℕ) → c ≡ 0x4A → n ≡ arg d 2 → in_range (command_of c) d ≡ between 1 128 n
+pub in_range_4a : (c : ℕ) (d : List ℕ) (n : ℕ) → c ≡ 0x4A → n ≡ arg d 2 → in_range (command_of c) d ≡ between 1 128 n
 unfolding command_of in_range
 in_range_4a c d n e f = rw (e, f)
-
-pub count-some : (c : ℕ) (d : List ℕ) (n : ℕ) → c ≡ 0x4A → n ≡ arg d 2 → 1 ≤ n → in_range (command_of c) d ≡ leb n 128
-count-some c d n e f h = rw (in_range_4a c d n e f, le-leb 1 n h)
-
-pub count_none : (c : ℕ) (d : List ℕ) (n : ℕ) → c ≡ 0x4A → n ≡ arg d 2 → n < 1 → in_range (command_of c) d ≡ leb 1 n
-count_none c d n e f h = rw (in_range_4a c d n e f, lt-leb 1 n h)
 
 pub in_range_4f : (c : ℕ) (d : List ℕ) (n : ℕ) → c ≡ 0x4F → n ≡ arg d 0 → in_range (command_of c) d ≡ leb n 3
 unfolding command_of in_range
@@ -103,23 +107,23 @@ module _ (q r : List ℕ) (e : error_reply q r ≡ true) where
   error_warned n h = error-told true n (le-leb 128 (arg r 1) h)
 
 -- B5 and B6 by the code's row
-pub fits-reply : (r : Row) (q p : List ℕ) (b : Bool) → row_of r ≡ row (command_of (command_byte q)) → b ≡ length_fits (length_of r.reply) (data_of q) (data_of p)
+pub fits-reply : (r : Row) (q p : List ℕ) (b : Bool) → row_of (Some r) ≡ row (command_of (command_byte q)) → b ≡ length_fits (length_of r.reply) (data_of q) (data_of p)
     → right_length q p ≡ b
 unfolding right_length
 fits-reply r q p b e h = ap (λ (w : meaning.Row). length_fits w.reply (data_of q) (data_of p)) (sym e) ∙ sym h
 
-pub fits-repeated : (r : Row) (q p : List ℕ) (b : Bool) → row_of r ≡ row (command_of (command_byte q))
+pub fits-repeated : (r : Row) (q p : List ℕ) (b : Bool) → row_of (Some r) ≡ row (command_of (command_byte q))
     → b ≡ same (take r.repeats (data_of p)) (take r.repeats (data_of q)) → repeated q p ≡ b
 unfolding repeated
 fits-repeated r q p b e h = ap (λ (w : meaning.Row). same (take w.repeats (data_of p)) (take w.repeats (data_of q))) (sym e) ∙ sym h
 
 -- .. where the code looks at parts x and y that are the data of request and reply, and at fronts u and v of them
-pub right_by_row : (r : Row) (q p x y : List ℕ) (b : Bool) → row_of r ≡ row (command_of (command_byte q)) → x ≡ data_of q → y ≡ data_of p
+pub right_by_row : (r : Row) (q p x y : List ℕ) (b : Bool) → row_of (Some r) ≡ row (command_of (command_byte q)) → x ≡ data_of q → y ≡ data_of p
     → ((d : List ℕ) → length d ≡ length y → b ≡ length_fits (length_of r.reply) x d) → right_length q p ≡ b
 right_by_row r q p x y b e f g h =
     fits-reply r q p b e (h (data_of p) (ap (λ (d : List ℕ). length d) (sym g)) ∙ ap (λ (d : List ℕ). length_fits (length_of r.reply) d (data_of p)) f)
 
-pub repeated_by_row : (r : Row) (q p x y u v : List ℕ) (b : Bool) → row_of r ≡ row (command_of (command_byte q)) → x ≡ data_of q → y ≡ data_of p
+pub repeated_by_row : (r : Row) (q p x y u v : List ℕ) (b : Bool) → row_of (Some r) ≡ row (command_of (command_byte q)) → x ≡ data_of q → y ≡ data_of p
     → u ≡ take r.repeats x → v ≡ take r.repeats y → b ≡ same v u → repeated q p ≡ b
 repeated_by_row r q p x y u v b e f g h k l =
     fits-repeated r q p b e (l ∙ ap₂ same (k ∙ ap (take r.repeats) g) (h ∙ ap (take r.repeats) f))
@@ -147,15 +151,15 @@ module _ (q r : List ℕ) (e : error_reply q r ≡ false) where
 
 -- R4, R5, and a request that is written
 module _ (n c : ℕ) (d buffer : List ℕ) where
-  pub buffer-short : length buffer < 135 → written_of R4 buffer ≡ writes n c d buffer
+  pub buffer-short : length buffer < 135 → written_of (Err R4) buffer ≡ writes n c d buffer
   unfolding writes
   buffer-short h = simp (lt-ltb (length buffer) 135 h)
 
-  pub address_wrong : 135 ≤ length buffer → address_ok n ≡ false → written_of R5 buffer ≡ writes n c d buffer
+  pub address_wrong : 135 ≤ length buffer → address_ok n ≡ false → written_of (Err R5) buffer ≡ writes n c d buffer
   unfolding writes
   address_wrong h e = simp (le-ltb (length buffer) 135 h, e)
 
-  pub data_wrong : 135 ≤ length buffer → address_ok n ≡ true → allowed (command_of c) d ≡ false → written_of R5 buffer ≡ writes n c d buffer
+  pub data_wrong : 135 ≤ length buffer → address_ok n ≡ true → allowed (command_of c) d ≡ false → written_of (Err R5) buffer ≡ writes n c d buffer
   unfolding writes
   data_wrong h e f = simp (le-ltb (length buffer) 135 h, e, f)
 
@@ -168,7 +172,7 @@ module _ (n c : ℕ) (d buffer : List ℕ) where
     request_fits = omega (arith, request_length, (writes_well n c d (rw e tt) (rw f tt)).1)
 
     pub request-written : (after : List ℕ) → 135 ≤ length buffer → after ≡ put buffer 0 (request (address_for n) c d)
-        → written_of (Request (length d + 3)) after ≡ writes n c d buffer
+        → written_of (Ok (length d + 3)) after ≡ writes n c d buffer
     unfolding writes
     request-written after h k = simp (le-ltb (length buffer) 135 h, e, f, request_length, k)
 

@@ -20,10 +20,9 @@ use Rattle.meaning.proofs.Fitting.{only_if_fits}
 use Rattle.wire.specs.Table.{length_of, row_of}
 use Rattle.wire.specs.declared.table.Length.{Length}
 use Rattle.wire.specs.declared.table.Row.{Row}
-use Rattle.bench.specs.declared.reply.Refusal.TheVariants.{B0, B4}
-use Rattle.bench.specs.declared.length.Expected.{Expected}
-use Rattle.bench.specs.declared.length.Expected.TheVariants.{Unknown, Bytes, Refused}
-use Rattle.bench.specs.Lengths.{framed, done_length, expected_length, LengthTold, LengthWithin, TakenFits, PieceFits}
+use Rattle.bench.specs.declared.reply.Refusal.TheVariants.{B0, B4, B5}
+use Rattle.std.specs.Prelude.{Some, None, Ok, Err}
+use Rattle.bench.specs.Lengths.{Expected, framed, done_length, expected_length, LengthTold, LengthWithin, TakenFits, PieceFits}
 use Rattle.bench.proofs.Laws.{data_length}
 
 -- ---- by the code's row
@@ -54,7 +53,7 @@ short_row c55 = refl
 short_row c56 = refl
 short_row unknown = refl
 
-module _ (r : Row) (c : ℕ) (l : Length) (e : row_of r ≡ row (command_of c)) (f : r.reply ≡ l) where
+module _ (r : Row) (c : ℕ) (l : Length) (e : row_of (Some r) ≡ row (command_of c)) (f : r.reply ≡ l) where
   same_length : length_of l ≡ (row (command_of c)).reply
   same_length = ap length_of (sym f) ∙ ap (λ (w : meaning.Row). w.reply) e
 
@@ -65,25 +64,29 @@ module _ (r : Row) (c : ℕ) (l : Length) (e : row_of r ≡ row (command_of c)) 
   unfolding done_length
   by_row d = ap (λ (x : meaning.Length). framed x d) (sym same_length)
 
+pub no_row : (c : ℕ) (d : List ℕ) → row_of None ≡ row (command_of c) → done_length c d ≡ Err B5
+unfolding done_length framed
+no_row c d e = rw (← ap (λ (w : meaning.Row). w.reply) e) refl
+
 -- ---- its checks in order
 
 module _ (q s : List ℕ) where
-  pub not-a-request : written q ≡ false → expected_length q s ≡ Refused B0
+  pub not-a-request : written q ≡ false → expected_length q s ≡ Err B0
   unfolding expected_length
   not-a-request e = simp e
 
   module _ (w : written q ≡ true) where
-    pub too_early : length s < 2 → expected_length q s ≡ Unknown
+    pub too_early : length s < 2 → expected_length q s ≡ Ok None
     unfolding expected_length
     too_early h = simp (w, lt-ltb (length s) 2 h)
 
     module _ (l : 2 ≤ length s) where
-      pub other_command : either (eqb (arg s 1 % 128) (arg q 1)) (eqb (arg s 1 % 128) 0x50) ≡ false → expected_length q s ≡ Refused B4
+      pub other_command : either (eqb (arg s 1 % 128) (arg q 1)) (eqb (arg s 1 % 128) 0x50) ≡ false → expected_length q s ≡ Err B4
       unfolding expected_length bare command_byte
       other_command c = simp (w, le-ltb (length s) 2 l, c)
 
       module _ (c : either (eqb (arg s 1 % 128) (arg q 1)) (eqb (arg s 1 % 128) 0x50) ≡ true) where
-        pub error-length : both (eqb (arg s 1 % 128) 0x50) (not (eqb (arg q 1) 0x50)) ≡ true → expected_length q s ≡ Bytes 4
+        pub error-length : both (eqb (arg s 1 % 128) 0x50) (not (eqb (arg q 1) 0x50)) ≡ true → expected_length q s ≡ Ok (Some 4)
         unfolding expected_length error_reply bare command_byte
         error-length e = simp (w, le-ltb (length s) 2 l, c, e)
 
@@ -100,17 +103,17 @@ begun-same q r n h l =
     let k : 2 ≤ length (take n r) = rw (length-take n r) (omega arith) in
     simp (get_or-take n r 1 0 (omega arith), le-ltb (length (take n r)) 2 k, le-ltb (length r) 2 l)
 
-fits-framed : (l : meaning.Length) (d x : List ℕ) → T (length_fits l d x) → framed l d ≡ Bytes (3 + length x)
+fits-framed : (l : meaning.Length) (d x : List ℕ) → T (length_fits l d x) → framed l d ≡ Ok (Some (3 + length x))
 unfolding length_fits framed
-fits-framed (exactly n) d x h = ap (λ (k : ℕ). Bytes (3 + k)) (sym (eqb→eq (length x) n h))
+fits-framed (exactly n) d x h = ap (λ (k : ℕ). Ok (Some (3 + k))) (sym (eqb→eq (length x) n h))
 fits-framed (counted n) d x h =
     let e : length x ≡ n + arg d 2 = eqb→eq (length x) (n + arg d 2) (both_1 (leb (length x) (n + 128)) (eqb (length x) (n + arg d 2)) (both_1 (leb (n + 1) (length x)) _ h)) in
     let f : 3 + n + arg d 2 ≡ 3 + length x = omega arith in
-    ap Bytes f
+    ap (λ (k : ℕ). Ok (Some k)) f
 fits-framed never d x h = absurd h
 
 -- to a request 50h an error reply is done, and as long
-fault-length : (c : ℕ) (d : List ℕ) → c ≡ 0x50 → done_length c d ≡ Bytes 4
+fault-length : (c : ℕ) (d : List ℕ) → c ≡ 0x50 → done_length c d ≡ Ok (Some 4)
 unfolding done_length framed row command_of
 fault-length c d e = rw e
 
@@ -123,7 +126,7 @@ module _ (q r : List ℕ) where
   own-passes true = refl
   own-passes false = refl
 
-  told_by_lem : (v : Verdict) → Grounds q r v → T (accepts v) → expected_length q r ≡ Bytes (length r)
+  told_by_lem : (v : Verdict) → Grounds q r v → T (accepts v) → expected_length q r ≡ Ok (Some (length r))
   unfolding accepts right_length command_byte bare
   told_by_lem (refusal n) g h = absurd h
   told_by_lem (done w d) g h =
@@ -132,8 +135,8 @@ module _ (q r : List ℕ) where
       (rw g.command (own-passes (eqb (arg q 1) 0x50)))
       ∙ own g.fit.long g.length_right
     where
-      own : 3 ≤ length r → T (length_fits (row (command_of (arg q 1))).reply (data_of q) (data_of r)) → done_length (arg q 1) (data_of q) ≡ Bytes (length r)
-      own l k = unfold done_length in (fits-framed (row (command_of (arg q 1))).reply (data_of q) (data_of r) k ∙ ap Bytes (whole_length_lem l))
+      own : 3 ≤ length r → T (length_fits (row (command_of (arg q 1))).reply (data_of q) (data_of r)) → done_length (arg q 1) (data_of q) ≡ Ok (Some (length r))
+      own l k = unfold done_length in (fits-framed (row (command_of (arg q 1))).reply (data_of q) (data_of r) k ∙ ap (λ (k : ℕ). Ok (Some k)) (whole_length_lem l))
   told_by_lem (failed w e) g h = go (eqb (arg q 1) 0x50) refl
     where
       four : length r ≡ 4
@@ -142,12 +145,12 @@ module _ (q r : List ℕ) where
       fits : either (eqb (arg r 1 % 128) (arg q 1)) (eqb (arg r 1 % 128) 0x50) ≡ true
       fits = rw g.command (either_true (eqb 0x50 (arg q 1)))
 
-      go : (b : Bool) → eqb (arg q 1) 0x50 ≡ b → expected_length q r ≡ Bytes (length r)
+      go : (b : Bool) → eqb (arg q 1) 0x50 ≡ b → expected_length q r ≡ Ok (Some (length r))
       go true z =
           done_length_lem q r (told-true (written q) g.fit.asked_well) (omega (arith, g.fit.long)) fits (rw (g.command, z))
-          ∙ fault-length (arg q 1) (data_of q) (eqb→eq (arg q 1) 0x50 (true-told (eqb (arg q 1) 0x50) z)) ∙ ap Bytes (sym four)
+          ∙ fault-length (arg q 1) (data_of q) (eqb→eq (arg q 1) 0x50 (true-told (eqb (arg q 1) 0x50) z)) ∙ ap (λ (k : ℕ). Ok (Some k)) (sym four)
       go false z =
-          error-length q r (told-true (written q) g.fit.asked_well) (omega (arith, g.fit.long)) fits (rw (g.command, z)) ∙ ap Bytes (sym four)
+          error-length q r (told-true (written q) g.fit.asked_well) (omega (arith, g.fit.long)) fits (rw (g.command, z)) ∙ ap (λ (k : ℕ). Ok (Some k)) (sym four)
 
 pub length_told : LengthTold
 length_told q r n h a =
@@ -162,11 +165,11 @@ length_told q r n h a =
 -- ---- its limits
 
 abbrev Within : Expected → Type 0
-Within Unknown = Unit
-Within (Bytes n) = (3 ≤ n) × (n ≤ 134)
-Within (Refused b) = Unit
+Within (Ok None) = Unit
+Within (Ok (Some n)) = (3 ≤ n) × (n ≤ 134)
+Within (Err b) = Unit
 
-few : (n : ℕ) → T (leb n 37) → Within (Bytes (3 + n))
+few : (n : ℕ) → T (leb n 37) → Within (Ok (Some (3 + n)))
 few n h = (omega arith, omega (arith, leb→le n 37 h))
 
 -- 4Ah's count is at most 128 in a request that the bench writes
@@ -203,7 +206,7 @@ all-within q s = go (written q) (ltb (length s) 2) (either (eqb (bare s) (comman
         (both_1 (address_byte (arg q 0)) (allowed (command_of (command_byte q)) (data_of q)) (both_1 (eqb (xor_all q) 0) _ (both_1 (leb 3 (length q)) _ h)))
 
     go : (w e c f : Bool) → (T w → T (allowed (command_of (command_byte q)) (data_of q)))
-        → Within (pick (not w) (Refused B0) (pick e Unknown (pick (not c) (Refused B4) (pick f (Bytes 4) (framed (row (command_of (command_byte q))).reply (data_of q))))))
+        → Within (pick (not w) (Err B0) (pick e (Ok None) (pick (not c) (Err B4) (pick f (Ok (Some 4)) (framed (row (command_of (command_byte q))).reply (data_of q))))))
     go false e c f a = tt
     go true true c f a = tt
     go true false false f a = tt

@@ -14,7 +14,8 @@ use Rattle.meaning.specs.Bench as meaning
 use Rattle.meaning.proofs.Steps.{both_0, both_1}
 use Rattle.meaning.proofs.Wire.{writes_well}
 use Rattle.bench.specs.Outcomes.{written_of}
-use Rattle.bench.specs.declared.request.Written.TheVariants.{Request, R4, R5}
+use Rattle.bench.specs.declared.request.Unwritten.TheVariants.{R4, R5}
+use Rattle.std.specs.Prelude.{Ok, Err}
 use Rattle.meaning.proofs.Puts.{put_front}
 
 -- the request that stands at the front of the buffer passes B0, and is the one that was meant
@@ -22,7 +23,7 @@ pub record Meant (n c k : ℕ) (d after : List ℕ) : Type 0 where
   pub front : take k after ≡ request (address_for n) c d
   pub passes : T (written (take k after))
 
-pub written-meant : (n c k : ℕ) (d buffer after : List ℕ) → written_of (Request k) after ≡ writes n c d buffer → Meant n c k d after
+pub written-meant : (n c k : ℕ) (d buffer after : List ℕ) → written_of (Ok k) after ≡ writes n c d buffer → Meant n c k d after
 unfolding writes
 written-meant n c k d buffer after = go (ltb (length buffer) 135) (both (address_ok n) (allowed (command_of c) d)) (λ g. g)
   where
@@ -37,7 +38,7 @@ written-meant n c k d buffer after = go (ltb (length buffer) 135) (both (address
         record { front = fronts; passes = subst (λ (l : List ℕ). T (written l)) (sym fronts) (writes_well n c d ok may).0 }
 
     go : (s g : Bool) → (T g → T (both (address_ok n) (allowed (command_of c) d)))
-        → written_of (Request k) after ≡ pick s (written_of R4 buffer) (pick (not g) (written_of R5 buffer) (written_of (Request (length q)) (put buffer 0 q)))
+        → written_of (Ok k) after ≡ pick s (written_of (Err R4) buffer) (pick (not g) (written_of (Err R5) buffer) (written_of (Ok (length q)) (put buffer 0 q)))
         → Meant n c k d after
     go true g l e = absurd (eqb-false 0 4 refl (ap (λ (w : meaning.Written). w.refusal) e))
     go false false l e = absurd (eqb-false 0 5 refl (ap (λ (w : meaning.Written). w.refusal) e))

@@ -3,29 +3,27 @@ use mathlib.Core.Path.{◌≡◌, refl, ap}
 use mathlib.Core.List.{List}
 use Prim.Native.Nat.{ℕ}
 use lib.Dec.{eqb}
+use Rattle.std.specs.Prelude.{Ok, Err}
 use Rattle.meaning.specs.Bytes.{pick}
 use Rattle.meaning.specs.Bench as meaning
 use Rattle.wire.proofs.Tight.{one_outcome, same_outcome}
-use Rattle.bench.specs.Outcomes.{written_of, check_number, verdict_of, without_data, piece_from}
-use Rattle.bench.specs.Lengths.{expected_length}
-use Rattle.bench.specs.declared.length.Expected.{Expected}
-use Rattle.bench.specs.declared.request.Written.{Written}
-use Rattle.bench.specs.declared.request.Written.TheVariants.{Request, R4, R5}
+use Rattle.bench.specs.Outcomes.{Written, Judged, written_of, check_number, verdict_of, without_data, piece_from}
+use Rattle.bench.specs.Lengths.{Expected, expected_length}
+use Rattle.bench.specs.declared.request.Unwritten.TheVariants.{R4, R5}
 use Rattle.bench.specs.declared.reply.Piece.{Piece}
 use Rattle.bench.specs.declared.reply.Refusal.{Refusal}
 use Rattle.bench.specs.declared.reply.Refusal.TheVariants.{B0, B1, B2, B3, B4, B5, B6}
-use Rattle.bench.specs.declared.reply.Verdict.{Verdict}
-use Rattle.bench.specs.declared.reply.Verdict.TheVariants.{Done, DoneWithWarning, Error, ErrorWithWarning, Refused}
+use Rattle.bench.specs.declared.reply.Verdict.TheVariants.{Done, DoneWithWarning, Error, ErrorWithWarning}
 
 -- the paper's numbers and words lead back to the code's answer
 abbrev pub refusal_at : ℕ → Refusal
 refusal_at n =
     pick (eqb n 0) B0 (pick (eqb n 1) B1 (pick (eqb n 2) B2 (pick (eqb n 3) B3 (pick (eqb n 4) B4 (pick (eqb n 5) B5 B6)))))
 
-abbrev pub verdict_back : meaning.Verdict → Verdict
-verdict_back (meaning.refusal n) = Refused (refusal_at n)
-verdict_back (meaning.done w d) = pick w DoneWithWarning Done
-verdict_back (meaning.failed w e) = pick w (ErrorWithWarning e) (Error e)
+abbrev pub verdict_back : meaning.Verdict → Judged
+verdict_back (meaning.refusal n) = Err (refusal_at n)
+verdict_back (meaning.done w d) = Ok (pick w DoneWithWarning Done)
+verdict_back (meaning.failed w e) = Ok (pick w (ErrorWithWarning e) (Error e))
 
 number-back : (b : Refusal) → refusal_at (check_number b) ≡ b
 number-back B0 = refl
@@ -36,24 +34,24 @@ number-back B4 = refl
 number-back B5 = refl
 number-back B6 = refl
 
-pub verdict_back_lem : (v : Verdict) → verdict_back (verdict_of v) ≡ v
-verdict_back_lem Done = refl
-verdict_back_lem DoneWithWarning = refl
-verdict_back_lem (Error e) = refl
-verdict_back_lem (ErrorWithWarning e) = refl
-verdict_back_lem (Refused b) = ap Refused (number-back b)
+pub verdict_back_lem : (v : Judged) → verdict_back (verdict_of v) ≡ v
+verdict_back_lem (Ok Done) = refl
+verdict_back_lem (Ok DoneWithWarning) = refl
+verdict_back_lem (Ok (Error e)) = refl
+verdict_back_lem (Ok (ErrorWithWarning e)) = refl
+verdict_back_lem (Err b) = ap Err (number-back b)
 
-pub judge_tight : (q r : List ℕ) (v w : Verdict) → verdict_of v ≡ without_data (meaning.judge q r) → verdict_of w ≡ without_data (meaning.judge q r) → v ≡ w
+pub judge_tight : (q r : List ℕ) (v w : Judged) → verdict_of v ≡ without_data (meaning.judge q r) → verdict_of w ≡ without_data (meaning.judge q r) → v ≡ w
 judge_tight q r v w = one_outcome verdict_of verdict_back verdict_back_lem (without_data (meaning.judge q r)) v w
 
 -- what is returned, and the buffer afterwards
 abbrev written_back : meaning.Written → Written × List ℕ
-written_back w = (pick (eqb w.refusal 4) R4 (pick (eqb w.refusal 5) R5 (Request w.count)), w.buffer)
+written_back w = (pick (eqb w.refusal 4) (Err R4) (pick (eqb w.refusal 5) (Err R5) (Ok w.count)), w.buffer)
 
 written_back_lem : (w : Written × List ℕ) → written_back (written_of w.0 w.1) ≡ w
-written_back_lem (Request n, buffer) = refl
-written_back_lem (R4, buffer) = refl
-written_back_lem (R5, buffer) = refl
+written_back_lem (Ok n, buffer) = refl
+written_back_lem (Err R4, buffer) = refl
+written_back_lem (Err R5, buffer) = refl
 
 pub write_request_tight : (n c : ℕ) (d buffer : List ℕ) (a b : Written × List ℕ)
     → written_of a.0 a.1 ≡ meaning.writes n c d buffer → written_of b.0 b.1 ≡ meaning.writes n c d buffer → a ≡ b

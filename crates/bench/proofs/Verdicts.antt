@@ -1,15 +1,13 @@
 -- What a verdict of the bench says of request and reply. Each takes the contract of `judge` as it stands. Assumes nothing.
 use mathlib.Core.Path.{◌≡◌, refl, sym, ap, ◌∙◌, subst}
-use mathlib.Core.Logic.{◌≢◌, ⊎_elim}
+use mathlib.Core.Logic.{◌≢◌}
 use mathlib.Core.Bool.{Bool, true, false, not}
-use mathlib.Core.List.{List, [], ◌∷◌}
+use mathlib.Core.List.{List, []}
 use Prim.Native.Nat.{ℕ, ◌+◌, ◌-◌, ◌<◌, ◌≤◌}
 use native.Mathlib.Omega.{arith}
 use lib.Dec.{T}
 use lib.ListN.{length, get_or, set, take, drop}
-use borrow.Author.Tests.{eqb-false}
-use denote.Enum.Declared.{tag_of}
-use types.Run.{OneOf}
+use Rattle.std.specs.Prelude.{Ok, Err}
 use Rattle.meaning.specs.Bytes.{part}
 use Rattle.meaning.specs.Frames.{command_byte, data_of}
 use Rattle.meaning.specs.Bench.{judge, piece_of, handed}
@@ -17,11 +15,9 @@ use Rattle.meaning.specs.Bench as meaning
 use Rattle.meaning.specs.Demands.{accepts, Fit, FitDone, FitFailed, Grounds}
 use Rattle.meaning.proofs.Fitting.{only_if_fits, no_reply_to_53}
 use Rattle.meaning.proofs.Bytewise.{one_byte_changed}
-use Rattle.bench.specs.Outcomes.{verdict_of, without_data, piece_from, piece_by}
+use Rattle.bench.specs.Outcomes.{Judged, verdict_of, without_data, piece_from, piece_by}
 use Rattle.bench.specs.declared.reply.Piece.{Piece}
-use Rattle.bench.specs.declared.reply.Verdict.{Verdict}
-use Rattle.bench.specs.declared.reply.Verdict.TheVariants.{Done, DoneWithWarning, Error, ErrorWithWarning, Refused}
-use Rattle.bench.specs.contracts.reply.Verdict.{the_type}
+use Rattle.bench.specs.declared.reply.Verdict.TheVariants.{Done, DoneWithWarning, Error, ErrorWithWarning}
 
 accepts-same : (v : meaning.Verdict) → accepts (without_data v) ≡ accepts v
 unfolding accepts
@@ -46,7 +42,7 @@ fit_of q r (meaning.refusal n) g h = absurd h
 fit_of q r (meaning.done w d) g h = g.fit
 fit_of q r (meaning.failed w e) g h = g.fit
 
-module _ (q r : List ℕ) (v : Verdict) (e : verdict_of v ≡ without_data (judge q r)) where
+module _ (q r : List ℕ) (v : Judged) (e : verdict_of v ≡ without_data (judge q r)) where
   accepted : T (accepts (verdict_of v)) → T (accepts (judge q r))
   accepted h = subst T (ap accepts e ∙ accepts-same (judge q r)) h
 
@@ -59,7 +55,7 @@ module _ (q r : List ℕ) (v : Verdict) (e : verdict_of v ≡ without_data (judg
   accepted-fits h = fit_of q r (judge q r) (only_if_fits q r) (accepted h)
 
   -- and with any one byte of it changed it is refused
-  pub changed_refused : (i x : ℕ) (w : Verdict) → verdict_of w ≡ without_data (judge q (set r i x))
+  pub changed_refused : (i x : ℕ) (w : Judged) → verdict_of w ≡ without_data (judge q (set r i x))
       → i < length r → T (accepts (verdict_of v)) → x ≢ get_or r i 0 → T (not (accepts (verdict_of w)))
   changed_refused i x w f l h n =
       subst (λ (b : Bool). T (not b)) (sym (ap accepts f ∙ accepts-same (judge q (set r i x)))) (one_byte_changed q r i x l (accepted h) n)
@@ -76,30 +72,15 @@ spans : {p : Piece} {n : ℕ} → 3 ≤ n → piece_from p ≡ (record { from = 
 spans h e = omega (arith, ap (λ (x : meaning.Piece). x.from) e, ap (λ (x : meaning.Piece). x.count) e)
 
 -- .. by the code's verdict
-pub piece_refused : (n : ℕ) (v : Verdict) → tag_of the_type v ≡ 4 → (record { from = 0; count = 0 }) ≡ piece_by n v
-piece_refused n Done e = absurd (eqb-false 0 4 refl e)
-piece_refused n DoneWithWarning e = absurd (eqb-false 1 4 refl e)
-piece_refused n (Error x) e = absurd (eqb-false 2 4 refl e)
-piece_refused n (ErrorWithWarning x) e = absurd (eqb-false 3 4 refl e)
-piece_refused n (Refused b) e = refl
-
-pub piece_accepted : (n k : ℕ) (v : Verdict) → OneOf (0 ∷ 1 ∷ 2 ∷ 3 ∷ []) (tag_of the_type v) → k ≡ n - 3 → (record { from = 2; count = k }) ≡ piece_by n v
-piece_accepted n k Done e h = rw h
-piece_accepted n k DoneWithWarning e h = rw h
-piece_accepted n k (Error x) e h = rw h
-piece_accepted n k (ErrorWithWarning x) e h = rw h
-piece_accepted n k (Refused b) e h =
-    absurd (⊎_elim (eqb-false 4 0 refl) (⊎_elim (eqb-false 4 1 refl) (⊎_elim (eqb-false 4 2 refl) (eqb-false 4 3 refl))) e)
-
-piece_told : (r : List ℕ) (v : Verdict) → piece_of r (verdict_of v) ≡ piece_by (length r) v
+piece_told : (r : List ℕ) (v : Judged) → piece_of r (verdict_of v) ≡ piece_by (length r) v
 unfolding piece_of
-piece_told r Done = refl
-piece_told r DoneWithWarning = refl
-piece_told r (Error x) = refl
-piece_told r (ErrorWithWarning x) = refl
-piece_told r (Refused b) = refl
+piece_told r (Ok Done) = refl
+piece_told r (Ok DoneWithWarning) = refl
+piece_told r (Ok (Error x)) = refl
+piece_told r (Ok (ErrorWithWarning x)) = refl
+piece_told r (Err b) = refl
 
-module _ (q r : List ℕ) (v : Verdict) (e : verdict_of v ≡ without_data (judge q r)) where
+module _ (q r : List ℕ) (v : Judged) (e : verdict_of v ≡ without_data (judge q r)) where
   pub handed_by : handed q r ≡ piece_by (length r) v
   unfolding handed
   handed_by = sym (piece_same r (judge q r)) ∙ ap (piece_of r) (sym e) ∙ piece_told r v
@@ -109,12 +90,12 @@ module _ (q r : List ℕ) (v : Verdict) (e : verdict_of v ≡ without_data (judg
   unfolding accepts
   piece_within p h = go v (λ k. (accepted-fits q r v e k).long) h
     where
-      go : (u : Verdict) → (T (accepts (verdict_of u)) → 3 ≤ length r) → piece_from p ≡ piece_by (length r) u → p.from + p.count ≤ length r
-      go Done k h = spans (k tt) h
-      go DoneWithWarning k h = spans (k tt) h
-      go (Error x) k h = spans (k tt) h
-      go (ErrorWithWarning x) k h = spans (k tt) h
-      go (Refused b) k h = omega (arith, ap (λ (x : meaning.Piece). x.from) h, ap (λ (x : meaning.Piece). x.count) h)
+      go : (u : Judged) → (T (accepts (verdict_of u)) → 3 ≤ length r) → piece_from p ≡ piece_by (length r) u → p.from + p.count ≤ length r
+      go (Ok Done) k h = spans (k tt) h
+      go (Ok DoneWithWarning) k h = spans (k tt) h
+      go (Ok (Error x)) k h = spans (k tt) h
+      go (Ok (ErrorWithWarning x)) k h = spans (k tt) h
+      go (Err b) k h = omega (arith, ap (λ (x : meaning.Piece). x.from) h, ap (λ (x : meaning.Piece). x.count) h)
 
 -- a part from its start up to its end
 pub cut_out : (r : List ℕ) (f n : ℕ) → take (f + n - f) (drop f r) ≡ part r f n
@@ -133,7 +114,7 @@ is_done (meaning.refusal n) = false
 is_done (meaning.done w d) = true
 is_done (meaning.failed w e) = false
 
-pub reset-never-done : (q r : List ℕ) (v : Verdict) → verdict_of v ≡ without_data (judge q r) → command_byte q ≡ 0x53
+pub reset-never-done : (q r : List ℕ) (v : Judged) → verdict_of v ≡ without_data (judge q r) → command_byte q ≡ 0x53
     → (w : Bool) → verdict_of v ≢ meaning.done w []
 reset-never-done q r v e c w f = go (judge q r) refl (subst T (sym (ap is_done (sym e ∙ f))) tt)
   where

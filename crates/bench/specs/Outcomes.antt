@@ -1,19 +1,25 @@
 -- What the bench's answers say, by this paper's numbers (01, "Named refusals"): R4, R5, B0 to B6. Assumes nothing.
-use Rattle.std.specs.Prelude.{◌≡◌, true, false, List, [], ℕ, ◌-◌, ◌≤◌, length}
+use Rattle.std.specs.Prelude.{◌≡◌, true, false, List, [], ℕ, ◌-◌, ◌≤◌, length, Result, Ok, Err}
 use Rattle.meaning.specs.Bench as meaning
-use Rattle.bench.specs.declared.request.Written.{Written}
-use Rattle.bench.specs.declared.request.Written.TheVariants.{Request, R4, R5}
+use Rattle.bench.specs.declared.request.Unwritten.{Unwritten}
+use Rattle.bench.specs.declared.request.Unwritten.TheVariants.{R4, R5}
 use Rattle.bench.specs.declared.reply.Piece.{Piece}
 use Rattle.bench.specs.declared.reply.Refusal.{Refusal}
 use Rattle.bench.specs.declared.reply.Refusal.TheVariants.{B0, B1, B2, B3, B4, B5, B6}
 use Rattle.bench.specs.declared.reply.Verdict.{Verdict}
-use Rattle.bench.specs.declared.reply.Verdict.TheVariants.{Done, DoneWithWarning, Error, ErrorWithWarning, Refused}
+use Rattle.bench.specs.declared.reply.Verdict.TheVariants.{Done, DoneWithWarning, Error, ErrorWithWarning}
+
+abbrev pub Written : Type 0
+Written = Result ℕ Unwritten
+
+abbrev pub Judged : Type 0
+Judged = Result Verdict Refusal
 
 -- what writing came to, with the buffer as it is afterwards
 abbrev pub written_of : Written → List ℕ → meaning.Written
-written_of (Request n) buffer = record { refusal = 0; count = n; buffer = buffer }
-written_of R4 buffer = record { refusal = 4; count = 0; buffer = buffer }
-written_of R5 buffer = record { refusal = 5; count = 0; buffer = buffer }
+written_of (Ok n) buffer = record { refusal = 0; count = n; buffer = buffer }
+written_of (Err R4) buffer = record { refusal = 4; count = 0; buffer = buffer }
+written_of (Err R5) buffer = record { refusal = 5; count = 0; buffer = buffer }
 
 abbrev pub check_number : Refusal → ℕ
 check_number B0 = 0
@@ -25,12 +31,12 @@ check_number B5 = 5
 check_number B6 = 6
 
 -- the verdict says nothing of the data: that is handed back by a second call
-abbrev pub verdict_of : Verdict → meaning.Verdict
-verdict_of Done = meaning.done false []
-verdict_of DoneWithWarning = meaning.done true []
-verdict_of (Error e) = meaning.failed false e
-verdict_of (ErrorWithWarning e) = meaning.failed true e
-verdict_of (Refused b) = meaning.refusal (check_number b)
+abbrev pub verdict_of : Judged → meaning.Verdict
+verdict_of (Ok Done) = meaning.done false []
+verdict_of (Ok DoneWithWarning) = meaning.done true []
+verdict_of (Ok (Error e)) = meaning.failed false e
+verdict_of (Ok (ErrorWithWarning e)) = meaning.failed true e
+verdict_of (Err b) = meaning.refusal (check_number b)
 
 abbrev pub without_data : meaning.Verdict → meaning.Verdict
 without_data (meaning.refusal n) = meaning.refusal n
@@ -40,13 +46,10 @@ without_data (meaning.failed w e) = meaning.failed w e
 abbrev pub piece_from : Piece → meaning.Piece
 piece_from p = record { from = p.from; count = p.count }
 
--- the piece of a reply of n bytes, by the verdict on it
-abbrev pub piece_by : ℕ → Verdict → meaning.Piece
-piece_by n Done = record { from = 2; count = n - 3 }
-piece_by n DoneWithWarning = record { from = 2; count = n - 3 }
-piece_by n (Error e) = record { from = 2; count = n - 3 }
-piece_by n (ErrorWithWarning e) = record { from = 2; count = n - 3 }
-piece_by n (Refused b) = record { from = 0; count = 0 }
+-- the piece of a reply of n bytes, by what was judged of it
+abbrev pub piece_by : ℕ → Judged → meaning.Piece
+piece_by n (Ok v) = record { from = 2; count = n - 3 }
+piece_by n (Err b) = record { from = 0; count = 0 }
 
 -- a request and a reply, and the reply is no error reply
 pub record Ordinary (q r : List ℕ) : Type 0 where

@@ -5,6 +5,6 @@ mod length;
 mod reply;
 mod request;
 
-pub use length::{Expected, reply_length};
+pub use length::reply_length;
 pub use reply::{Piece, Refusal, Verdict, data_of, judge};
-pub use request::{Written, address_ok, write_request};
+pub use request::{Unwritten, address_ok, write_request};

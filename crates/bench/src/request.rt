@@ -4,14 +4,28 @@ ghost use Rattle.meaning.specs.Commands.{command_of};
 ghost use Rattle.meaning.specs.Bench.{address_ok, address_for, allowed, writes};
 ghost use Rattle.bench.specs.Outcomes.{written_of};
 
+use std::fmt;
 use wire::codes::{BROADCAST, LAST_ADDRESS, LONGEST_REQUEST, MOST_COUNT};
 
-// The length of the request that fills the front of the buffer, or the refusal; refused, the buffer is untouched.
-#[derive(Clone, Copy)]
-pub enum Written {
-    Request { len: usize },
+// Why no request is written; the buffer is untouched then.
+#[derive(Clone, Copy, PartialEq, Eq, Debug)]
+pub enum Unwritten {
     R4,
     R5,
+}
+
+impl fmt::Display for Unwritten {
+    ghost use Rattle.std.specs.Prelude.{Some};
+    ghost use Rattle.bench.specs.Words.{unwritten_text};
+
+    ghost output = { λ u. Some (unwritten_text u) };
+
+    fn fmt<W: fmt::Write>(&self, f: &mut fmt::Formatter<W>) -> fmt::Result {
+        match self {
+            Unwritten::R4 => f.write_str("R4"),
+            Unwritten::R5 => f.write_str("R5"),
+        }
+    }
 }
 
 // 01, "It writes a request for an address 0 to 31 or broadcast": broadcast is the number 255.
@@ -19,10 +33,7 @@ pub enum Written {
 pub fn address_ok(address: u32) -> bool
     ensures { result ≡ address_ok address }
 {
-    if address <= LAST_ADDRESS as u32 {
-        return true;
-    }
-    address == 255
+    address <= u32::from(LAST_ADDRESS) || address == 255
 }
 
 #[tactic(auto, using(crate::proofs::Laws::address_small), unfolding(meaning::specs::Bench::address_for))]
@@ -40,37 +51,38 @@ fn address_byte(address: u32) -> u8
 pub(crate) fn is_allowed(command: u8, body: &[u8]) -> bool
     ensures { result ≡ allowed (command_of command) body.now }
 {
-    let row = wire::row_of(command);
-    let wanted = row.request;
-    if !wire::length_fits(wanted, body, body.len()) {
+    let Some(row) = wire::row_of(command) else {
+        return false;
+    };
+    if !wire::length_fits(row.request, body, body.len()) {
         return false;
     }
-    if command == 0x4A {
-        let count = wire::byte_at(body, 2);
-        return 1 <= count && count <= MOST_COUNT;
+    match command {
+        0x4A => (1..=MOST_COUNT).contains(&wire::byte_at(body, 2)),
+        0x4F => wire::byte_at(body, 0) <= 3,
+        _ => true,
     }
-    if command == 0x4F {
-        return wire::byte_at(body, 0) <= 3;
-    }
-    true
 }
 
-// R4 before R5. `address` is 0 to 31, or 255 for broadcast.
+// R4 before R5. `address` is 0 to 31, or 255 for broadcast. The length of the request that fills the front of the buffer.
 #[tactic(auto, using(crate::proofs::Laws::request_fits, crate::proofs::Laws::request_length), unfolding(meaning::specs::Bench::writes, meaning::specs::Bench::request))]
-pub fn write_request(address: u32, command: u8, body: &[u8], buffer: &mut [u8]) -> Written
+pub fn write_request(
+    address: u32,
+    command: u8,
+    body: &[u8],
+    buffer: &mut [u8],
+) -> Result<usize, Unwritten>
     ensures { written_of result buffer.new ≡ writes address command body.now buffer.old }
 {
     if buffer.len() < LONGEST_REQUEST {
-        return Written::R4;
+        return Err(Unwritten::R4);
     }
     if !address_ok(address) {
-        return Written::R5;
+        return Err(Unwritten::R5);
     }
     if !is_allowed(command, body) {
-        return Written::R5;
+        return Err(Unwritten::R5);
     }
     wire::write(address_byte(address), command, body, buffer);
-    Written::Request {
-        len: body.len() + 3,
-    }
+    Ok(body.len() + 3)
 }

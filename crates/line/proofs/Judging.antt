@@ -1,6 +1,7 @@
 -- The judge's ways out, one by one, and how the meaning's ending follows from the judgement. Assumes nothing.
 use Rattle.std.proofs.Common.{◌≡◌, ℕ, ◌<◌, ◌≤◌, Bool, true, false, not, eqb, ltb, List, [], ◌∷◌, length, sym, refl, ap, ◌∙◌, ⊎_elim, le-ltb, lt-ltb}
 use mathlib.Core.Bool.{false≢true}
+use Rattle.std.specs.Prelude.{Some, None}
 use types.Run.{OneOf}
 use denote.Enum.Declared.{tag_of}
 use borrow.Author.Tests.{eqb-false}
@@ -53,17 +54,17 @@ module _ (own : ℕ) (b : characters.Frame) where
           unfolding judgement_of
           too_long d = rw (long, a, p, c, d)
 
-          module _ (d : b.longer ≡ false) (r : Row) (same : row_of r ≡ row (command_of (arg b.bytes 1))) where
-            known : (row (command_of (command_byte b.bytes))).known ≡ r.known
-            unfolding command_byte
-            known = ap (λ (x : meaning.Row). x.known) (sym same)
+          module _ (d : b.longer ≡ false) where
+            pub unknown : row_of None ≡ row (command_of (arg b.bytes 1)) → Fault 0x0B ≡ judgement_of own b
+            unfolding judgement_of command_byte
+            unknown same = rw (long, a, p, c, d, ← ap (λ (x : meaning.Row). x.known) same)
 
-            pub unknown : r.known ≡ false → Fault 0x0B ≡ judgement_of own b
-            unfolding judgement_of
-            unknown e = rw (long, a, p, c, d, known, e)
-
-            module _ (e : r.known ≡ true) {t : Bool} {d' : List ℕ} (part : d' ≡ data_of b.bytes)
+            module _ (r : Row) (same : row_of (Some r) ≡ row (command_of (arg b.bytes 1))) {t : Bool} {d' : List ℕ} (part : d' ≡ data_of b.bytes)
                 (fitting : (x : List ℕ) → length x ≡ length d' → t ≡ length_fits (length_of r.request) d' x) where
+              known : (row (command_of (command_byte b.bytes))).known ≡ true
+              unfolding command_byte
+              known = ap (λ (x : meaning.Row). x.known) (sym same)
+
               right : asked (command_of (command_byte b.bytes)) (data_of b.bytes) ≡ t
               unfolding asked command_byte
               right =
@@ -72,11 +73,11 @@ module _ (own : ℕ) (b : characters.Frame) where
 
               pub wrong_length : t ≡ false → Fault 0x0C ≡ judgement_of own b
               unfolding judgement_of
-              wrong_length g = rw (long, a, p, c, d, known, e, right, g)
+              wrong_length g = rw (long, a, p, c, d, known, right, g)
 
               pub requested : t ≡ true → Request (arg b.bytes 1) ≡ judgement_of own b
               unfolding judgement_of command_byte
-              requested g = rw (long, a, p, c, d, known, e, right, g)
+              requested g = rw (long, a, p, c, d, known, right, g)
 
   -- a frame that is passed over is no request, and no code answers it
   pub passed_over : is_silent own b.bytes ≡ true → (asking (judgement_of own b) ≡ false) × (code_to_answer (judgement_of own b) ≡ 0)

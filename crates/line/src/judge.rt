@@ -74,13 +74,11 @@ impl OpenFrame {
             return Judgement::Fault(WRONG_LENGTH);
         }
         let command = bytes[1];
-        let row = wire::row_of(command);
-        let wanted = row.request;
-        if !row.known {
+        let Some(row) = wire::row_of(command) else {
             return Judgement::Fault(UNKNOWN_COMMAND);
-        }
+        };
         let request = wire::data_part(bytes);
-        if wire::length_fits(wanted, request, request.len()) {
+        if wire::length_fits(row.request, request, request.len()) {
             return Judgement::Request(command);
         }
         Judgement::Fault(WRONG_LENGTH)

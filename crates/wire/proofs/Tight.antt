@@ -4,6 +4,7 @@ use mathlib.Core.Bool.{Bool}
 use mathlib.Core.List.{List}
 use Prim.Native.Nat.{ℕ}
 use lib.ListN.{length, length-replicate}
+use Rattle.std.specs.Prelude.{Option, Some, None, cond}
 use Rattle.meaning.specs.Bytes.{zeros}
 use Rattle.meaning.specs.State.{Plate, State, fresh, with_address, own_byte}
 use Rattle.meaning.specs.Commands.{command_of, row, length_fits}
@@ -32,13 +33,14 @@ length_back_lem (Exactly n) = refl
 length_back_lem (Counted n) = refl
 length_back_lem Never = refl
 
-abbrev row_back : meaning.Row → Row
-row_back r = record { known = r.known; request = length_back r.request; reply = length_back r.reply; repeats = r.repeats }
+abbrev row_back : meaning.Row → Option Row
+row_back r = cond r.known (Some (record { request = length_back r.request; reply = length_back r.reply; repeats = r.repeats })) None
 
-row_back_lem : (r : Row) → row_back (row_of r) ≡ r
-row_back_lem r = λ i. record { known = r.known; request = length_back_lem r.request i; reply = length_back_lem r.reply i; repeats = r.repeats }
+row_back_lem : (r : Option Row) → row_back (row_of r) ≡ r
+row_back_lem (Some r) = λ i. Some (record { request = length_back_lem r.request i; reply = length_back_lem r.reply i; repeats = r.repeats })
+row_back_lem None = refl
 
-pub row_of_tight : (c : ℕ) (a b : Row) → row_of a ≡ row (command_of c) → row_of b ≡ row (command_of c) → a ≡ b
+pub row_of_tight : (c : ℕ) (a b : Option Row) → row_of a ≡ row (command_of c) → row_of b ≡ row (command_of c) → a ≡ b
 row_of_tight c a b p q = one_outcome row_of row_back row_back_lem (row (command_of c)) a b p q
 
 pub length_fits_tight : (l : meaning.Length) (d : List ℕ) (n : ℕ) (a b : Bool) → ((x : List ℕ) → length x ≡ n → a ≡ length_fits l d x)

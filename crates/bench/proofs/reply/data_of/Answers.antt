@@ -5,14 +5,14 @@ use Rattle.bench.proofs.reply.data_of.Goals as goal
 
 pub slice_bounds-result-end : goal.slice_bounds-result-end
 slice_bounds-result-end c =
-    omega (arith, piece_within c.args.request.now c.args.reply.now c.judge-verdict.result c.judge-verdict.ensures _ c.piece-piece.ensures)
+    omega (arith, piece_within c.args.request.now c.args.reply.now c.judge.result c.judge.ensures _ c.of-from.ensures)
 
 pub returns-clause-value : goal.returns-clause-value
 returns-clause-value c =
-    let e = handed_by c.args.request.now c.args.reply.now c.judge-verdict.result c.judge-verdict.ensures ∙ sym c.piece-piece.ensures in
+    let e = handed_by c.args.request.now c.args.reply.now c.judge.result c.judge.ensures ∙ sym c.of-from.ensures in
     rw e (cut_out c.args.reply.now _ _)
 
 pub returns-clause-place : goal.returns-clause-place
 returns-clause-place c =
-    let e = handed_by c.args.request.now c.args.reply.now c.judge-verdict.result c.judge-verdict.ensures ∙ sym c.piece-piece.ensures in
+    let e = handed_by c.args.request.now c.args.reply.now c.judge.result c.judge.ensures ∙ sym c.of-from.ensures in
     rw e
