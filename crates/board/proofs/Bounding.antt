@@ -1,9 +1,10 @@
 -- R1 to R3: the tests one by one, and what a call that is not refused may rely on. Assumes nothing.
 use Prim.Native.Nat.{ℕ, ◌≤◌, ◌<◌}
 use native.Mathlib.Omega.{arith}
-use mathlib.Core.Path.{◌≡◌, refl, sym, ap, ◌∙◌}
-use mathlib.Core.Bool.{Bool, true, false, not, ◌&&◌, false≢true}
+use mathlib.Core.Path.{◌≡◌, refl, sym, ap}
+use mathlib.Core.Bool.{Bool, true, false, not}
 use mathlib.Core.List.{List}
+use Rattle.std.proofs.Common.{Result, Ok, Err}
 use borrow.Author.Tests.{le-leb, lt-leb, eq-eqb, ne_eqb, leb-true, eqb-true, eqb-false, ltb-false}
 use lib.Dec.{eqb, leb, ltb}
 use lib.ListN.{length, take, length-take}
@@ -15,9 +16,9 @@ use Rattle.line.specs.declared.plate.Plate as line
 use Rattle.line.specs.Line.{plate_of}
 use Rattle.board.specs.declared.limits.Board.{Board}
 use Rattle.board.specs.Work.{Ready}
-use Rattle.board.specs.declared.limits.Outcome.{Outcome}
-use Rattle.board.specs.declared.limits.Outcome.TheVariants.{R1, R2, R3, Still}
-use Rattle.board.specs.Board.{state_of, fits_in, within, refusal_on, refused_as, refusal_number, is_refusal}
+use Rattle.board.specs.declared.calls.Refusal.{Refusal}
+use Rattle.board.specs.declared.calls.Refusal.TheVariants.{R1, R2, R3}
+use Rattle.board.specs.Board.{state_of, fits_in, within, taken_if, refusal_on, refused_as, refusal_number}
 use Rattle.meaning.proofs.Choices.{true-told, both_left, both_true, both_false, and_both}
 use Rattle.meaning.proofs.Calls.{few_refusals}
 use Rattle.meaning.proofs.Limits.{Lim, to_lim}
@@ -48,43 +49,63 @@ module _ (p : Plate) (b : Board) (kept : List ℕ) where
   unfolding within
   by_state e h all f = rw (le-leb b.frame.len 135 h, e) (f (few-taken b.frame.len kept all))
 
+-- a test that fails is R1
+pub refused_one : {A : Type 0} (x : A) {t : Bool} → false ≡ t → Err R1 ≡ taken_if t x
+refused_one x e = rw (← e)
+
+pub taken_one : {A : Type 0} (x : A) {t : Bool} → true ≡ t → Ok x ≡ taken_if t x
+taken_one x e = rw (← e)
+
+-- .., and what that says of the limits
+r1-told : {A : Type 0} (x : A) {e : Refusal} (t : Bool) → Err e ≡ taken_if t x → (e ≡ R1) × (t ≡ false)
+r1-told x true h = cc
+r1-told x false h = (cc, refl)
+
+pub none-told : {A : Type 0} (x : A) {y : A} (t : Bool) → Ok y ≡ taken_if t x → t ≡ true
+none-told x true h = refl
+none-told x false h = cc
+
 -- R1 by its tests: enough places, plate, state
-possible : (x q y z w : Bool) (n : ℕ) → (q ≡ true → w ≡ both x (both y z)) → pick (both x q) (pick (either (not y) (not z)) 1 n) 1 ≡ pick (w && q) n 1
-possible true false y z true n h = refl
-possible true false y z false n h = refl
-possible false false y z true n h = refl
-possible false false y z false n h = refl
-possible false true y z w n h = rw (h refl)
-possible true true false z w n h = rw (h refl)
-possible true true true false w n h = rw (h refl)
-possible true true true true w n h = rw (h refl)
+within_told : (x y z : Bool) (n : ℕ) → pick x (pick (either (not y) (not z)) 1 n) 1 ≡ pick (both x (both y z)) n 1
+within_told true true true n = refl
+within_told true true false n = refl
+within_told true false z n = refl
+within_told false y z n = refl
 
-other_way : (s : Bool) (n : ℕ) → pick (not s) 2 n ≡ pick s n 2
-other_way true n = refl
-other_way false n = refl
+module _ (p : Plate) (b : Board) (k m : List ℕ) (r : ℕ) (g : Call) where
+  pub too_few_places : (length k ≡ 135 → ⊥) → Err R1 ≡ refused_as (refusal_on p b k m r g) (tt {0})
+  unfolding refusal_on fits_in refused_as
+  too_few_places h = rw (ne_eqb (length k) 135 h, both_false (leb b.frame.len 135))
 
-module _ (p : Plate) (b : Board) (k : List ℕ) where
-  limit_told : {w : Bool} (n : ℕ) → (length k ≡ 135 → w ≡ within p b k) → pick (fits_in b k) (pick (either (not (plate_ok p)) (not (state_ok p (state_of b k)))) 1 n) 1 ≡ pick (w && eqb (length k) 135) n 1
-  unfolding fits_in within
-  limit_told {w} n h =
-      possible (leb b.frame.len 135) (eqb (length k) 135) (plate_ok p) (state_ok p (state_of b k)) w n (λ e. h (eqb-true (length k) 135 e))
+  module _ (all : length k ≡ 135) where
+    -- what is left where R1 does not apply
+    by_limits : refusal_on p b k m r g ≡ pick (within p b k) (pick (lends g) (pick (not (eqb (length m) (memory_length p.total))) 2 (pick (ltb r 134) 3 0)) 0) 1
+    unfolding refusal_on refused_by fits_in within
+    by_limits =
+        rw (eq-eqb (length k) 135 all, and_both (leb b.frame.len 135) true, both_true (leb b.frame.len 135))
+        (within_told (leb b.frame.len 135) (plate_ok p) (state_ok p (state_of b k)) _)
 
-  -- of a call that lends nothing: R1 alone
-  pub alone_by : (m : List ℕ) (r : ℕ) (g : Call) → length k ≡ 135 → lends g ≡ false → refusal_on p b k m r g ≡ pick (within p b k) 0 1
-  unfolding refusal_on refused_by
-  alone_by m r g e l = rw l (limit_told 0 (λ z. refl) ∙ rw (eq-eqb (length k) 135 e, and_both (within p b k) true, both_true (within p b k)))
+    pub told-r1 : {A : Type 0} (x : A) {e : Refusal} → Err e ≡ taken_if (within p b k) x → Err e ≡ refused_as (refusal_on p b k m r g) x
+    unfolding refused_as
+    told-r1 x h = let t = r1-told x (within p b k) h in rw (by_limits, t.1, t.0)
 
-  -- of one that lends: R1 to R3 in that order, by what the tests told
-  pub in_order : (m : List ℕ) (r : ℕ) (g : Call) {w x s t : Bool} {kept memory : ℕ} → (length k ≡ 135 → w ≡ within p b k) → length k ≡ kept → length m ≡ memory → lends g ≡ true
-      → w && eqb kept 135 ≡ x → eqb memory (memory_length p.total) ≡ s → ltb r 134 ≡ t → pick x (pick s (pick t 3 0) 2) 1 ≡ refusal_on p b k m r g
-  unfolding refusal_on refused_by
-  in_order m r g {w} h e f l i j o =
-      rw (l, ← i, ← j, ← o, ← e, ← f)
-      (sym (limit_told _ h ∙ ap (λ (n : ℕ). pick (w && eqb (length k) 135) n 1) (other_way (eqb (length m) (memory_length p.total)) _)))
+    -- of a call that lends nothing: R1 alone
+    pub alone_by : lends g ≡ false → refusal_on p b k m r g ≡ pick (within p b k) 0 1
+    alone_by l = rw (by_limits, l)
 
--- memory's length by the plate
-pub sized : (a : ℕ) {b c : ℕ} {t : Bool} → b ≡ c → eqb a b ≡ t → eqb a c ≡ t
-sized a e h = rw e at h
+    -- of one that lends: R1 to R3 in that order
+    module _ (fine : Ok tt ≡ taken_if (within p b k) (tt {0})) (l : lends g ≡ true) where
+      pub told-size : (length m ≡ memory_length p.total → ⊥) → Err R2 ≡ refused_as (refusal_on p b k m r g) (tt {0})
+      unfolding refused_as
+      told-size h = rw (by_limits, none-told (tt {0}) (within p b k) fine, l, ne_eqb (length m) (memory_length p.total) h)
+
+      pub told-rest : length m ≡ memory_length p.total → {t : Bool} → ltb r 134 ≡ t → pick t (Err R3) (Ok (tt {0})) ≡ refused_as (refusal_on p b k m r g) (tt {0})
+      unfolding refused_as
+      told-rest h {t} e = rw (by_limits, none-told (tt {0}) (within p b k) fine, l, eq-eqb (length m) (memory_length p.total) h, e) (go t)
+        where
+          go : (t : Bool) → pick t (Err R3) (Ok (tt {0})) ≡ refused_as (pick t 3 0) (tt {0})
+          go true = refl
+          go false = refl
 
 -- R1 to R3 have no higher number
 pub refusal-few : (p : Plate) (b : Board) (kept m : List ℕ) (r : ℕ) (g : Call) → refusal_on p b kept m r g ≤ 3
@@ -97,40 +118,43 @@ refusal-few p b kept m r g = go (fits_in b kept)
 
 -- ---- refusals by number and by case
 
-pub as_told : {n k : ℕ} → n ≡ k → refused_as n Still ≡ refused_as k Still
-as_told e = ap (λ (x : ℕ). refused_as x Still) e
+-- by its number
+pub as_told : {A : Type 0} (x : A) {n k : ℕ} → n ≡ k → refused_as n x ≡ refused_as k x
+as_told x e = ap (λ (i : ℕ). refused_as i x) e
+
+-- what is refused, and what is not
+pub some-refused : {A : Type 0} (n : ℕ) (x : A) {e : Refusal} → Err e ≡ refused_as n x → n ≡ 0 → ⊥
+unfolding refused_as
+some-refused n x h z = let k = rw z at h in cc
+
+pub none-refused : {A : Type 0} (n : ℕ) (x : A) {y : A} → Ok y ≡ refused_as n x → n ≡ 0
+unfolding refused_as
+none-refused {A} n x {y} = go (eqb n 0) (eqb n 1) (eqb n 2) refl
+  where
+    go : (s t u : Bool) → eqb n 0 ≡ s → ◌≡◌ {A = Result A Refusal} (Ok y) (pick s (Ok x) (pick t (Err R1) (pick u (Err R2) (Err R3)))) → n ≡ 0
+    go true t u k e = eqb-true n 0 k
+    go false true u k e = cc
+    go false false true k e = cc
+    go false false false k e = cc
 
 -- a refusal is the same, whatever else would have come of the call
-pub refused-alike : (n : ℕ) (x y : Outcome) → (n ≡ 0 → ⊥) → refused_as n x ≡ refused_as n y
+pub refused-alike : {A B : Type 0} (n : ℕ) (x : A) (y : B) {e : Refusal} → (n ≡ 0 → ⊥) → Err e ≡ refused_as n x → Err e ≡ refused_as n y
 unfolding refused_as
-refused-alike n x y h = rw (ne_eqb n 0 h)
-
-pub none-refused : (n : ℕ) (o : Outcome) → is_refusal (refused_as n o) ≡ false → n ≡ 0
-unfolding refused_as
-none-refused n o = go (eqb n 0) (eqb n 1) (eqb n 2) refl
+refused-alike {A} {B} n x y {e} h = rw (ne_eqb n 0 h) (go (eqb n 1) (eqb n 2))
   where
-    go : (x y z : Bool) → eqb n 0 ≡ x → is_refusal (pick x o (pick y R1 (pick z R2 R3))) ≡ false → n ≡ 0
-    go true y z k e = eqb-true n 0 k
-    go false true z k e = absurd (false≢true (sym e))
-    go false false true k e = absurd (false≢true (sym e))
-    go false false false k e = absurd (false≢true (sym e))
-
--- .., by the outcome and what was asked of it
-pub nothing_refused : {n : ℕ} {o : Outcome} {t : Bool} → o ≡ refused_as n Still → t ≡ is_refusal o → t ≡ false → n ≡ 0
-nothing_refused {n} told asked not_so = none-refused n Still (ap is_refusal (sym told) ∙ sym asked ∙ not_so)
-
-pub some-refused : (n : ℕ) (o : Outcome) → is_refusal o ≡ false → is_refusal (refused_as n o) ≡ true → n ≡ 0 → ⊥
-unfolding refused_as
-some-refused n o i e z = false≢true (sym i ∙ rw z at e)
+    go : (t u : Bool) → ◌≡◌ {A = Result A Refusal} (Err e) (pick t (Err R1) (pick u (Err R2) (Err R3))) → ◌≡◌ {A = Result B Refusal} (Err e) (pick t (Err R1) (pick u (Err R2) (Err R3)))
+    go true u i = cc
+    go false true i = cc
+    go false false i = cc
 
 -- 01's number of a refusal comes back
-pub number-back : (n : ℕ) (o : Outcome) → n ≤ 3 → refusal_number o ≡ 0 → refusal_number (refused_as n o) ≡ n
+pub number-back : {A : Type 0} (n : ℕ) (x : A) → n ≤ 3 → refusal_number (refused_as n x) ≡ n
 unfolding refused_as
-number-back n o h z = go (eqb n 0) (eqb n 1) (eqb n 2) refl refl refl
+number-back n x h = go (eqb n 0) (eqb n 1) (eqb n 2) refl refl refl
   where
-    go : (x y w : Bool) → eqb n 0 ≡ x → eqb n 1 ≡ y → eqb n 2 ≡ w → refusal_number (pick x o (pick y R1 (pick w R2 R3))) ≡ n
-    go true y w i j k = z ∙ sym (eqb-true n 0 i)
-    go false true w i j k = sym (eqb-true n 1 j)
+    go : (s t u : Bool) → eqb n 0 ≡ s → eqb n 1 ≡ t → eqb n 2 ≡ u → refusal_number (pick s (Ok x) (pick t (Err R1) (pick u (Err R2) (Err R3)))) ≡ n
+    go true t u i j k = sym (eqb-true n 0 i)
+    go false true u i j k = sym (eqb-true n 1 j)
     go false false true i j k = sym (eqb-true n 2 k)
     go false false false i j k = omega (arith, eqb-false n 0 i, eqb-false n 1 j, eqb-false n 2 k)
 

@@ -19,27 +19,25 @@ use Rattle.meaning.proofs.Puts.{length-put}
 use Rattle.meaning.proofs.Limits.{keeps_limits, fresh-within}
 use Rattle.meaning.proofs.Sizes.{keeps_size}
 use Rattle.line.specs.declared.characters.OpenFrame.{OpenFrame}
-use Rattle.line.specs.declared.characters.Remaining.{Remaining}
 use Rattle.line.specs.Line.{line_of, remaining_of}
-use Rattle.line.proofs.Tight.{same-line-same-frame, put-long, there_and_back, same-remaining}
+use Rattle.line.proofs.Tight.{same-line-same-frame, put-long, same-remaining}
 use Rattle.state.specs.declared.state.State.{State}
 use Rattle.state.proofs.Same.{same-state}
 use Rattle.board.specs.declared.limits.Board.{Board}
-use Rattle.board.specs.declared.limits.Outcome as code
-use Rattle.board.specs.declared.limits.Carried.{Carried}
-use Rattle.board.specs.declared.limits.Carried.TheVariants.{Nothing, Carries}
-use Rattle.board.specs.declared.limits.Stepped.{Stepped}
-use Rattle.board.specs.Board.{state_of, fits_in, refusal_on, refused_as, called_on, outcome_of, carried_of, ReadsOldest, Steps}
+use Rattle.board.specs.declared.calls.Refusal.{Refusal}
+use Rattle.board.specs.declared.calls.Stepped.{Stepped}
+use Rattle.board.specs.Board.{state_of, fits_in, refusal_on, refused_as, called_on, outcome_of, told_of, carried_by, carried_of, board_after, unheard, ReadsOldest, Steps}
+use Rattle.std.proofs.Common.{Option, None, Some, Result, Ok, Err, IsOk}
 use Rattle.board.specs.Promises.{DoesStep, Within, SinceFresh, start, next}
 use Rattle.meaning.proofs.Choices.{told-true, true-told, pick_same}
 use Rattle.board.proofs.Bounding.{lends-poll}
 use Rattle.board.specs.declared.faults.Oldest.{Oldest}
 use Rattle.board.specs.Quick.{TakesIn}
-use Rattle.board.proofs.Stepping.{held_on, same_len}
-use Rattle.board.proofs.Quickening.{fits_told, carried_back}
+use Rattle.board.proofs.Stepping.{held_on, same_len, told-ok, unchanged}
+use Rattle.board.proofs.Quickening.{fits_told}
 
 -- where nothing is refused, the call does the meaning's step
-module _ (p : Plate) (b : Board) (k m w : List ℕ) {r : Stepped} {k' m' w' : List ℕ} where
+module _ (p : Plate) (b : Board) (k m w : List ℕ) {r : Result Stepped Refusal} {k' m' w' : List ℕ} where
   pub does_step : (g : Call) → refusal_on p b k m (length w) g ≡ 0 → Steps p b k m w g r k' m' w' → DoesStep p b k m w g r k' m' w'
   unfolding outcome_of refused_as
   does_step g e s =
@@ -63,6 +61,10 @@ module _ (p : Plate) (b : Board) (k m w : List ℕ) {r : Stepped} {k' m' w' : Li
   pub power_on_steps : refusal_on p b k m (length w) run.power_on ≡ 0 → Steps p b k m w run.power_on r k' m' w' → DoesStep p b k m w run.power_on r k' m' w'
   power_on_steps = does_step run.power_on
 
+-- .. and answers it
+pub is_answered : (p : Plate) (b : Board) (k m w : List ℕ) (g : Call) {r : Result Stepped Refusal} {k' m' w' : List ℕ} → refusal_on p b k m (length w) g ≡ 0 → Steps p b k m w g r k' m' w' → IsOk r
+is_answered p b k m w g {r} e s = told-ok r (does_step p b k m w g e s).outcome
+
 -- within the limits and with room enough nothing is refused
 pub unrefused : (p : Plate) (b : Board) (k m : List ℕ) (n : ℕ) (g : Call) → Within p b k m → 134 ≤ n → refusal_on p b k m n g ≡ 0
 unfolding refusal_on refused_by fits_in
@@ -71,16 +73,16 @@ unrefused p b k m n g h wide =
     (pick_same (lends g) 0)
 
 -- and an unrefused call stays within
-pub stays_within : (p : Plate) (b : Board) (k m w : List ℕ) (g : Call) {r : Stepped} {k' m' w' : List ℕ} → Within p b k m → 134 ≤ length w
-    → Steps p b k m w g r k' m' w' → Within p r.board k' m'
+pub stays_within : (p : Plate) (b : Board) (k m w : List ℕ) (g : Call) {r : Result Stepped Refusal} {k' m' w' : List ℕ} → Within p b k m → 134 ≤ length w
+    → Steps p b k m w g r k' m' w' → Within p (board_after b r) k' m'
 stays_within p b k m w g {r} {k'} h wide s =
     let e = unrefused p b k m (length w) g h wide in
     let d = does_step p b k m w g e s in
     let q = ap (λ (x : Held). x.refusal) (held_on p b k m w g e) in
     let ln : Line = (step p (state_of b k) m g).state.line in
     let kk : k' ≡ put k 0 ln.kept = rw (held_on p b k m w g e) at s.bytes in
-    let same : take r.board.frame.len k' ≡ ln.kept = ap (λ (x : meaning.State). x.line.kept) d.state in
-    let low : length ln.kept ≤ 135 = rw (← same) (omega (arith, length-take r.board.frame.len k', s.few q)) in
+    let same : take (board_after b r).frame.len k' ≡ ln.kept = ap (λ (x : meaning.State). x.line.kept) d.state in
+    let low : length ln.kept ≤ 135 = rw (← same) (omega (arith, length-take (board_after b r).frame.len k', s.few q)) in
     record {
       plate = h.plate;
       state = rw d.state (told-true (state_ok p (step p (state_of b k) m g).state) (keeps_limits p (state_of b k) m g (true-told (state_ok p (state_of b k)) h.state)));
@@ -108,7 +110,7 @@ same-state-same-board a b k h i j e =
     boards (same-state a.state b.state (line_of a.frame k) (line_of b.frame k) e) (same-line-same-frame a.frame b.frame k h i j l)
 
 -- what a contract's outcome is made of
-pub record Alike (r t : Stepped) (k' k'' m' m'' w' w'' : List ℕ) : Type 0 where
+pub record Alike (r t : Result Stepped Refusal) (k' k'' m' m'' w' w'' : List ℕ) : Type 0 where
   pub stepped : r ≡ t
   pub kept : k' ≡ k''
   pub memory : m' ≡ m''
@@ -125,48 +127,62 @@ has_places p b k m w g e = go (leb b.frame.len 135) (eqb (length k) 135) refl e
     go true false q e = absurd (omega arith)
     go false false q e = absurd (omega arith)
 
-outcomes : {a b : Board} {x y : code.Outcome} {s t : Carried} → a ≡ b → x ≡ y → s ≡ t
-    → ◌≡◌ {A = Stepped} (record { board = a; outcome = x; sleep = s }) (record { board = b; outcome = y; sleep = t })
-outcomes i j n = rw (i, j, n)
-
 -- the meaning's case says what is carried in the code
-carried_back_lem : (c : Carried) → carried_back (carried_of c) ≡ c
-carried_back_lem Nothing = refl
-carried_back_lem (Carries r) = ap Carries (there_and_back r)
+same-carried : (lent : Bool) (x y : Option ℕ) → carried_by lent x ≡ carried_by lent y → x ≡ y
+same-carried lent (Some n) (Some l) e = cc
+same-carried true (Some n) None e = cc
+same-carried false (Some n) None e = cc
+same-carried true None (Some n) e = cc
+same-carried false None (Some n) e = cc
+same-carried lent None None e = refl
 
-same-carried : (a b : Carried) → carried_of a ≡ carried_of b → a ≡ b
-same-carried a b e = sym (carried_back_lem a) ∙ ap carried_back e ∙ carried_back_lem b
+answers : {a b : Board} {x y u v : Option ℕ} → a ≡ b → x ≡ y → u ≡ v
+    → ◌≡◌ {A = Stepped} (record { board = a; reply = x; remaining = u }) (record { board = b; reply = y; remaining = v })
+answers i j n = rw (i, j, n)
+
+-- no two differing answers tell the same, carry the same and leave the same board
+same-answer : (b : Board) (g : Call) (r t : Result Stepped Refusal) → told_of r ≡ told_of t → carried_of g r ≡ carried_of g t → board_after b r ≡ board_after b t → r ≡ t
+same-answer b g (Ok x) (Ok y) h i j = ap Ok (answers j (cc) (same-carried (lends g) x.remaining y.remaining i))
+same-answer b g (Ok x) (Err e) h i j = cc
+same-answer b g (Err e) (Ok y) h i j = cc
+same-answer b g (Err e) (Err f) h i j = cc
 
 -- no two differing outcomes satisfy the contract of a call
-pub calls_tight : (p : Plate) (b : Board) (k m w : List ℕ) (g : Call) {r t : Stepped} {k' k'' m' m'' w' w'' : List ℕ} → Steps p b k m w g r k' m' w'
+pub calls_tight : (p : Plate) (b : Board) (k m w : List ℕ) (g : Call) {r t : Result Stepped Refusal} {k' k'' m' m'' w' w'' : List ℕ} → Steps p b k m w g r k' m' w'
     → Steps p b k m w g t k'' m'' w'' → Alike r t k' k'' m' m'' w' w''
 calls_tight p b k m w g {r} {t} {k'} {k''} x y =
     record {
-      stepped = outcomes (go (ℕ_discrete (called_on p b k m w g).refusal 0)) (x.outcome ∙ sym y.outcome) (same-carried r.sleep t.sleep (x.sleep ∙ sym y.sleep));
+      stepped = same-answer b g r t (x.outcome ∙ sym y.outcome) (x.sleep ∙ sym y.sleep) (go (ℕ_discrete (called_on p b k m w g).refusal 0));
       kept = x.bytes ∙ sym y.bytes;
       memory = x.memory ∙ sym y.memory;
       room = x.room ∙ sym y.room;
     }
   where
-    go : Dec ((called_on p b k m w g).refusal ≡ 0) → r.board ≡ t.board
+    go : Dec ((called_on p b k m w g).refusal ≡ 0) → board_after b r ≡ board_after b t
     go (yes e) =
         let kk : k' ≡ k'' = x.bytes ∙ sym y.bytes in
         let long : 135 ≤ length k' = rw x.bytes (omega (arith, put-long k (called_on p b k m w g).state.line.kept, has_places p b k m w g e)) in
-        same-state-same-board r.board t.board k' (x.few e) (y.few e) long (x.state ∙ sym (ap (state_of t.board) kk ∙ y.state))
-    go (no h) = x.refused h ∙ sym (y.refused h)
+        same-state-same-board (board_after b r) (board_after b t) k' (x.few e) (y.few e) long (x.state ∙ sym (ap (state_of (board_after b t)) kk ∙ y.state))
+    go (no h) = unchanged p b k m w g h x ∙ sym (unchanged p b k m w g h y)
 
-pub refusal_tight : (p : Plate) (b : Board) (k m n : ℕ) (x y : code.Outcome)
-    → ((kept mem : List ℕ) (g : Call) → length kept ≡ k → length mem ≡ m → lends g ≡ true → x ≡ refused_as (refusal_on p b kept mem n g) code.TheVariants.Still)
-    → ((kept mem : List ℕ) (g : Call) → length kept ≡ k → length mem ≡ m → lends g ≡ true → y ≡ refused_as (refusal_on p b kept mem n g) code.TheVariants.Still) → x ≡ y
+pub refusal_tight : (p : Plate) (b : Board) (k m n : ℕ) (x y : Result Unit Refusal)
+    → ((kept mem : List ℕ) (g : Call) → length kept ≡ k → length mem ≡ m → lends g ≡ true → x ≡ refused_as (refusal_on p b kept mem n g) (tt {0}))
+    → ((kept mem : List ℕ) (g : Call) → length kept ≡ k → length mem ≡ m → lends g ≡ true → y ≡ refused_as (refusal_on p b kept mem n g) (tt {0})) → x ≡ y
 refusal_tight p b k m n x y h i =
     h (zeros k) (zeros m) (run.poll 0) (length-replicate {A = ℕ} k 0) (length-replicate {A = ℕ} m 0) (lends-poll 0)
     ∙ sym (i (zeros k) (zeros m) (run.poll 0) (length-replicate {A = ℕ} k 0) (length-replicate {A = ℕ} m 0) (lends-poll 0))
 
+same-unheard : (r t : Result Board Refusal) → unheard r ≡ unheard t → r ≡ t
+same-unheard (Ok x) (Ok y) h = ap Ok (ap (board_after x) h)
+same-unheard (Ok x) (Err e) h = cc
+same-unheard (Err e) (Ok y) h = cc
+same-unheard (Err e) (Err f) h = cc
+
 -- the calls that lend nothing, whatever the host holds
-pub alone_tight : (p : Plate) (b : Board) (g : Call) (r t : Stepped) → ((kept m w : List ℕ) → length kept ≡ 135 → Steps p b kept m w g r kept m w)
-    → ((kept m w : List ℕ) → length kept ≡ 135 → Steps p b kept m w g t kept m w) → r ≡ t
+pub alone_tight : (p : Plate) (b : Board) (g : Call) (r t : Result Board Refusal) → ((kept m w : List ℕ) → length kept ≡ 135 → Steps p b kept m w g (unheard r) kept m w)
+    → ((kept m w : List ℕ) → length kept ≡ 135 → Steps p b kept m w g (unheard t) kept m w) → r ≡ t
 alone_tight p b g r t h i =
-    (calls_tight p b (zeros 135) [] [] g (h (zeros 135) [] [] (length-replicate {A = ℕ} 135 0)) (i (zeros 135) [] [] (length-replicate {A = ℕ} 135 0))).stepped
+    same-unheard r t (calls_tight p b (zeros 135) [] [] g (h (zeros 135) [] [] (length-replicate {A = ℕ} 135 0)) (i (zeros 135) [] [] (length-replicate {A = ℕ} 135 0))).stepped
 
 -- ---- what a board says of any places, it says of itself
 
@@ -206,7 +222,7 @@ is_open_tight b x y h i = h [] ∙ sym (i [])
 
 -- ---- the quick way
 
-pub remaining_tight : (p : Plate) (b : Board) (t : ℕ) (x y : Remaining) → ((kept : List ℕ) → remaining_of x ≡ remaining p (state_of b kept) t)
+pub remaining_tight : (p : Plate) (b : Board) (t : ℕ) (x y : Option ℕ) → ((kept : List ℕ) → remaining_of x ≡ remaining p (state_of b kept) t)
     → ((kept : List ℕ) → remaining_of y ≡ remaining p (state_of b kept) t) → x ≡ y
 remaining_tight p b t x y h i = same-remaining x y (h [] ∙ sym (i []))
 

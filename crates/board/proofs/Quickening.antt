@@ -9,20 +9,19 @@ use lib.ListN.{length}
 use Rattle.meaning.specs.Bytes.{pick, put}
 use Rattle.meaning.specs.State as meaning
 use Rattle.meaning.specs.State.{Plate, none, with_line}
-use Rattle.meaning.specs.Characters.{over, more, taken}
+use Rattle.meaning.specs.Characters as characters
+use Rattle.meaning.specs.Characters.{remaining, over, more, taken}
 use Rattle.meaning.specs.Frames.{Outcome, still, up_to}
 use Rattle.meaning.specs.Run as run
-use Rattle.meaning.specs.Run.{Call, character, poll, measured, fault, power_on, step, closes, carried}
+use Rattle.meaning.specs.Run.{Call, character, poll, measured, fault, power_on, step, closes, carried, lends}
 use Rattle.meaning.proofs.Choices.{both_left, both_right}
 use Rattle.line.specs.declared.characters.OpenFrame.{OpenFrame}
 use Rattle.line.specs.Line.{line_of, Fits, Extends}
-use Rattle.line.proofs.Tight.{remaining_back, back_and_there}
+use Rattle.line.proofs.Tight.{remaining_back}
 use Rattle.meaning.proofs.Puts.{put-nothing}
 use Rattle.board.specs.declared.limits.Board.{Board}
-use Rattle.board.specs.declared.limits.Carried.{Carried}
-use Rattle.board.specs.declared.limits.Carried.TheVariants.{Nothing, Carries}
-use Rattle.board.specs.declared.limits.Outcome.TheVariants.{Still}
-use Rattle.board.specs.Board.{state_of, fits_in, refusal_on, carried_of, Steps}
+use Rattle.std.proofs.Common.{Option, None, Ok}
+use Rattle.board.specs.Board.{state_of, fits_in, refusal_on, carried_by, Steps}
 use Rattle.board.specs.Quick.{TakesIn, ClosesNone}
 use Rattle.board.proofs.Stepping.{put-own, stepped}
 
@@ -74,20 +73,28 @@ module _ (p : Plate) (b : Board) (kept : List ℕ) (t : ℕ) (o : over p (state_
   polled-quickly fits = record { none = o; state = λ m. rw o; bytes = put-own kept b.frame.len; fits = fits }
 
 -- what is carried, in the code's cases
-abbrev pub carried_back : run.Carried → Carried
-carried_back run.nothing = Nothing
-carried_back (run.carries r) = Carries (remaining_back r)
+abbrev pub carried_back : run.Carried → Option ℕ
+carried_back run.nothing = None
+carried_back (run.carries r) = remaining_back r
 
-carried_forth : (x : run.Carried) → carried_of (carried_back x) ≡ x
-carried_forth run.nothing = refl
-carried_forth (run.carries r) = ap run.carries (back_and_there r)
+forth : (r : characters.Remaining) → carried_by true (remaining_back r) ≡ run.carries r
+forth characters.no_frame_open = refl
+forth (characters.ticks_left n) = refl
+
+carried_forth : (p : Plate) (s : meaning.State) (g : Call) → carried_by (lends g) (carried_back (carried p s g)) ≡ carried p s g
+unfolding lends carried
+carried_forth p s (character t v bad) = forth (remaining p s t)
+carried_forth p s (poll t) = forth (remaining p s t)
+carried_forth p s (measured n) = refl
+carried_forth p s (fault c) = refl
+carried_forth p s power_on = refl
 
 -- .. so where nothing is refused, the quick way is the call
 pub quick_steps : (p : Plate) (b : Board) (k m w : List ℕ) (g : Call) {b' : Board} {k' : List ℕ} → refusal_on p b k m (length w) g ≡ 0
-    → ClosesNone p b k g b' k' → Steps p b k m w g (record { board = b'; outcome = Still; sleep = carried_back (carried p (state_of b' k') g) }) k' m w
+    → ClosesNone p b k g b' k' → Steps p b k m w g (Ok (record { board = b'; reply = None; remaining = carried_back (carried p (state_of b' k') g) })) k' m w
 unfolding still
 quick_steps p b k m w g {b'} {k'} e q =
-    let z = carried_forth (carried p (state_of b' k') g) in
+    let z = carried_forth p (state_of b' k') g in
     let s = quiet_step p (state_of b k) m g q.none in
-    stepped p b k m w g e (rw q.none) (z ∙ ap (λ (x : meaning.State). carried p x g) (q.state m)) (q.state m) (q.bytes ∙ ap (λ (x : meaning.State). put k 0 x.line.kept) (q.state m)) (sym (ap (λ (o : Outcome). o.memory) s))
+    stepped p b k m w g e refl (rw q.none) (z ∙ ap (λ (x : meaning.State). carried p x g) (q.state m)) (q.state m) (q.bytes ∙ ap (λ (x : meaning.State). put k 0 x.line.kept) (q.state m)) (sym (ap (λ (o : Outcome). o.memory) s))
     (put-nothing w 0 ∙ sym (ap (λ (o : Outcome). put w 0 o.reply) s)) (fits_told b' k' q.fits).few

@@ -19,8 +19,6 @@ use Rattle.meaning.specs.Frames as frames
 use Rattle.meaning.specs.Run as run
 use Rattle.meaning.specs.Run.{Call, Held, step, carried, untouched, left_by, called, closes, lends, refused_by}
 use Rattle.line.specs.declared.characters.OpenFrame.{OpenFrame}
-use Rattle.line.specs.declared.characters.Remaining.{Remaining}
-use Rattle.line.specs.declared.characters.Remaining.TheVariants.{NoFrameOpen}
 use Rattle.line.specs.Line.{line_of, remaining_of, no_frame, Fits, Extends}
 use Rattle.state.specs.declared.state.State.{State}
 use Rattle.state.specs.State.{state_with}
@@ -30,15 +28,13 @@ use Rattle.meaning.proofs.Rests.{work_rests}
 use Rattle.meaning.proofs.Sleeping.{none-carried, none-after-close, full-after-character}
 use Rattle.meaning.proofs.Puts.{put-nothing}
 use Rattle.board.specs.declared.limits.Board.{Board}
-use Rattle.board.specs.declared.limits.Outcome as code
-use Rattle.board.specs.declared.limits.Outcome.TheVariants.{R1, Still, Over}
-use Rattle.board.specs.declared.limits.Carried.{Carried}
-use Rattle.board.specs.declared.limits.Carried.TheVariants.{Nothing, Carries}
-use Rattle.board.specs.declared.limits.Stepped.{Stepped}
+use Rattle.board.specs.declared.calls.Refusal.{Refusal}
+use Rattle.board.specs.declared.calls.Stepped.{Stepped}
 use Rattle.board.specs.declared.closing.Closed.{Closed}
-use Rattle.board.specs.Board.{state_of, fits_in, within, taken_if, refusal_on, refused_as, is_refusal, called_on, outcome_of, carried_of, Steps}
+use Rattle.board.specs.Board.{state_of, fits_in, within, taken_if, refusal_on, refused_as, called_on, outcome_of, told_of, carried_by, board_after, unheard, Steps}
 use Rattle.board.specs.Work.{Closes}
-use Rattle.board.proofs.Bounding.{lends-poll, alone_by, few-kept, facts, as_told, refused-alike, none-refused, some-refused}
+use Rattle.board.proofs.Bounding.{lends-poll, alone_by, told-r1, none-told, few-kept, facts, refused-alike, none-refused, some-refused}
+use Rattle.std.proofs.Common.{Option, Some, None, Result, Ok, Err, IsOk}
 
 -- bytes put where they stand already
 pub put-own : (kept : List ℕ) (n : ℕ) → kept ≡ put kept 0 (take n kept)
@@ -80,65 +76,57 @@ module _ (p : Plate) (b : Board) (k m w : List ℕ) (g : Call) where
       go true z = let e = eqb-true (refusal_on p b k m (length w) g) 0 z in ap (λ (h : Held). h.refusal) (held_on e) ∙ sym e
       go false z = ap (λ (h : Held). h.refusal) (held-refused refl (eqb-false (refusal_on p b k m (length w) g) 0 z))
 
-  pub refused : {o : code.Outcome} {r : Stepped} → r ≡ (record { board = b; outcome = o; sleep = Nothing }) → o ≡ refused_as (refusal_on p b k m (length w) g) Still
-      → is_refusal o ≡ true → Steps p b k m w g r k m w
+  pub refused : {A : Type 0} (x : A) {r : Result Stepped Refusal} {e : Refusal} → r ≡ Err e → Err e ≡ refused_as (refusal_on p b k m (length w) g) x → Steps p b k m w g r k m w
   unfolding outcome_of
-  refused {o} q e i =
+  refused x q i =
       let n : ℕ = refusal_on p b k m (length w) g in
-      let h : n ≡ 0 → ⊥ = some-refused n Still refl (rw e at i) in
+      let h : n ≡ 0 → ⊥ = some-refused n x i in
       let held = held-refused refl h in
       record {
-        outcome = rw (q, held) (e ∙ refused-alike n Still _ h);
+        outcome = rw (q, held) (refused-alike n x _ h i);
         sleep = rw (q, held);
         state = rw (q, held);
         bytes = rw held (put-own k b.frame.len);
         memory = rw held;
         room = rw held;
         few = λ y. absurd (h (ap (λ (x : Held). x.refusal) (sym held) ∙ y));
-        refused = λ y. rw q;
       }
 
-  pub stepped : {r : Stepped} {k' m' w' : List ℕ} → refusal_on p b k m (length w) g ≡ 0
-      → r.outcome ≡ pick (closes p (state_of b k) g) (Over (length told.reply)) Still → carried_of r.sleep ≡ carried p told.state g → state_of r.board k' ≡ told.state
-      → k' ≡ put k 0 told.state.line.kept → m' ≡ told.memory → w' ≡ put w 0 told.reply → r.board.frame.len ≤ 135
+  pub stepped : {r : Result Stepped Refusal} {s : Stepped} {k' m' w' : List ℕ} → refusal_on p b k m (length w) g ≡ 0 → r ≡ Ok s
+      → s.reply ≡ pick (closes p (state_of b k) g) (Some (length told.reply)) None → carried_by (lends g) s.remaining ≡ carried p told.state g → state_of s.board k' ≡ told.state
+      → k' ≡ put k 0 told.state.line.kept → m' ≡ told.memory → w' ≡ put w 0 told.reply → s.board.frame.len ≤ 135
       → Steps p b k m w g r k' m' w'
   unfolding outcome_of refused_as
-  stepped e o z s kk mm ww few =
+  stepped e q o z s kk mm ww few =
       record {
-        outcome = rw (held_on e) o;
-        sleep = rw (held_on e) z;
-        state = rw (held_on e) s;
+        outcome = rw (q, held_on e) (ap Ok o);
+        sleep = rw (q, held_on e) z;
+        state = rw (q, held_on e) s;
         bytes = rw (held_on e) kk;
         memory = rw (held_on e) mm;
         room = rw (held_on e) ww;
-        few = λ y. few;
-        refused = λ y. absurd (y (ap (λ (x : Held). x.refusal) (held_on e)));
+        few = λ y. rw q few;
       }
 
-one_is_r1 : R1 ≡ refused_as 1 Still
-unfolding refused_as
-one_is_r1 = refl
+-- the calls that lend nothing, by the test of their limits
+module _ (p : Plate) (b : Board) (k m w : List ℕ) (g : Call) (all : length k ≡ 135) (l : lends g ≡ false) where
+  pub alone-refused : {r : Result Board Refusal} {e : Refusal} → r ≡ Err e → Err e ≡ taken_if (within p b k) (tt {0}) → Steps p b k m w g (unheard r) k m w
+  alone-refused q h = refused p b k m w g (tt {0}) (rw q) (told-r1 p b k m (length w) g all (tt {0}) h)
 
--- the calls that lend nothing, by what the board is told to be
-pub told_by_lem : (p : Plate) (b next : Board) (k : List ℕ) {t u : Bool} → t ≡ within p b k → t ≡ u → taken_if u b next ≡ taken_if (within p b k) b next
-told_by_lem p b next k e i = ap (λ (x : Bool). taken_if x b next) (sym i ∙ e)
-
-module _ (p : Plate) (b next : Board) (k m w : List ℕ) (g : Call) (all : length k ≡ 135) (l : lends g ≡ false) {r : Stepped} where
-  alone : refusal_on p b k m (length w) g ≡ 0 → r ≡ (record { board = next; outcome = Still; sleep = Nothing }) → closes p (state_of b k) g ≡ false
-      → state_of next k ≡ (step p (state_of b k) m g).state → still (step p (state_of b k) m g).state m ≡ step p (state_of b k) m g → next.frame.len ≤ 135
-      → Steps p b k m w g r k m w
+  pub alone : (next : Board) → Ok (tt {0}) ≡ taken_if (within p b k) (tt {0}) → closes p (state_of b k) g ≡ false
+      → state_of next k ≡ (step p (state_of b k) m g).state → still (step p (state_of b k) m g).state m ≡ step p (state_of b k) m g → (b.frame.len ≤ 135 → next.frame.len ≤ 135)
+      → Steps p b k m w g (unheard (Ok next)) k m w
   unfolding still
-  alone e q c h i few =
-      stepped p b k m w g e (rw (q, c)) (rw q (sym (none-carried p (step p (state_of b k) m g).state g l))) (rw q h) (put-own k next.frame.len ∙ ap (λ (x : meaning.State). put k 0 x.line.kept) h) (ap (λ (x : Outcome). x.memory) i)
-      (rw (← i) (put-nothing w 0)) (rw q few)
+  alone next fine c h i few =
+      let t = none-told (tt {0}) (within p b k) fine in
+      stepped p b k m w g (alone_by p b k m (length w) g all l ∙ rw t) refl (rw c) (rw l (sym (none-carried p (step p (state_of b k) m g).state g l))) h
+      (put-own k next.frame.len ∙ ap (λ (x : meaning.State). put k 0 x.line.kept) h) (ap (λ (x : Outcome). x.memory) i)
+      (rw (← i) (put-nothing w 0)) (few (few-kept p b k t))
 
-  pub tells : r ≡ taken_if (within p b k) b next → closes p (state_of b k) g ≡ false → state_of next k ≡ (step p (state_of b k) m g).state
-      → still (step p (state_of b k) m g).state m ≡ step p (state_of b k) m g → (b.frame.len ≤ 135 → next.frame.len ≤ 135) → Steps p b k m w g r k m w
-  tells q c h i few = go (within p b k) refl
-    where
-      go : (t : Bool) → within p b k ≡ t → Steps p b k m w g r k m w
-      go true e = alone (alone_by p b k m (length w) g all l ∙ rw e) (q ∙ rw e) c h i (few (few-kept p b k e))
-      go false e = refused p b k m w g (q ∙ rw e) (one_is_r1 ∙ as_told (sym (alone_by p b k m (length w) g all l ∙ rw e))) refl
+-- what a call that lends carries
+carries_left : (left : Option ℕ) → carried_by true left ≡ run.carries (remaining_of left)
+carries_left None = refl
+carries_left (Some n) = refl
 
 -- the calls that may close a frame
 module _ (p : Plate) (b : Board) (k m w : List ℕ) (t : ℕ) where
@@ -152,70 +140,73 @@ module _ (p : Plate) (b : Board) (k m w : List ℕ) (t : ℕ) where
   unfolding up_to frames.close resting with_line
   closed-now o = rw o
 
-  module _ {r : Stepped} where
-    pub poll-still : {s : State} {f : OpenFrame} {left : Remaining} → refusal_on p b k m (length w) (run.poll t) ≡ 0
-        → r ≡ (record { board = record { state = s; frame = f }; outcome = Still; sleep = Carries left }) → b ≡ (record { state = s; frame = f })
-        → remaining_of left ≡ remaining p (state_of b k) t → over p (state_of b k) t ≡ false → f.len ≤ 135 → Steps p b k m w (run.poll t) r k m w
-    unfolding step still closes carried
-    poll-still e q i z o few =
-        stepped p b k m w (run.poll t) e (rw (q, o)) (rw (q, still_there_lem o) (ap run.carries z)) (rw (q, still_there_lem o, i)) (rw (still_there_lem o) (put-own k b.frame.len)) (rw (still_there_lem o))
-        (rw (still_there_lem o) (put-nothing w 0)) (rw q few)
+  pub poll-still : {left : Option ℕ} → refusal_on p b k m (length w) (run.poll t) ≡ 0 → remaining_of left ≡ remaining p (state_of b k) t
+      → over p (state_of b k) t ≡ false → b.frame.len ≤ 135 → Steps p b k m w (run.poll t) (Ok (record { board = b; reply = None; remaining = left })) k m w
+  unfolding step still closes carried lends
+  poll-still {left} e z o few =
+      stepped p b k m w (run.poll t) e refl (rw o) (rw (still_there_lem o) (carries_left left ∙ ap run.carries z)) (rw (still_there_lem o)) (rw (still_there_lem o) (put-own k b.frame.len)) (rw (still_there_lem o))
+      (rw (still_there_lem o) (put-nothing w 0)) few
 
-    pub poll-over : {c : Closed} {f : OpenFrame} {m' w' : List ℕ} → refusal_on p b k m (length w) (run.poll t) ≡ 0
-        → r ≡ (record { board = record { state = c.state; frame = f }; outcome = Over c.sent; sleep = Carries NoFrameOpen }) → f ≡ no_frame → over p (state_of b k) t ≡ true
-        → Closes p b.state b.frame k m w c m' w' → Steps p b k m w (run.poll t) r k m' w'
-    unfolding step closes none
-    poll-over {c} e q i o h =
-        stepped p b k m w (run.poll t) e (rw (q, o, closed-now o, h.sent)) (rw q (sym (none-after-close p (state_of b k) m t (true-told (over p (state_of b k) t) o)))) (rw (q, i, closed-now o) h.state)
-        (rw (closed-now o, ← h.state) (put-nothing k 0)) (rw (closed-now o) h.memory) (rw (closed-now o) h.room) (rw (q, i) (omega arith))
+  pub poll-over : {c : Closed} {f : OpenFrame} {n : ℕ} {m' w' : List ℕ} → refusal_on p b k m (length w) (run.poll t) ≡ 0 → f ≡ no_frame → n ≡ c.sent → over p (state_of b k) t ≡ true
+      → Closes p b.state b.frame k m w c m' w'
+      → Steps p b k m w (run.poll t) (Ok (record { board = record { state = c.state; frame = f }; reply = Some n; remaining = None })) k m' w'
+  unfolding step closes none lends
+  poll-over {c} e i j o h =
+      stepped p b k m w (run.poll t) e refl (rw (o, closed-now o, j, h.sent)) (sym (none-after-close p (state_of b k) m t (true-told (over p (state_of b k) t) o))) (rw (i, closed-now o) h.state)
+      (rw (closed-now o, ← h.state) (put-nothing k 0)) (rw (closed-now o) h.memory) (rw (closed-now o) h.room) (rw i (omega arith))
 
--- what a call closes or not is no refusal
-closed_or_not : (c : Bool) (n : ℕ) → is_refusal (pick c (Over n) Still) ≡ false
-closed_or_not true n = refl
-closed_or_not false n = refl
-
--- an outcome by its case: refused or not
-served : (h : Held) (c : Bool) (o : code.Outcome) → is_refusal o ≡ false → o ≡ outcome_of h c → h.refusal ≡ 0
+-- what is answered, by its case: refused or not
+told-none : (h : Held) (c : Bool) {r : Result Stepped Refusal} {s : Stepped} → r ≡ Ok s → told_of r ≡ outcome_of h c → h.refusal ≡ 0
 unfolding outcome_of
-served h c o i e = none-refused h.refusal (pick c (Over h.count) Still) (rw e at i)
+told-none h c {r} {s} q e = none-refused h.refusal (pick c (Some h.count) None) {y = s.reply} (rw q at e)
 
-unserved : (h : Held) (c : Bool) (o : code.Outcome) → is_refusal o ≡ true → o ≡ outcome_of h c → h.refusal ≡ 0 → ⊥
+told-some : {r : Result Stepped Refusal} {x : Refusal} (h : Held) (c : Bool) → r ≡ Err x → told_of r ≡ outcome_of h c → Err x ≡ refused_as h.refusal (tt {0})
 unfolding outcome_of
-unserved h c o i e = some-refused h.refusal (pick c (Over h.count) Still) (closed_or_not c h.count) (rw e at i)
+told-some h c q e = let i = rw q at e in refused-alike h.refusal _ (tt {0}) (some-refused h.refusal _ i) i
+
+-- .., and what was not refused has an answer
+pub told-ok : (r : Result Stepped Refusal) {x : Option ℕ} → told_of r ≡ Ok x → IsOk r
+told-ok (Ok s) e = refl
+told-ok (Err x) e = cc
+
+-- a refused call leaves the board
+pub unchanged : (p : Plate) (b : Board) (k m w : List ℕ) (g : Call) {r : Result Stepped Refusal} {k' m' w' : List ℕ} → ((called_on p b k m w g).refusal ≡ 0 → ⊥)
+    → Steps p b k m w g r k' m' w' → board_after b r ≡ b
+unchanged p b k m w g {r} h s = go r s.outcome
+  where
+    go : (r : Result Stepped Refusal) → told_of r ≡ outcome_of (called_on p b k m w g) (closes p (state_of b k) g) → board_after b r ≡ b
+    go (Ok a) e = absurd (h (told-none (called_on p b k m w g) (closes p (state_of b k) g) {s = a} refl e))
+    go (Err x) e = refl
 
 -- a character, by the poll before it
-module _ (p : Plate) (b : Board) (k m w : List ℕ) (t : ℕ) {r : Stepped} {k' m' w' : List ℕ} (s : Steps p b k m w (run.poll t) r k' m' w') where
+module _ (p : Plate) (b : Board) (k m w : List ℕ) (t : ℕ) {r : Result Stepped Refusal} {k' m' w' : List ℕ} (s : Steps p b k m w (run.poll t) r k' m' w') where
   -- it lends the same, so it is refused alike
   same-refusal : (v : ℕ) (bad : Bool) → refusal_on p b k m (length w) (run.poll t) ≡ refusal_on p b k m (length w) (run.character t v bad)
   unfolding refusal_on refused_by lends
   same-refusal v bad = refl
 
-  pub character-refused : (v : ℕ) (bad : Bool) → is_refusal r.outcome ≡ true → Steps p b k m w (run.character t v bad) r k' m' w'
-  unfolding closes
-  character-refused v bad i =
-      let g = run.character t v bad in
-      let h : refusal_on p b k m (length w) (run.poll t) ≡ 0 → ⊥ =
-      λ z. unserved (called_on p b k m w (run.poll t)) _ r.outcome i s.outcome (told-refusal p b k m w (run.poll t) ∙ z) in
-      let same : called_on p b k m w g ≡ called_on p b k m w (run.poll t) =
-      held-refused p b k m w g (same-refusal v bad) h ∙ sym (held-refused p b k m w (run.poll t) refl h) in
-      record {
-        outcome = rw same s.outcome;
-        sleep = rw same s.sleep;
-        state = rw same s.state;
-        bytes = rw same s.bytes;
-        memory = rw same s.memory;
-        room = rw same s.room;
-        few = rw same s.few;
-        refused = rw same s.refused;
-      }
+  -- a refused poll leaves all as it was
+  module _ {x : Refusal} (q : r ≡ Err x) where
+    poll_told : Err x ≡ refused_as (refusal_on p b k m (length w) (run.poll t)) (tt {0})
+    poll_told = rw (← told-refusal p b k m w (run.poll t)) (told-some (called_on p b k m w (run.poll t)) _ q s.outcome)
+
+    untouched-by : called_on p b k m w (run.poll t) ≡ untouched (refusal_on p b k m (length w) (run.poll t)) (state_of b k) m w
+    untouched-by = held-refused p b k m w (run.poll t) refl (some-refused _ (tt {0}) poll_told)
+
+    pub character-refused : (v : ℕ) (bad : Bool) {y : Result Stepped Refusal} → y ≡ Err x → Steps p b k m w (run.character t v bad) y k' m' w'
+    character-refused v bad {y} e =
+        let kk : k' ≡ k = s.bytes ∙ ap (λ (h : Held). put k 0 h.state.line.kept) untouched-by ∙ sym (put-own k b.frame.len) in
+        let mm : m' ≡ m = s.memory ∙ ap (λ (h : Held). h.memory) untouched-by in
+        let ww : w' ≡ w = s.room ∙ ap (λ (h : Held). h.room) untouched-by in
+        rw (kk, mm, ww) (refused p b k m w (run.character t v bad) (tt {0}) e (rw (← same-refusal v bad) poll_told))
 
   -- the frame that a poll leaves takes it in
-  module _ (i : is_refusal r.outcome ≡ false) where
+  module _ {a : Stepped} (q : r ≡ Ok a) where
     abbrev after : Outcome
     after = step p (state_of b k) m (run.poll t)
 
     willing : refusal_on p b k m (length w) (run.poll t) ≡ 0
-    willing = sym (told-refusal p b k m w (run.poll t)) ∙ served (called_on p b k m w (run.poll t)) _ r.outcome i s.outcome
+    willing = sym (told-refusal p b k m w (run.poll t)) ∙ told-none (called_on p b k m w (run.poll t)) _ q s.outcome
 
     on : called_on p b k m w (run.poll t) ≡ left_by p (run.poll t) w after
     on = held_on p b k m w (run.poll t) willing
@@ -231,22 +222,26 @@ module _ (p : Plate) (b : Board) (k m w : List ℕ) (t : ℕ) {r : Stepped} {k' 
     kept-still : k' ≡ k
     kept-still = s.bytes ∙ ap (λ (h : Held). put k 0 h.state.line.kept) on ∙ rests
 
-    pub character-fits : Fits r.board.frame k'
+    few-then : a.board.frame.len ≤ 135
+    few-then = rw q at (s.few (ap (λ (h : Held). h.refusal) on))
+
+    pub character-fits : Fits a.board.frame k'
     character-fits =
         record {
-          few = s.few (ap (λ (h : Held). h.refusal) on);
+          few = few-then;
           all = ap length kept-still ∙ eqb-true (length k) 135 (facts p b k m (length w) (run.poll t) (lends-poll t) willing).all;
         }
 
-    pub character-taken : {v : ℕ} {bad : Bool} {f : OpenFrame} {z : Carried} {q : Stepped} {k'' : List ℕ}
-        → q ≡ (record { board = record { state = r.board.state; frame = f }; outcome = r.outcome; sleep = z }) → carried_of z ≡ run.carries (ticks_left (full_pause p))
-        → Extends (more (pick r.board.frame.begun (line_of r.board.frame k') none) t v bad) k' f k'' → Steps p b k m w (run.character t v bad) q k'' m' w'
+    pub character-taken : {v : ℕ} {bad : Bool} {f : OpenFrame} {n : ℕ} {k'' : List ℕ} → n ≡ full_pause p
+        → Extends (more (pick a.board.frame.begun (line_of a.board.frame k') none) t v bad) k' f k''
+        → Steps p b k m w (run.character t v bad) (Ok (record { board = record { state = a.board.state; frame = f }; reply = a.reply; remaining = Some n })) k'' m' w'
     unfolding step closes taken with_line outcome_of refused_as
-    character-taken {v} {bad} {f} {z} {q} {k''} e full x =
-        let u : state_of r.board k' ≡ after.state = s.state ∙ ap (λ (h : Held). h.state) on in
-        stepped p b k m w (run.character t v bad) (sym (same-refusal v bad) ∙ willing) (rw e (s.outcome ∙ ap (λ (h : Held). outcome_of h (closes p (state_of b k) (run.poll t))) on))
-        (rw e (full ∙ sym (full-after-character p (state_of b k) m t v bad))) (rw (e, ← u) (ap (state_with r.board.state) x.line))
-        (rw (← u, ← kept-still) x.bytes) (s.memory ∙ ap (λ (h : Held). h.memory) on) (s.room ∙ ap (λ (h : Held). h.room) on) (rw e x.few)
+    character-taken {v} {bad} full x =
+        let u : state_of a.board k' ≡ after.state = (rw q at s.state) ∙ ap (λ (h : Held). h.state) on in
+        let o : ◌≡◌ {A = Result (Option ℕ) Refusal} (Ok a.reply) (Ok (pick (over p (state_of b k) t) (Some (length after.reply)) None)) = (rw q at s.outcome) ∙ ap (λ (h : Held). outcome_of h (closes p (state_of b k) (run.poll t))) on in
+        stepped p b k m w (run.character t v bad) (sym (same-refusal v bad) ∙ willing) refl (cc)
+        (ap (λ (i : ℕ). run.carries (ticks_left i)) full ∙ sym (full-after-character p (state_of b k) m t v bad)) (rw (← u) (ap (state_with a.board.state) x.line))
+        (rw (← u, ← kept-still) x.bytes) (s.memory ∙ ap (λ (h : Held). h.memory) on) (s.room ∙ ap (λ (h : Held). h.room) on) x.few
 
 -- no frame is open
 pub no_line : (k : List ℕ) (s : State) {f : OpenFrame} {x : meaning.State} → state_with s none ≡ x → f ≡ no_frame → state_with s (line_of f k) ≡ x

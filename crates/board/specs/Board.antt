@@ -1,17 +1,16 @@
 -- The code's board as the meaning's state, and what a call leaves (01, "Named refusals"). Assumes nothing.
-use Rattle.std.specs.Prelude.{ℕ, ◌≤◌, ◌≡◌, Bool, true, false, List, eqb, leb, length, drop}
+use Rattle.std.specs.Prelude.{ℕ, ◌≤◌, ◌≡◌, Bool, true, false, List, Option, Some, None, Result, Ok, Err, eqb, leb, length, drop}
 use Rattle.meaning.specs.Bytes.{pick, both, longest_request, put, arg}
 use Rattle.meaning.specs.State.{Plate, State, plate_ok, state_ok, with_queue}
 use Rattle.meaning.specs.Run as run
-use Rattle.meaning.specs.Run.{Call, Held, untouched, refused_by, called, closes}
-use Rattle.line.specs.Line.{line_of, remaining_of}
+use Rattle.meaning.specs.Run.{Call, Held, untouched, refused_by, called, closes, lends}
+use Rattle.meaning.specs.Characters.{no_frame_open, ticks_left}
+use Rattle.line.specs.Line.{line_of}
 use Rattle.state.specs.State.{state_with}
 use Rattle.board.specs.declared.limits.Board.{Board}
-use Rattle.board.specs.declared.limits.Outcome.{Outcome}
-use Rattle.board.specs.declared.limits.Outcome.TheVariants.{R1, R2, R3, Still, Over}
-use Rattle.board.specs.declared.limits.Carried.{Carried}
-use Rattle.board.specs.declared.limits.Carried.TheVariants.{Nothing, Carries}
-use Rattle.board.specs.declared.limits.Stepped.{Stepped}
+use Rattle.board.specs.declared.calls.Refusal.{Refusal}
+use Rattle.board.specs.declared.calls.Refusal.TheVariants.{R1, R2, R3}
+use Rattle.board.specs.declared.calls.Stepped.{Stepped}
 use Rattle.board.specs.declared.faults.Oldest.{Oldest}
 
 abbrev pub state_of : Board → List ℕ → State
@@ -38,55 +37,59 @@ called_on p b kept m room g =
     pick (fits_in b kept) (called p (state_of b kept) m room g) (untouched 1 (state_of b kept) m room)
 
 -- 01, "Named refusals", by their numbers; 0 where nothing was refused
-abbrev pub refusal_number : Outcome → ℕ
-refusal_number R1 = 1
-refusal_number R2 = 2
-refusal_number R3 = 3
-refusal_number Still = 0
-refusal_number (Over n) = 0
-
-abbrev pub is_refusal : Outcome → Bool
-is_refusal R1 = true
-is_refusal R2 = true
-is_refusal R3 = true
-is_refusal Still = false
-is_refusal (Over n) = false
-
--- how many reply bytes an outcome tells
-abbrev pub reply_length : Outcome → ℕ
-reply_length R1 = 0
-reply_length R2 = 0
-reply_length R3 = 0
-reply_length Still = 0
-reply_length (Over n) = n
+abbrev pub refusal_number : {A : Type 0} → Result A Refusal → ℕ
+refusal_number (Ok x) = 0
+refusal_number (Err R1) = 1
+refusal_number (Err R2) = 2
+refusal_number (Err R3) = 3
 
 -- the refusal of that number; where it is 0, what else came of the call
-unfoldable pub refused_as : ℕ → Outcome → Outcome
-refused_as n o = pick (eqb n 0) o (pick (eqb n 1) R1 (pick (eqb n 2) R2 R3))
+unfoldable pub refused_as : {A : Type 0} → ℕ → A → Result A Refusal
+refused_as n x = pick (eqb n 0) (Ok x) (pick (eqb n 1) (Err R1) (pick (eqb n 2) (Err R2) (Err R3)))
 
--- 01, "Named refusals", in the code's cases; `over` says whether the call closes a frame
-unfoldable pub outcome_of : Held → Bool → Outcome
-outcome_of h over = refused_as h.refusal (pick over (Over h.count) Still)
+-- R1 alone: within the limits what else came of the call
+abbrev pub taken_if : {A : Type 0} → Bool → A → Result A Refusal
+taken_if fine x = pick fine (Ok x) (Err R1)
 
--- 02, Req 03, what an answer carries, in the code's cases
-abbrev pub carried_of : Carried → run.Carried
-carried_of Nothing = run.nothing
-carried_of (Carries r) = run.carries (remaining_of r)
+-- 01, "Named refusals", in the code's cases; the number of reply bytes, 0 being silence, where the call closes a frame, as `over` says
+unfoldable pub outcome_of : Held → Bool → Result (Option ℕ) Refusal
+outcome_of h over = refused_as h.refusal (pick over (Some h.count) None)
 
--- of a call that lends nothing: within the limits the board is the next one, else it is refused as it was
-abbrev pub taken_if : Bool → Board → Board → Stepped
-taken_if fine b next = pick fine (record { board = next; outcome = Still; sleep = Nothing }) (record { board = b; outcome = R1; sleep = Nothing })
+-- what an answer tells: a refusal, or the reply
+abbrev pub told_of : Result Stepped Refusal → Result (Option ℕ) Refusal
+told_of (Ok r) = Ok r.reply
+told_of (Err e) = Err e
+
+-- 02, Req 03, in the code's cases: a number of ticks; None where no frame is open, and where the call lends nothing, so that nothing is carried
+abbrev pub carried_by : Bool → Option ℕ → run.Carried
+carried_by lent (Some n) = run.carries (ticks_left n)
+carried_by true None = run.carries no_frame_open
+carried_by false None = run.nothing
+
+-- 02, Req 03, what an answer carries: a refused one nothing
+abbrev pub carried_of : Call → Result Stepped Refusal → run.Carried
+carried_of g (Ok r) = carried_by (lends g) r.remaining
+carried_of g (Err e) = run.nothing
+
+-- the board after a call: a refused one leaves it as it was
+abbrev pub board_after : Board → Result Stepped Refusal → Board
+board_after b (Ok r) = r.board
+board_after b (Err e) = b
+
+-- the answer of a call that lends nothing: it closes no frame and carries nothing
+abbrev pub unheard : Result Board Refusal → Result Stepped Refusal
+unheard (Ok b) = Ok (record { board = b; reply = None; remaining = None })
+unheard (Err e) = Err e
 
 -- what a call answers, and leaves of board, kept bytes, memory and room. Places past the kept bytes are untouched
-pub record Steps (p : Plate) (b : Board) (kept m w : List ℕ) (g : Call) (r : Stepped) (kept' m' w' : List ℕ) : Type 0 where
-  pub outcome : r.outcome ≡ outcome_of (called_on p b kept m w g) (closes p (state_of b kept) g)
-  pub sleep : carried_of r.sleep ≡ (called_on p b kept m w g).sleep
-  pub state : state_of r.board kept' ≡ (called_on p b kept m w g).state
+pub record Steps (p : Plate) (b : Board) (kept m w : List ℕ) (g : Call) (r : Result Stepped Refusal) (kept' m' w' : List ℕ) : Type 0 where
+  pub outcome : told_of r ≡ outcome_of (called_on p b kept m w g) (closes p (state_of b kept) g)
+  pub sleep : carried_of g r ≡ (called_on p b kept m w g).sleep
+  pub state : state_of (board_after b r) kept' ≡ (called_on p b kept m w g).state
   pub bytes : kept' ≡ put kept 0 (called_on p b kept m w g).state.line.kept
   pub memory : m' ≡ (called_on p b kept m w g).memory
   pub room : w' ≡ (called_on p b kept m w g).room
-  pub few : (called_on p b kept m w g).refusal ≡ 0 → r.board.frame.len ≤ longest_request
-  pub refused : ((called_on p b kept m w g).refusal ≡ 0 → ⊥) → r.board ≡ b
+  pub few : (called_on p b kept m w g).refusal ≡ 0 → (board_after b r).frame.len ≤ longest_request
 
 -- 01, row 50h, "oldest queued code, or 00h; removes it"
 pub record ReadsOldest (b : Board) (r : Oldest) : Type 0 where

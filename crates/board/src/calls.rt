@@ -3,15 +3,31 @@ ghost use Rattle.std.specs.Prelude.{◌≡◌, List, ℕ, ◌≤◌, length};
 ghost use Rattle.meaning.specs.Bytes.{longest_request};
 ghost use Rattle.meaning.specs.State as meaning;
 ghost use Rattle.meaning.specs.State.{last_address};
-ghost use Rattle.meaning.specs.Characters.{full_pause, ticks_left};
 ghost use Rattle.meaning.specs.Run as run;
 ghost use Rattle.line.specs.Line.{plate_of};
-ghost use Rattle.board.specs.Board.{state_of, within, taken_if, carried_of, Steps};
+ghost use Rattle.board.specs.Board.{state_of, unheard, Steps};
 
 use crate::closing::close;
-use crate::limits::{Board, Carried, Outcome, Stepped, refusal, within_limits};
-use line::{OpenFrame, Plate, Remaining};
+use crate::limits::{Board, refusal, within_limits};
+use line::{OpenFrame, Plate};
 use state::State;
+
+// 01, "Named refusals": R1 to R3, and nothing is changed.
+#[derive(Clone, Copy, PartialEq, Eq, Debug)]
+pub enum Refusal {
+    R1,
+    R2,
+    R3,
+}
+
+// The board after a call; where a frame closed, how many reply bytes stand at the room's front, 0 being silence; and 02, Req 03: how many ticks
+// of the open frame's pause remain after the call, None where no frame is open.
+#[derive(Clone, Copy)]
+pub struct Stepped {
+    pub board: Board,
+    pub reply: Option<usize>,
+    pub remaining: Option<u64>,
+}
 
 // 01, "Fresh state", with the plate's address, whatever the label bytes are. Any other number of the plate that is beyond its limits is told by the
 // first call.
@@ -25,17 +41,6 @@ pub fn fresh(plate: Plate) -> Board
     }
 }
 
-fn stepped(state: State, frame: OpenFrame, outcome: Outcome, sleep: Carried) -> Stepped
-    ensures { result ≡ record { board = record { state = state; frame = frame }; outcome = outcome; sleep = sleep } }
-{
-    let board = Board { state, frame };
-    Stepped {
-        board,
-        outcome,
-        sleep,
-    }
-}
-
 // A poll: an open frame that is over is closed, and nothing else changes.
 pub fn poll(
     plate: Plate,
@@ -45,41 +50,39 @@ pub fn poll(
     kept: &mut [u8],
     memory: &mut [u8],
     room: &mut [u8],
-) -> Stepped
+) -> Result<Stepped, Refusal>
     ensures { Steps (plate_of plate label.now) board kept.old memory.old room.old (run.poll tick) result kept.new memory.new room.new }
 {
-    let refused = refusal(
+    refusal(
         plate,
         label.len(),
         board,
         kept.len(),
         memory.len(),
         room.len(),
-    );
-    let state = board.state;
-    let frame = board.frame;
-    if refused.is_refusal() {
-        return stepped(state, frame, refused, Carried::Nothing);
+    )?;
+    let Board { state, frame } = board;
+    let remaining = frame.remaining(plate.full_pause(), tick);
+    if !line::is_over(remaining) {
+        return Ok(Stepped {
+            board,
+            reply: None,
+            remaining,
+        });
     }
-    let left = frame.remaining(plate.full_pause(), tick);
-    if left.is_over() {
-        let closed = close(plate, label, state, frame, kept, memory, room);
-        let next = closed.state;
-        let sent = closed.sent as usize;
-        let none = Carried::Carries(Remaining::NoFrameOpen);
-        return stepped(next, OpenFrame::none(), Outcome::Over(sent), none);
-    }
-    stepped(state, frame, Outcome::Still, Carried::Carries(left))
+    let closed = close(plate, label, state, frame, kept, memory, room);
+    Ok(Stepped {
+        board: Board {
+            state: closed.state,
+            frame: OpenFrame::none(),
+        },
+        reply: Some(usize::from(closed.sent)),
+        remaining: None,
+    })
 }
 
-// What a character's answer carries: it is the last one then.
-fn full_pause(plate: Plate) -> Carried
-    ensures { (l : List ℕ) → carried_of result ≡ run.carries (ticks_left (full_pause (plate_of plate l))) }
-{
-    Carried::Carries(Remaining::TicksLeft(plate.full_pause()))
-}
-
-// A character at its end: first what a poll does by then, so that where the open frame is over the character opens the next.
+// A character at its end: first what a poll does by then, so that where the open frame is over the character opens the next. It is the last one
+// then, so that the full pause remains.
 pub fn character(
     plate: Plate,
     label: &[u8],
@@ -90,60 +93,40 @@ pub fn character(
     kept: &mut [u8],
     memory: &mut [u8],
     room: &mut [u8],
-) -> Stepped
+) -> Result<Stepped, Refusal>
     ensures { Steps (plate_of plate label.now) board kept.old memory.old room.old (run.character tick value parity) result kept.new memory.new room.new }
 {
-    let polled = poll(plate, label, board, tick, kept, memory, room);
-    let outcome = polled.outcome;
-    let after = polled.board;
-    if outcome.is_refusal() {
-        return polled;
-    }
-    let state = after.state;
-    let frame = after.frame.with_character(tick, value, parity, kept);
-    stepped(state, frame, outcome, full_pause(plate))
-}
-
-// The answer of a call that is no character and no poll.
-fn unmoved(board: Board, outcome: Outcome) -> Stepped
-    ensures { result ≡ record { board = board; outcome = outcome; sleep = Carried.Nothing } }
-{
-    Stepped {
-        board,
-        outcome,
-        sleep: Carried::Nothing,
-    }
-}
-
-// What lends nothing meets R1 alone; else the board is then as told.
-fn told(plate: Plate, label: &[u8], board: Board, next: Board) -> Stepped
-    ensures { (kept : List ℕ) → length kept ≡ longest_request → result ≡ taken_if (within (plate_of plate label.now) board kept) board next }
-{
-    if !within_limits(plate, label.len(), board) {
-        return unmoved(board, Outcome::R1);
-    }
-    unmoved(next, Outcome::Still)
+    let polled = poll(plate, label, board, tick, kept, memory, room)?;
+    let Board { state, frame } = polled.board;
+    let frame = frame.with_character(tick, value, parity, kept);
+    Ok(Stepped {
+        board: Board { state, frame },
+        reply: polled.reply,
+        remaining: Some(plate.full_pause()),
+    })
 }
 
 // 01, "measured, any 32-bit number": kept as given.
-pub fn measured(plate: Plate, label: &[u8], board: Board, position: u32) -> Stepped
-    ensures { (kept m w : List ℕ) → length kept ≡ longest_request → Steps (plate_of plate label.now) board kept m w (run.measured position) result kept m w }
+pub fn measured(plate: Plate, label: &[u8], board: Board, position: u32) -> Result<Board, Refusal>
+    ensures { (kept m w : List ℕ) → length kept ≡ longest_request → Steps (plate_of plate label.now) board kept m w (run.measured position) (unheard result) kept m w }
 {
-    let frame = board.frame;
+    within_limits(plate, label.len(), board)?;
     let state = board.state.with_measured(position);
-    told(plate, label, board, Board { state, frame })
+    Ok(Board { state, ..board })
 }
 
 // 01, "The host notes codes".
-pub fn fault(plate: Plate, label: &[u8], board: Board, code: u8) -> Stepped
-    ensures { (kept m w : List ℕ) → length kept ≡ longest_request → Steps (plate_of plate label.now) board kept m w (run.fault code) result kept m w }
+pub fn fault(plate: Plate, label: &[u8], board: Board, code: u8) -> Result<Board, Refusal>
+    ensures { (kept m w : List ℕ) → length kept ≡ longest_request → Steps (plate_of plate label.now) board kept m w (run.fault code) (unheard result) kept m w }
 {
-    told(plate, label, board, board.note(code))
+    within_limits(plate, label.len(), board)?;
+    Ok(board.note(code))
 }
 
 // 01, "Power-on empties the queue, drops an open frame and unlocks; all else stays".
-pub fn power_on(plate: Plate, label: &[u8], board: Board) -> Stepped
-    ensures { (kept m w : List ℕ) → length kept ≡ longest_request → Steps (plate_of plate label.now) board kept m w run.power_on result kept m w }
+pub fn power_on(plate: Plate, label: &[u8], board: Board) -> Result<Board, Refusal>
+    ensures { (kept m w : List ℕ) → length kept ≡ longest_request → Steps (plate_of plate label.now) board kept m w run.power_on (unheard result) kept m w }
 {
-    told(plate, label, board, board.power_on())
+    within_limits(plate, label.len(), board)?;
+    Ok(board.power_on())
 }

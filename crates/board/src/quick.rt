@@ -7,23 +7,21 @@ ghost use Rattle.board.specs.Board.{state_of, fits_in};
 ghost use Rattle.board.specs.Quick.{TakesIn};
 
 use crate::limits::Board;
-use line::{Plate, Remaining};
+use line::Plate;
 
 impl Board {
     pub fn is_open(self) -> bool
         ensures { (kept : List ℕ) → result ≡ (state_of self kept).line.begun }
     {
-        let frame = self.frame;
-        frame.begun
+        self.frame.begun
     }
 
     // How much of the open frame's pause remains at that tick: a character or a poll that finds it over closes the frame, and is left to
     // `character` or `poll`.
-    pub fn remaining(self, plate: Plate, tick: u32) -> Remaining
+    pub fn remaining(self, plate: Plate, tick: u32) -> Option<u64>
         ensures { (kept l : List ℕ) → remaining_of result ≡ remaining (plate_of plate l) (state_of self kept) tick }
     {
-        let frame = self.frame;
-        frame.remaining(plate.full_pause(), tick)
+        self.frame.remaining(plate.full_pause(), tick)
     }
 
     // A character that closes no frame, taken in.
@@ -31,10 +29,7 @@ impl Board {
         requires { fits_in self kept.old ≡ true }
         ensures { TakesIn self kept.old tick value parity result kept.new }
     {
-        let before = self.frame;
-        let frame = before.with_character(tick, value, parity, kept);
-        let mut next = self;
-        next.frame = frame;
-        next
+        let frame = self.frame.with_character(tick, value, parity, kept);
+        Board { frame, ..self }
     }
 }

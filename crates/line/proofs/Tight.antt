@@ -1,5 +1,5 @@
 -- No two differing outcomes satisfy a contract of this crate (01, "How tightly the contracts bind"). Assumes nothing.
-use Rattle.std.proofs.Common.{◌≡◌, ℕ, ◌*◌, ◌≤◌, Bool, List, [], length, take, sym, refl, ap, ◌∙◌, arith, length-append, length-drop, length-take-le}
+use Rattle.std.proofs.Common.{◌≡◌, ℕ, ◌*◌, ◌≤◌, Bool, List, [], Option, None, Some, length, take, sym, refl, ap, ◌∙◌, arith, length-append, length-drop, length-take-le}
 use lib.ListN.{length-replicate}
 use Rattle.meaning.specs.Bytes.{put, zeros}
 use Rattle.meaning.specs.State as meaning
@@ -8,8 +8,6 @@ use Rattle.meaning.specs.Characters as characters
 use Rattle.meaning.specs.Characters.{full_pause, no_frame_open, ticks_left, remaining}
 use Rattle.line.specs.declared.plate.Plate.{Plate}
 use Rattle.line.specs.declared.characters.OpenFrame.{OpenFrame}
-use Rattle.line.specs.declared.characters.Remaining.{Remaining}
-use Rattle.line.specs.declared.characters.Remaining.TheVariants.{NoFrameOpen, TicksLeft}
 use Rattle.line.specs.Line.{plate_of, line_of, remaining_of, Extends}
 
 parts : {a a' : Bool} {b c d b' c' d' : ℕ} {x y x' y' : Bool} → a ≡ a' → b ≡ b' → c ≡ c' → d ≡ d' → x ≡ x' → y ≡ y'
@@ -36,26 +34,26 @@ with_character_tight l k f g a b all p q =
     (same-line-same-frame f g a p.few q.few long (p.line ∙ sym (ap (line_of g) same ∙ q.line)), same)
 
 -- the meaning's case says which one it is in the code
-abbrev pub remaining_back : characters.Remaining → Remaining
-remaining_back no_frame_open = NoFrameOpen
-remaining_back (ticks_left n) = TicksLeft n
+abbrev pub remaining_back : characters.Remaining → Option ℕ
+remaining_back no_frame_open = None
+remaining_back (ticks_left n) = Some n
 
-pub there_and_back : (r : Remaining) → remaining_back (remaining_of r) ≡ r
-there_and_back NoFrameOpen = refl
-there_and_back (TicksLeft n) = refl
+pub there_and_back : (r : Option ℕ) → remaining_back (remaining_of r) ≡ r
+there_and_back None = refl
+there_and_back (Some n) = refl
 
 pub back_and_there : (x : characters.Remaining) → remaining_of (remaining_back x) ≡ x
 back_and_there no_frame_open = refl
 back_and_there (ticks_left n) = refl
 
-pub same-remaining : (a b : Remaining) → remaining_of a ≡ remaining_of b → a ≡ b
+pub same-remaining : (a b : Option ℕ) → remaining_of a ≡ remaining_of b → a ≡ b
 same-remaining a b e = sym (there_and_back a) ∙ ap remaining_back e ∙ there_and_back b
 
 -- a plate with any pause
 abbrev pausing : ℕ → meaning.Plate
 pausing n = record { total = 0; bits = 0; address = 0; ticks = 1; pause = n; label = [] }
 
-pub remaining_tight : (n : ℕ) (f : OpenFrame) (t : ℕ) (a b : Remaining)
+pub remaining_tight : (n : ℕ) (f : OpenFrame) (t : ℕ) (a b : Option ℕ)
     → ((p : meaning.Plate) (s : meaning.State) (k : List ℕ) → n ≡ full_pause p → s.line ≡ line_of f k → remaining_of a ≡ remaining p s t)
     → ((p : meaning.Plate) (s : meaning.State) (k : List ℕ) → n ≡ full_pause p → s.line ≡ line_of f k → remaining_of b ≡ remaining p s t) → a ≡ b
 unfolding with_line full_pause

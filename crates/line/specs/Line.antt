@@ -1,13 +1,11 @@
 -- The code's plate and open frame as those of the meaning (01, "Plate", "Characters become frames"). Assumes nothing.
-use Rattle.std.specs.Prelude.{◌≡◌, ℕ, ◌≤◌, false, List, length, take}
+use Rattle.std.specs.Prelude.{◌≡◌, ℕ, ◌≤◌, false, List, Option, None, Some, length, take}
 use Rattle.meaning.specs.Bytes.{pick, longest_request, put}
 use Rattle.meaning.specs.State as meaning
 use Rattle.meaning.specs.Characters as characters
 use Rattle.meaning.specs.Characters.{Frame, no_frame_open, ticks_left}
 use Rattle.line.specs.declared.plate.Plate.{Plate}
 use Rattle.line.specs.declared.characters.OpenFrame.{OpenFrame}
-use Rattle.line.specs.declared.characters.Remaining.{Remaining}
-use Rattle.line.specs.declared.characters.Remaining.TheVariants.{NoFrameOpen, TicksLeft}
 
 -- the label bytes are lent beside the plate's numbers
 abbrev pub plate_of : Plate → List ℕ → meaning.Plate
@@ -17,10 +15,10 @@ plate_of p label = record { total = p.total; bits = p.bits; address = p.address;
 abbrev pub line_of : OpenFrame → List ℕ → meaning.Line
 line_of f kept = record { begun = f.begun; kept = take f.len kept; sum = f.sum; longer = f.longer; parity = f.parity; last = f.last }
 
--- 02, Req 03, in the code's cases
-abbrev pub remaining_of : Remaining → characters.Remaining
-remaining_of NoFrameOpen = no_frame_open
-remaining_of (TicksLeft n) = ticks_left n
+-- 02, Req 03, in the code's cases: None where no frame is open
+abbrev pub remaining_of : Option ℕ → characters.Remaining
+remaining_of None = no_frame_open
+remaining_of (Some n) = ticks_left n
 
 -- 01, "A closed frame": the kept bytes with what the numbers say of the frame
 abbrev pub frame_of : OpenFrame → List ℕ → Frame

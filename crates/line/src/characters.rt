@@ -9,7 +9,8 @@ use crate::stamps::gap;
 use wire::codes::LONGEST_REQUEST;
 
 // Whether a frame is open, the stamp of its last character, how many of its bytes are kept, the XOR of all of them, whether more than
-// 135 came, and whether a character had a parity fault.
+// 135 came, and whether a character had a parity fault. `begun` stands beside the numbers, since an image keeps the unused ones too (`frame_in`
+// and `put_frame` of image).
 #[derive(Clone, Copy)]
 pub struct OpenFrame {
     pub begun: bool,
@@ -20,23 +21,11 @@ pub struct OpenFrame {
     pub parity: bool,
 }
 
-// 02, Req 03: how many ticks of the pause remain, 0 when it is over.
-#[derive(Clone, Copy)]
-pub enum Remaining {
-    NoFrameOpen,
-    TicksLeft(u64),
-}
-
-impl Remaining {
-    // A frame is over exactly if no tick is left.
-    pub fn is_over(self) -> bool
-        ensures { result ≡ ran_out (remaining_of self) }
-    {
-        match self {
-            Remaining::NoFrameOpen => false,
-            Remaining::TicksLeft(ticks) => ticks == 0,
-        }
-    }
+// A frame is over exactly if no tick is left (02, Req 03); None where no frame is open.
+pub fn is_over(left: Option<u64>) -> bool
+    ensures { result ≡ ran_out (remaining_of left) }
+{
+    left == Some(0)
 }
 
 impl OpenFrame {
@@ -53,20 +42,17 @@ impl OpenFrame {
         }
     }
 
-    // The one number that character and poll share; `pause` is the plate's full pause. Ruling of 01: equality closes, so that it is 0 then.
+    // How many ticks of the pause remain, None where no frame is open (02, Req 03): the one number that character and poll share; `pause` is
+    // the plate's full pause. Ruling of 01: equality closes, so that it is 0 then.
     #[tactic(auto, unfolding(meaning::specs::Characters::remaining))]
-    pub fn remaining(self, pause: u64, tick: u32) -> Remaining
+    pub fn remaining(self, pause: u64, tick: u32) -> Option<u64>
         ensures { (p : Plate) (s : State) (kept : List ℕ) → pause ≡ full_pause p → s.line ≡ line_of self kept → remaining_of result ≡ remaining p s tick }
     {
         if !self.begun {
-            return Remaining::NoFrameOpen;
+            return None;
         }
-        let since = gap(self.last, tick) as u64;
-        if pause <= since {
-            return Remaining::TicksLeft(0);
-        }
-        let left = pause - since;
-        Remaining::TicksLeft(left)
+        let since = gap(self.last, tick);
+        Some(pause.saturating_sub(u64::from(since)))
     }
 }
 
@@ -88,20 +74,25 @@ impl OpenFrame {
         requires { Fits self kept.old }
         ensures { Extends (more (line_of self kept.old) tick value parity) kept.old result kept.new }
     {
-        let len = self.len;
-        let mut next = self;
-        next.begun = true;
-        next.last = tick;
-        next.sum = self.sum ^ value;
-        next.parity = self.parity | parity;
-        let at = len as usize;
+        let next = OpenFrame {
+            begun: true,
+            last: tick,
+            sum: self.sum ^ value,
+            parity: self.parity | parity,
+            ..self
+        };
+        let at = usize::from(self.len);
         if at < LONGEST_REQUEST {
             kept[at] = value;
-            next.len = len + 1;
-            return next;
+            return OpenFrame {
+                len: self.len + 1,
+                ..next
+            };
         }
-        next.longer = true;
-        next
+        OpenFrame {
+            longer: true,
+            ..next
+        }
     }
 
     // One more character: where there is room its byte goes to the next of the lent places.

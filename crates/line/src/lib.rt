@@ -6,7 +6,7 @@ mod judge;
 mod plate;
 mod stamps;
 
-pub use characters::{OpenFrame, Remaining};
+pub use characters::{OpenFrame, is_over};
 pub use judge::{Judgement, is_silent};
 pub use plate::Plate;
 pub use stamps::stamp_after;

@@ -24,25 +24,11 @@ impl Plate {
     pub fn is_ok(self) -> bool
         ensures { (l : List ℕ) → length l ≡ label_length → result ≡ plate_ok (plate_of self l) }
     {
-        if self.total < 1 {
-            return false;
-        }
-        if 112 < self.total {
-            return false;
-        }
-        if self.bits < 1 {
-            return false;
-        }
-        if 32 < self.bits {
-            return false;
-        }
-        if (LAST_ADDRESS as u32) < self.address {
-            return false;
-        }
-        if !ticks_ok(self.ticks) {
-            return false;
-        }
-        pause_ok(self.pause)
+        matches!(self.total, 1..=112)
+            && matches!(self.bits, 1..=32)
+            && self.address <= u32::from(LAST_ADDRESS)
+            && ticks_ok(self.ticks)
+            && pause_ok(self.pause)
     }
 
     // 01, "pause × ticks-per-bit": the gap that closes a frame, in ticks.
@@ -50,41 +36,28 @@ impl Plate {
     pub fn full_pause(self) -> u64
         ensures { (l : List ℕ) → result ≡ full_pause (plate_of self l) }
     {
-        (self.pause as u64) * (self.ticks as u64)
+        u64::from(self.pause) * u64::from(self.ticks)
     }
 
     // 01, "Memory": 16T data bytes, then T status bytes.
     pub fn memory_length(self) -> u64
         ensures { result ≡ memory_length self.total }
     {
-        let total = self.total as u64;
+        let total = u64::from(self.total);
         16 * total + total
     }
 }
 
-// A power of two has one bit set.
-#[tactic(auto, using(crate::proofs::Powers::one_bit, crate::proofs::Powers::too_few, crate::proofs::Powers::too_many))]
+#[tactic(auto, unfolding(meaning::specs::Bytes::among))]
 fn ticks_ok(ticks: u32) -> bool
     ensures { result ≡ among ticks (1 ∷ 2 ∷ 4 ∷ 8 ∷ 16 ∷ 32 ∷ 64 ∷ []) }
 {
-    if ticks < 1 {
-        return false;
-    }
-    if 64 < ticks {
-        return false;
-    }
-    ticks & (ticks - 1) == 0
+    matches!(ticks, 1 | 2 | 4 | 8 | 16 | 32 | 64)
 }
 
 #[tactic(auto, unfolding(meaning::specs::Bytes::among))]
 fn pause_ok(pause: u32) -> bool
     ensures { result ≡ among pause (22 ∷ 55 ∷ []) }
 {
-    if pause == 22 {
-        return true;
-    }
-    if pause == 55 {
-        return true;
-    }
-    false
+    matches!(pause, 22 | 55)
 }

@@ -7,12 +7,12 @@ ghost use Rattle.meaning.specs.Characters as characters;
 pub(crate) fn gap(from: u32, to: u32) -> u32
     ensures { result ≡ characters.gap from to }
 {
-    std::num::wrapping_sub_u32(to, from)
+    to.wrapping_sub(from)
 }
 
 // The stamp of a character whose end comes so many ticks after a stamp.
 pub fn stamp_after(tick: u32, spacing: u32) -> u32
     ensures { result ≡ (tick + spacing) % 2 ^ 32 }
 {
-    std::num::wrapping_add_u32(tick, spacing)
+    tick.wrapping_add(spacing)
 }

@@ -1,7 +1,6 @@
 -- Laws of the label tape's readers. Assumes nothing.
 use Prim.Native.Nat.{ℕ, zero, suc, ◌+◌, ◌-◌, ◌*◌, ◌≤◌, ◌<◌, min}
 use mathlib.Core.Path.{◌≡◌, refl, sym, ◌∙◌}
-use mathlib.Core.Logic.{◌⊎◌, inl, inr}
 use mathlib.Core.Bool.{Bool, true, false, false≢true}
 use mathlib.Core.List.{List, [], ◌∷◌}
 use native.Mathlib.Omega.{arith}
@@ -13,22 +12,20 @@ use lib.Seq.{drop-drop, drop-cons, get_or-drop, take_all}
 use borrow.Author.Tests.{ltb-true, eqb-true, ne_eqb}
 use Rattle.std.specs.Option.{option_map}
 use Rattle.std.specs.List.{slice_get}
-use Rattle.std.specs.Prelude.{Option, Some, None, Err}
+use Rattle.std.specs.Prelude.{Option, Some, None, Result, Ok, Err}
+use Rattle.std.specs.Result.{result_ok}
 use Rattle.meaning.specs.Bytes.{pick, both, arg, part, little, most_count}
 use Rattle.meaning.specs.Fields.{bytes_of, blocks, exists}
 use Rattle.meaning.proofs.Choices.{both_right, true-told}
 use Rattle.records.specs.Records.{Found, whole, cut, length_at, whole_length, record_at}
-use Rattle.records.specs.Reader.{read_at}
-use Rattle.records.specs.declared.record.Cursor.{Cursor}
-use Rattle.records.specs.declared.record.Read.{Read}
-use Rattle.records.specs.declared.record.Read.TheVariants.{Record, More}
-use Rattle.records.specs.declared.record.Read.TheVariants as read
-use Rattle.records.proofs.Bytes.{part-drop}
+use Rattle.records.specs.Reader.{Whole, read_as, read_at}
+use Rattle.records.specs.declared.record.Record.{Record}
+use Rattle.records.specs.declared.record.Unread.{Unread}
+use Rattle.records.specs.declared.record.Unread.TheVariants.{More, Bad}
 use Rattle.records.proofs.Windows.{record_read, record_cut, record_whole}
 use Rattle.programmer.specs.Wishes.{Field, Wish, Checked, no_field, wanted, field_in, body_of, is_field, of_its_size, first_wrong, checked_from, fields_from, wish_of}
-use Rattle.programmer.specs.Reading.{RecordLies, FieldLies, field_as, Finds}
+use Rattle.programmer.specs.Reading.{RecordLies, RecordStands, FieldLies, field_as, Finds}
 use Rattle.programmer.specs.Promises.{FieldsFit}
-use Rattle.programmer.specs.declared.wish.Entry.{Entry}
 use Rattle.programmer.specs.declared.wish.TapeFault.TheVariants.{BadRecord}
 use Rattle.programmer.specs.declared.wish.Wanted.{Wanted}
 
@@ -39,46 +36,40 @@ short-length [] B = omega arith
 short-length (x ∷ []) B = omega (arith, B 0)
 short-length (x ∷ y ∷ l) B = omega (arith, B 0, B 1)
 
--- a record that is read
+-- a record that is read, or none
 module _ (s : List ℕ) (at : ℕ) where
   abbrev t : List ℕ
   t = drop at s
 
-  module _ (longest kind start n : ℕ) (next : Cursor) (is : read_at longest at t ≡ Record kind start n next) where
-    pub body_within : start + n ≤ length s
-    body_within = let w = record_read longest at t kind start n next is in omega (arith, w.body_at, w.body-length, w.has_kind, w.inside, length-drop at s)
+  stands_whole : (longest : ℕ) (e : Record) → read_as (Ok e) ≡ read_at longest at t → RecordLies s at e
+  stands_whole longest e q =
+      let r = record_read longest at t _ (sym q) in
+      record { record_is = record_whole t r.has_kind r.inside ∙ rw (← r.kind_is, ← r.body_is); past = r.past }
 
-    pub stands_whole : (e : Entry) → e.kind ≡ kind → e.body.now ≡ take (start + n - start) (drop start s) → e.next ≡ next.at → RecordLies s at e
-    unfolding part
-    stands_whole e k b x =
-        let w = record_read longest at t kind start n next is in
-        let z : start + n - start ≡ n = omega arith in
-        let p : part t 4 (length_at t - 2) ≡ part s start n = part-drop s at 4 (length_at t - 2) ∙ rw (w.body_at, w.body-length) in
-        record { record_is = record_whole t w.has_kind w.inside ∙ rw (k, w.kind_is, b, z, p); past = x ∙ w.past }
-
-  pub stands-cut : ((i : ℕ) → get_or s i 0 < 256) → (v : Read) → (v ≡ More) ⊎ (v ≡ read.Bad) → v ≡ read_at 0xFFFF at t → record_at t ≡ cut
+  stands-cut : ((i : ℕ) → get_or s i 0 < 256) → (u : Unread) → read_as (Err u) ≡ read_at 0xFFFF at t → record_at t ≡ cut
   unfolding read_at length_at
-  stands-cut B v u e =
-      record_cut t (go (ltb (length t) 4) (ltb (length_at t) 2) (ltb 0xFFFF (length_at t)) (ltb (length t) (whole_length t)) refl refl refl refl u e)
+  stands-cut B u e =
+      record_cut t (go (ltb (length t) 4) (ltb (length_at t) 2) (ltb 0xFFFF (length_at t)) (ltb (length t) (whole_length t)) refl refl refl refl e)
     where
-      never : {A : Type 0} (kind start n : ℕ) (next : Cursor) → (v ≡ More) ⊎ (v ≡ read.Bad) → v ≡ Record kind start n next → A
-      never kind start n next (inl h) e = absurd cc
-      never kind start n next (inr h) e = absurd cc
-
       few : length_at t ≤ 0xFFFF
       few = short-length t (λ i. rw (get_or-drop at s i 0) (B (at + i)))
 
-      go : (a b c d : Bool) → ltb (length t) 4 ≡ a → ltb (length_at t) 2 ≡ b → ltb 0xFFFF (length_at t) ≡ c → ltb (length t) (whole_length t) ≡ d → (v ≡ More) ⊎ (v ≡ read.Bad)
-          → v ≡ pick a More (pick b read.Bad (pick c read.Bad (pick d More (Record (little (part t 2 2)) (at + 4) (length_at t - 2) (record { at = at + whole_length t })))))
+      go : (a b c d : Bool) → ltb (length t) 4 ≡ a → ltb (length_at t) 2 ≡ b → ltb 0xFFFF (length_at t) ≡ c → ltb (length t) (whole_length t) ≡ d
+          → ◌≡◌ {A = Result Whole Unread} (Err u) (pick a (Err More) (pick b (Err Bad) (pick c (Err Bad) (pick d (Err More)
+          (Ok (record { kind = little (part t 2 2); start = at + 4; body = part t 4 (length_at t - 2); next = at + whole_length t }))))))
           → 2 ≤ length_at t → length t < whole_length t
-      go true b c d f g h k u e l = omega (arith, ltb-true (length t) 4 f)
-      go false true c d f g h k u e l = absurd (omega (arith, ltb-true (length_at t) 2 g))
-      go false false true d f g h k u e l = absurd (omega (arith, ltb-true 0xFFFF (length_at t) h, few))
-      go false false false true f g h k u e l = ltb-true (length t) (whole_length t) k
-      go false false false false f g h k u e l = never _ _ _ _ u e
+      go true b c d f g h k e l = omega (arith, ltb-true (length t) 4 f)
+      go false true c d f g h k e l = absurd (omega (arith, ltb-true (length_at t) 2 g))
+      go false false true d f g h k e l = absurd (omega (arith, ltb-true 0xFFFF (length_at t) h, few))
+      go false false false true f g h k e l = ltb-true (length t) (whole_length t) k
+      go false false false false f g h k e l = let z : ◌≡◌ {A = ℕ} 0 1 = cc in absurd (omega arith)
+
+  pub stands : ((i : ℕ) → get_or s i 0 < 256) → (r : Result Record Unread) → read_as r ≡ read_at 0xFFFF at t → RecordStands s at (result_ok r)
+  stands B (Ok e) q = stands_whole 0xFFFF e q
+  stands B (Err u) q = stands-cut B u q
 
 -- a field's record by its test, or none
-module _ (s : List ℕ) (at : ℕ) (e : Entry) (h : RecordLies s at e) where
+module _ (s : List ℕ) (at : ℕ) (e : Record) (h : RecordLies s at e) where
   field_is : is_field (record_at (drop at s)) ≡ both (eqb e.kind 0x21) (exists (arg e.body.now 0))
   unfolding is_field
   field_is = rw h.record_is
@@ -127,7 +118,7 @@ module _ (s : List ℕ) (at : ℕ) (w : Checked) where
       pub bad_here : is_field (record_at (drop at s)) ≡ false → Err (BadRecord at) ≡ checked_from left w at (drop at s)
       bad_here e = sym (opened ∙ rw e)
 
-      pub fault_more : (e : Entry) → FieldLies s at e → checked_from rest (first_wrong w (of_its_size e.body.now) at) e.next (drop e.next s) ≡ checked_from left w at (drop at s)
+      pub fault_more : (e : Record) → FieldLies s at e → checked_from rest (first_wrong w (of_its_size e.body.now) at) e.next.at (drop e.next.at s) ≡ checked_from left w at (drop at s)
       fault_more e h = sym (opened ∙ rw (h.is, h.body, drop-drop (whole_length (drop at s)) at s, ← h.past))
 
 -- one wanted field more, or none
@@ -144,7 +135,7 @@ module _ (s : List ℕ) (at left : ℕ) where
       go zero = refl
       go (suc k) = rw e
 
-  module _ (e : Entry) (h : FieldLies s at e) where
+  module _ (e : Record) (h : FieldLies s at e) where
     pub unsized_here : of_its_size e.body.now ≡ false → fields_from left (drop at s) ≡ []
     unfolding fields_from
     unsized_here f = go left
@@ -153,11 +144,11 @@ module _ (s : List ℕ) (at left : ℕ) where
         go zero = refl
         go (suc k) = rw (h.is, h.body, f)
 
-    pub field_more : of_its_size e.body.now ≡ true → (left ≡ 0 → ⊥) → fields_from left (drop at s) ≡ field_in e.body.now ∷ fields_from (left - 1) (drop e.next s)
+    pub field_more : of_its_size e.body.now ≡ true → (left ≡ 0 → ⊥) → fields_from left (drop at s) ≡ field_in e.body.now ∷ fields_from (left - 1) (drop e.next.at s)
     unfolding fields_from
     field_more f z = go left z
       where
-        go : (k : ℕ) → (k ≡ 0 → ⊥) → fields_from k (drop at s) ≡ field_in e.body.now ∷ fields_from (k - 1) (drop e.next s)
+        go : (k : ℕ) → (k ≡ 0 → ⊥) → fields_from k (drop at s) ≡ field_in e.body.now ∷ fields_from (k - 1) (drop e.next.at s)
         go zero z = absurd (z refl)
         go (suc k) z = let y : suc k - 1 ≡ k = omega arith in rw (h.is, h.body, f, drop-drop (whole_length (drop at s)) at s, ← h.past, y)
 

@@ -2,31 +2,31 @@
 use Rattle.std.specs.Prelude.{ℕ, ◌+◌, ◌≤◌, ◌<◌, ◌≡◌, true, false, List, length, take, drop, Option, Some, None}
 use Rattle.meaning.specs.Bytes.{most_count}
 use Rattle.records.specs.Records.{whole, cut, record_at, whole_length}
+use Rattle.records.specs.declared.record.Record.{Record}
 use Rattle.programmer.specs.Wishes.{Field, Wish, wanted, body_of, is_field, fields_from}
 use Rattle.programmer.specs.Steps.{requests_for}
 use Rattle.programmer.specs.declared.count.Counts.{Counts}
 use Rattle.programmer.specs.declared.step.Step.{Step}
 use Rattle.programmer.specs.declared.step.Step.TheVariants.{Count, Look, Remove, Create, Store, Read, Lock}
-use Rattle.programmer.specs.declared.wish.Entry.{Entry}
 use Rattle.programmer.specs.declared.wish.Fields.{Fields}
 use Rattle.programmer.specs.declared.wish.Wanted.{Wanted}
 
 -- a whole record, and the next one begins past it
-pub record RecordLies (s : List ℕ) (at : ℕ) (e : Entry) : Type 0 where
+pub record RecordLies (s : List ℕ) (at : ℕ) (e : Record) : Type 0 where
   pub record_is : record_at (drop at s) ≡ whole e.kind e.body.now
-  pub past : e.next ≡ at + whole_length (drop at s)
+  pub past : e.next.at ≡ at + whole_length (drop at s)
 
-abbrev pub RecordStands : List ℕ → ℕ → Option Entry → Type 0
+abbrev pub RecordStands : List ℕ → ℕ → Option Record → Type 0
 RecordStands s at (Some e) = RecordLies s at e
 RecordStands s at None = record_at (drop at s) ≡ cut
 
 -- a field's record
-pub record FieldLies (s : List ℕ) (at : ℕ) (e : Entry) : Type 0 where
+pub record FieldLies (s : List ℕ) (at : ℕ) (e : Record) : Type 0 where
   pub is : is_field (record_at (drop at s)) ≡ true
   pub body : body_of (record_at (drop at s)) ≡ e.body.now
-  pub past : e.next ≡ at + whole_length (drop at s)
+  pub past : e.next.at ≡ at + whole_length (drop at s)
 
-abbrev pub FieldAt : List ℕ → ℕ → Option Entry → Type 0
+abbrev pub FieldAt : List ℕ → ℕ → Option Record → Type 0
 FieldAt s at (Some e) = FieldLies s at e
 FieldAt s at None = is_field (record_at (drop at s)) ≡ false
 

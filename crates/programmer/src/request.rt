@@ -9,7 +9,7 @@ ghost use Rattle.programmer.specs.Reading.{Wants};
 
 use crate::step::Step;
 use crate::wish::{Wanted, find};
-use bench::Written;
+use bench::Unwritten;
 
 // A wanted field, or status 00h and no bytes past the last.
 #[tactic(auto, using(crate::proofs::Asking::wants_found, crate::proofs::Asking::wants_none))]
@@ -45,7 +45,13 @@ fn enabled(status: u8) -> u8
 }
 
 // 4Dh.
-fn shape(address: u32, field: u8, status: u8, code: u8, buffer: &mut [u8]) -> Written
+fn shape(
+    address: u32,
+    field: u8,
+    status: u8,
+    code: u8,
+    buffer: &mut [u8],
+) -> Result<usize, Unwritten>
     ensures { written_of result buffer.new ≡ writes address 0x4D (field ∷ status ∷ code ∷ []) buffer.old }
 {
     let body = [field, status, code];
@@ -53,7 +59,7 @@ fn shape(address: u32, field: u8, status: u8, code: u8, buffer: &mut [u8]) -> Wr
 }
 
 // 4Ch.
-fn look(address: u32, field: u8, buffer: &mut [u8]) -> Written
+fn look(address: u32, field: u8, buffer: &mut [u8]) -> Result<usize, Unwritten>
     ensures { written_of result buffer.new ≡ writes address 0x4C (field ∷ []) buffer.old }
 {
     let body = [field];
@@ -61,7 +67,7 @@ fn look(address: u32, field: u8, buffer: &mut [u8]) -> Written
 }
 
 // 4Bh of a whole field.
-fn store(address: u32, tape: &[u8], field: u8, buffer: &mut [u8]) -> Written
+fn store(address: u32, tape: &[u8], field: u8, buffer: &mut [u8]) -> Result<usize, Unwritten>
     ensures { written_of result buffer.new ≡ writes address 0x4B (due (wish_of tape.now) (Step.Store field)).body buffer.old }
 {
     let wanted = wanted(tape, field);
@@ -76,7 +82,7 @@ fn store(address: u32, tape: &[u8], field: u8, buffer: &mut [u8]) -> Written
 }
 
 // 4Ah of a whole field.
-fn fetch(address: u32, tape: &[u8], field: u8, buffer: &mut [u8]) -> Written
+fn fetch(address: u32, tape: &[u8], field: u8, buffer: &mut [u8]) -> Result<usize, Unwritten>
     ensures { written_of result buffer.new ≡ writes address 0x4A (due (wish_of tape.now) (Step.Read field)).body buffer.old }
 {
     let wanted = wanted(tape, field);
@@ -86,7 +92,7 @@ fn fetch(address: u32, tape: &[u8], field: u8, buffer: &mut [u8]) -> Written
 }
 
 // R4 before R5, as the bench has them.
-pub fn ask(address: u32, tape: &[u8], step: Step, buffer: &mut [u8]) -> Written
+pub fn ask(address: u32, tape: &[u8], step: Step, buffer: &mut [u8]) -> Result<usize, Unwritten>
     ensures { written_of result buffer.new ≡ writes address (due (wish_of tape.now) step).command (due (wish_of tape.now) step).body buffer.old }
 {
     match step {

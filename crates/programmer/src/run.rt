@@ -1,14 +1,14 @@
 // The programmer, held by value (02, Req 04). The host sends and receives between `next` and `heard`.
 ghost use Rattle.std.specs.Prelude.{◌≡◌};
 ghost use Rattle.programmer.specs.Wishes.{checked_tape, wish_of};
-ghost use Rattle.programmer.specs.Running.{started_by, told_by, length_written, asked_of, asks, hears};
+ghost use Rattle.programmer.specs.Running.{started_by, asked_of, asks, hears};
 ghost use Rattle.programmer.specs.declared.run.StartRefusal.TheVariants.{Tape};
 
 use crate::request::ask;
 use crate::step::{Standing, Step};
 use crate::turn::on_verdict;
 use crate::wish::{TapeFault, check};
-use bench::Written;
+use bench::{Piece, Unwritten};
 use wire::codes::LONGEST_REQUEST;
 
 // The address is that of the board, 0 to 31, or 255 for broadcast; `present` is how many fields the board had, as far as it has told.
@@ -34,35 +34,6 @@ impl From<TapeFault> for StartRefusal {
     }
 }
 
-// The length of the request that fills the front of the buffer; or nothing is due any more; or the bench's refusal.
-#[derive(Clone, Copy)]
-pub enum Asked {
-    Request { len: usize },
-    Over,
-    R4,
-    R5,
-}
-
-fn told(written: Written) -> Asked
-    ensures { result ≡ told_by written }
-{
-    match written {
-        Written::Request { len } => Asked::Request { len },
-        Written::R4 => Asked::R4,
-        Written::R5 => Asked::R5,
-    }
-}
-
-fn length_written(written: Written) -> usize
-    ensures { result ≡ length_written written }
-{
-    match written {
-        Written::Request { len } => len,
-        Written::R4 => 0,
-        Written::R5 => 0,
-    }
-}
-
 impl Programmer {
     pub fn start(address: u32, tape: &[u8]) -> Result<Programmer, StartRefusal>
         ensures { result ≡ started_by address (checked_tape tape.now) }
@@ -78,15 +49,16 @@ impl Programmer {
         })
     }
 
-    // Writes the request that is due.
+    // Writes the request that is due, and tells its length; nothing, where nothing is due any more.
     #[tactic(auto, unfolding(crate::specs::Running::asks))]
-    pub fn next(self, tape: &[u8], buffer: &mut [u8]) -> Asked
+    pub fn next(self, tape: &[u8], buffer: &mut [u8]) -> Result<Option<usize>, Unwritten>
         ensures { asked_of result buffer.new ≡ asks self.address (wish_of tape.now) self.standing buffer.old }
     {
         let Standing::At(step) = self.standing else {
-            return Asked::Over;
+            return Ok(None);
         };
-        told(ask(self.address, tape, step, buffer))
+        let len = ask(self.address, tape, step, buffer)?;
+        Ok(Some(len))
     }
 
     // Takes the reply that came, empty for silence. The request is written anew, so that nobody's copy of it is trusted.
@@ -97,13 +69,12 @@ impl Programmer {
             return self;
         };
         let mut request = [0; LONGEST_REQUEST];
-        let len = length_written(ask(self.address, tape, step, &mut request));
+        let len = ask(self.address, tape, step, &mut request).unwrap_or(0);
         let asked = &request[..len];
-        let verdict = bench::judge(asked, reply);
-        let piece = verdict.piece(reply.len());
-        let from = piece.from;
-        let end = from + piece.count;
-        let next = on_verdict(tape, step, verdict, &reply[from..end]);
+        let judged = bench::judge(asked, reply);
+        let Piece { from, count } = Piece::of(judged, reply.len());
+        let end = from + count;
+        let next = on_verdict(tape, step, judged, &reply[from..end]);
         Programmer {
             address: self.address,
             present: self.present.max(next.still_there()),

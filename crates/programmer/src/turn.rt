@@ -9,7 +9,7 @@ ghost use Rattle.programmer.specs.Steps as steps;
 use crate::request::wanted;
 use crate::step::{Standing, Step, Why};
 use crate::wish::find;
-use bench::Verdict;
+use bench::{Refusal, Verdict};
 
 // The first i wanted fields are there: the next, or done.
 #[tactic(auto, using(crate::proofs::Asking::making_found, crate::proofs::Asking::making_none))]
@@ -85,14 +85,21 @@ fn onto(tape: &[u8], step: Step, answer: &[u8]) -> Standing
 }
 
 // "a warning does not stop the run"; "a failed judgement; an error code". `answer` is the data part that the bench handed back.
-pub fn on_verdict(tape: &[u8], step: Step, verdict: Verdict, answer: &[u8]) -> Standing
-    ensures { (v : meaning.Verdict) → verdict_of verdict ≡ without_data v → answer.now ≡ contents v → result ≡ steps.on_verdict (wish_of tape.now) step v }
+pub fn on_verdict(
+    tape: &[u8],
+    step: Step,
+    judged: Result<Verdict, Refusal>,
+    answer: &[u8],
+) -> Standing
+    ensures { (v : meaning.Verdict) → verdict_of judged ≡ without_data v → answer.now ≡ contents v → result ≡ steps.on_verdict (wish_of tape.now) step v }
 {
-    match verdict {
-        Verdict::Done | Verdict::DoneWithWarning => onto(tape, step, answer),
-        Verdict::Error(code) | Verdict::ErrorWithWarning(code) => {
-            Standing::Failed(step, Why::Error(code))
-        }
-        Verdict::Refused(refusal) => Standing::Failed(step, Why::Judgement(refusal.number())),
+    match judged {
+        Err(refusal) => Standing::Failed(step, Why::Judgement(refusal.number())),
+        Ok(verdict) => match verdict {
+            Verdict::Done | Verdict::DoneWithWarning => onto(tape, step, answer),
+            Verdict::Error(code) | Verdict::ErrorWithWarning(code) => {
+                Standing::Failed(step, Why::Error(code))
+            }
+        },
     }
 }

@@ -7,7 +7,7 @@ ghost use Rattle.programmer.specs.Wishes.{is_codes, of_its_size, checked_from, c
 ghost use Rattle.programmer.specs.Wishes as specs;
 ghost use Rattle.programmer.specs.Reading.{RecordStands, FieldAt, field_as, fields_left, Finds};
 
-use records::{Cursor, Read};
+use records::{Cursor, Record};
 
 // A field's number is one byte.
 const MOST_FIELDS: usize = 256;
@@ -17,14 +17,6 @@ const MOST_FIELDS: usize = 256;
 pub enum TapeFault {
     BadRecord { at: usize },
     WrongSize { at: usize },
-}
-
-// A whole record: its kind, its body, and the place past it.
-#[derive(Clone, Copy)]
-struct Entry<'a> {
-    kind: u16,
-    body: &'a [u8],
-    next: usize,
 }
 
 // A wanted field: its status and its bytes.
@@ -43,51 +35,35 @@ pub struct Fields<'a> {
 }
 
 // A record may be as long as its length's two bytes can say.
-fn entry_at(tape: &[u8], at: usize) -> Option<Entry<'_>>
+fn record_at(tape: &[u8], at: usize) -> Option<Record<'_>>
     ensures { RecordStands tape.now at result }
 {
-    let cursor = Cursor { at };
-    match cursor.read(tape, 0xFFFF) {
-        Read::Record {
-            kind,
-            start,
-            length,
-            next,
-        } => {
-            let end = start + length;
-            Some(Entry {
-                kind,
-                body: &tape[start..end],
-                next: next.at,
-            })
-        }
-        Read::More | Read::Bad => None,
-    }
+    (Cursor { at }).read(tape, u16::MAX).ok()
 }
 
 // "first and once kind 20h with the four access codes".
 fn has_codes(tape: &[u8]) -> bool
     ensures { result ≡ is_codes (record_at tape.now) }
 {
-    match entry_at(tape, 0) {
-        Some(entry) => entry.kind == 0x20 && entry.body.len() == 4,
+    match record_at(tape, 0) {
+        Some(record) => record.kind == 0x20 && record.body.len() == 4,
         None => false,
     }
 }
 
 // "kind 21h for each field (status with bit 7 set, ..".
 #[tactic(auto, using(crate::proofs::Reading::cut_field, crate::proofs::Reading::other_kind, crate::proofs::Reading::no_bit, crate::proofs::Reading::lies_field))]
-fn field_here(tape: &[u8], at: usize) -> Option<Entry<'_>>
+fn field_here(tape: &[u8], at: usize) -> Option<Record<'_>>
     ensures { FieldAt tape.now at result }
 {
-    let entry = entry_at(tape, at)?;
-    if entry.kind != 0x21 {
+    let record = record_at(tape, at)?;
+    if record.kind != 0x21 {
         return None;
     }
-    if !wire::has_field(wire::byte_at(entry.body, 0)) {
+    if !wire::has_field(wire::byte_at(record.body, 0)) {
         return None;
     }
-    Some(entry)
+    Some(record)
 }
 
 // ".. then exactly its bytes)".
@@ -121,11 +97,11 @@ fn check_fields(tape: &[u8]) -> Result<(), TapeFault>
         if tape.len() <= at {
             return wrong;
         }
-        let Some(entry) = field_here(tape, at) else {
+        let Some(record) = field_here(tape, at) else {
             return Err(TapeFault::BadRecord { at });
         };
-        wrong = first_wrong(wrong, is_sized(entry.body), at);
-        at = entry.next;
+        wrong = first_wrong(wrong, is_sized(record.body), at);
+        at = record.next.at;
     }
     if at < tape.len() {
         return Err(TapeFault::BadRecord { at });
@@ -155,15 +131,15 @@ impl<'a> Iterator for Fields<'a> {
         if self.left == 0 {
             return None;
         }
-        let entry = field_here(self.tape, self.at)?;
-        if !is_sized(entry.body) {
+        let record = field_here(self.tape, self.at)?;
+        if !is_sized(record.body) {
             return None;
         }
-        self.at = entry.next;
+        self.at = record.next.at;
         self.left -= 1;
         Some(Wanted {
-            status: entry.body[0],
-            bytes: &entry.body[1..],
+            status: record.body[0],
+            bytes: &record.body[1..],
         })
     }
 }

@@ -2,8 +2,9 @@
 use Prim.Native.Nat.{ℕ}
 use mathlib.Core.Path.{◌≡◌, sym, ◌∙◌}
 use mathlib.Core.List.{List}
-use Rattle.records.specs.Reader.{read_at}
-use Rattle.records.specs.declared.record.Read.{Read}
+use Rattle.std.specs.Prelude.{Result}
+use Rattle.records.specs.Reader.{Whole, read_at}
+use Rattle.records.specs.declared.record.Unread.{Unread}
 
-pub read_tight : (longest at : ℕ) (t : List ℕ) (a b : Read) → a ≡ read_at longest at t → b ≡ read_at longest at t → a ≡ b
+pub read_tight : (longest at : ℕ) (t : List ℕ) (a b : Result Whole Unread) → a ≡ read_at longest at t → b ≡ read_at longest at t → a ≡ b
 read_tight longest at t a b p q = p ∙ sym q

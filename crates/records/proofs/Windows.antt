@@ -1,84 +1,84 @@
 -- What the reader answers, by the tests on its way. Assumes nothing.
 use Prim.Native.Nat.{ℕ, ◌+◌, ◌-◌, ◌≤◌, ◌<◌}
-use mathlib.Core.Path.{◌≡◌, refl, sym, ap}
+use mathlib.Core.Logic.{◌⊎◌, inl, inr}
+use mathlib.Core.Path.{◌≡◌, refl, ◌∙◌}
 use mathlib.Core.Bool.{Bool, true, false}
-use mathlib.Core.List.{List}
+use mathlib.Core.List.{List, [], ◌∷◌}
 use native.Mathlib.Omega.{arith}
-use lib.ListN.{length, drop, length-drop}
+use lib.ListN.{length, get_or, drop, length-drop}
+use lib.Seq.{take_all}
 use lib.Dec.{ltb, leb}
 use borrow.Author.Tests.{lt-ltb, le-ltb, ltb-false, leb-true, le-leb}
+use Rattle.std.specs.Prelude.{Ok, Err}
+use Rattle.std.specs.Int.{w16, from_le_bytes}
+use Rattle.std.specs.List.{slice_range}
 use Rattle.meaning.specs.Bytes.{pick, both, part, little}
 use Rattle.records.specs.Records.{length_at, whole_length, whole, cut, record_at}
-use Rattle.records.specs.Reader.{read_at}
-use Rattle.records.specs.declared.record.Cursor.{Cursor}
-use Rattle.records.specs.declared.record.Read.TheVariants.{Record, More, Bad}
-use Rattle.records.proofs.Bytes.{part-drop}
+use Rattle.records.specs.Reader.{Whole, read_at}
+use Rattle.records.specs.declared.record.Unread.TheVariants.{More, Bad}
+use Rattle.records.proofs.Bytes.{little_two}
 
-module _ (longest at : ℕ) (s : List ℕ) where
-  pub few-left : length s - at < 4 → More ≡ read_at longest at (drop at s)
+module _ (longest at : ℕ) (t : List ℕ) where
+  pub few-left : length t < 4 → Err More ≡ read_at longest at t
   unfolding read_at
-  few-left h = rw (length-drop at s, lt-ltb (length s - at) 4 h)
+  few-left h = rw (lt-ltb (length t) 4 h)
 
-module _ (longest at n : ℕ) (s : List ℕ) (left : 4 ≤ length s - at) (counted : n ≡ little (part s at 2)) where
-  same_length : length_at (drop at s) ≡ n
-  unfolding length_at part
-  same_length = sym counted
+  module _ (left : 4 ≤ length t) where
+    pub bad-length : (length_at t < 2) ⊎ ((2 ≤ length_at t) × (longest < length_at t)) → Err Bad ≡ read_at longest at t
+    unfolding read_at
+    bad-length (inl h) = rw (le-ltb (length t) 4 left, lt-ltb (length_at t) 2 h)
+    bad-length (inr (h, k)) = rw (le-ltb (length t) 4 left, le-ltb (length_at t) 2 h, lt-ltb longest (length_at t) k)
 
-  pub no_kind : n < 2 → Bad ≡ read_at longest at (drop at s)
-  unfolding read_at
-  no_kind h = rw (length-drop at s, le-ltb (length s - at) 4 left, same_length, lt-ltb n 2 h)
+    module _ (h : 2 ≤ length_at t) (k : length_at t ≤ longest) where
+      pub wants_more : length t < whole_length t → Err More ≡ read_at longest at t
+      unfolding read_at
+      wants_more l = rw (le-ltb (length t) 4 left, le-ltb (length_at t) 2 h, le-ltb longest (length_at t) k, lt-ltb (length t) (whole_length t) l)
 
-  pub too_long : 2 ≤ n → longest < n → Bad ≡ read_at longest at (drop at s)
-  unfolding read_at
-  too_long h k = rw (length-drop at s, le-ltb (length s - at) 4 left, same_length, le-ltb n 2 h, lt-ltb longest n k)
+      pub all_there : (n kind : ℕ) (body : List ℕ) → n ≡ length_at t → 2 + n ≤ length t → kind ≡ little (part t 2 2) → body ≡ slice_range t 4 (2 + n)
+          → Ok (record { kind = kind; start = at + 4; body = body; next = at + (2 + n) }) ≡ read_at longest at t
+      unfolding read_at part
+      all_there n kind body e l q b =
+          let m : 2 + n - 4 ≡ length_at t - 2 = omega (arith, e) in
+          let w : body ≡ part t 4 (length_at t - 2) = b ∙ rw m in
+          rw (le-ltb (length t) 4 left, le-ltb (length_at t) 2 h, le-ltb longest (length_at t) k, le-ltb (length t) (whole_length t) (omega (arith, e)), q, w, e)
 
-  pub wants_more : 2 ≤ n → n ≤ longest → length s - at < 2 + n → More ≡ read_at longest at (drop at s)
-  unfolding read_at
-  wants_more h k l =
-      rw (length-drop at s, le-ltb (length s - at) 4 left, same_length, le-ltb n 2 h, le-ltb longest n k, lt-ltb (length s - at) (2 + n) l)
+-- the length and the kind, read from their two bytes
+pub counted_is : (t : List ℕ) → 4 ≤ length t → from_le_bytes w16 (get_or t 0 0 ∷ get_or t 1 0 ∷ []) ≡ length_at t
+unfolding length_at part
+counted_is t h = let e = little_two t 0 (omega arith) in omega (arith, e)
 
-  pub all_there : (kind : ℕ) → 2 ≤ n → n ≤ longest → 2 + n ≤ length s - at → kind ≡ little (part s (at + 2) 2)
-      → Record kind (at + 4) (2 + n - 4) (record { at = at + (2 + n) }) ≡ read_at longest at (drop at s)
-  unfolding read_at
-  all_there kind h k l e =
-      let m : 2 + n - 4 ≡ n - 2 = omega arith in
-      rw (length-drop at s, le-ltb (length s - at) 4 left, same_length, le-ltb n 2 h, le-ltb longest n k, le-ltb (length s - at) (2 + n) l, part-drop s at 2 2, e, m)
+pub kind_is : (t : List ℕ) → 4 ≤ length t → from_le_bytes w16 (get_or t 2 0 ∷ get_or t 3 0 ∷ []) ≡ little (part t 2 2)
+kind_is t h = let e = little_two t 2 (omega arith) in omega (arith, e)
 
--- what `read` cites
-pub ruleset readings = (few-left, no_kind, too_long, wants_more, all_there)
+-- what is left of a window from a place on
+pub rest_is : (s t : List ℕ) (at : ℕ) → t ≡ slice_range s at (length s) → t ≡ drop at s
+rest_is s t at e = e ∙ take_all (length s - at) (drop at s) (omega (arith, length-drop at s))
 
--- a whole record that was read: its kind, where its body lies, and the place past it
-pub record Whole (at : ℕ) (t : List ℕ) (kind start n next : ℕ) : Type 0 where
-  pub kind_is : kind ≡ little (part t 2 2)
-  pub body_at : start ≡ at + 4
-  pub body-length : n ≡ length_at t - 2
-  pub past : next ≡ at + whole_length t
+-- a whole record that was read stands whole
+pub record Read (at : ℕ) (t : List ℕ) (w : Whole) : Type 0 where
+  pub kind_is : w.kind ≡ little (part t 2 2)
+  pub body_at : w.start ≡ at + 4
+  pub body_is : w.body ≡ part t 4 (length_at t - 2)
+  pub past : w.next ≡ at + whole_length t
   pub has_kind : 2 ≤ length_at t
   pub inside : whole_length t ≤ length t
 
-pub record_read : (longest at : ℕ) (t : List ℕ) (kind start n : ℕ) (next : Cursor) → read_at longest at t ≡ Record kind start n next → Whole at t kind start n next.at
+pub record_read : (longest at : ℕ) (t : List ℕ) (w : Whole) → read_at longest at t ≡ Ok w → Read at t w
 unfolding read_at
-record_read longest at t kind start n next =
-    go (ltb (length t) 4) (ltb (length_at t) 2) (ltb longest (length_at t)) (ltb (length t) (whole_length t)) refl refl
+record_read longest at t w = go (ltb (length t) 4) (ltb (length_at t) 2) (ltb longest (length_at t)) (ltb (length t) (whole_length t)) refl refl
   where
     never : {A : Type 0} → ◌≡◌ {A = ℕ} 0 1 → A
     never e = absurd (omega arith)
 
     go : (a b c d : Bool) → ltb (length_at t) 2 ≡ b → ltb (length t) (whole_length t) ≡ d
-        → pick a More (pick b Bad (pick c Bad (pick d More (Record (little (part t 2 2)) (at + 4) (length_at t - 2) (record { at = at + whole_length t }))))) ≡ Record kind start n next
-        → Whole at t kind start n next.at
+        → pick a (Err More) (pick b (Err Bad) (pick c (Err Bad) (pick d (Err More)
+        (Ok (record { kind = little (part t 2 2); start = at + 4; body = part t 4 (length_at t - 2); next = at + whole_length t }))))) ≡ Ok w → Read at t w
     go true b c d f h e = never (cc)
     go false true c d f h e = never (cc)
     go false false true d f h e = never (cc)
     go false false false true f h e = never (cc)
-    go false false false false f h e = record {
-      kind_is = (cc);
-      body_at = (cc);
-      body-length = (cc);
-      past = let q : next ≡ record { at = at + whole_length t } = (cc) in ap (λ (x : Cursor). x.at) q;
-      has_kind = ltb-false (length_at t) 2 f;
-      inside = ltb-false (length t) (whole_length t) h;
-    }
+    go false false false false f h e = rw (← let q : record { kind = little (part t 2 2); start = at + 4; body = part t 4 (length_at t - 2); next = at + whole_length t } ≡ w = cc in q)
+        (record { kind_is = refl; body_at = refl; body_is = refl; past = refl; has_kind = ltb-false (length_at t) 2 f; inside = ltb-false (length t) (whole_length t) h })
 
 -- ---- and what that says of the record that stands there
 

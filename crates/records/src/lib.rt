@@ -3,4 +3,4 @@
 
 mod record;
 
-pub use record::{Cursor, Read};
+pub use record::{Cursor, Record, Unread};

@@ -1,67 +1,40 @@
--- The decimal digits of a number, counted and written from the last. Assumes nothing.
+-- The decimal digits of a number are those that the library writes. Assumes nothing.
 use Prim.Native.Nat.{ℕ, zero, suc, ◌+◌, ◌-◌, ◌*◌, ◌/◌, ◌%◌, ◌^◌, ◌≤◌, ◌<◌}
-use mathlib.Core.Path.{◌≡◌, refl, sym}
-use mathlib.Core.List.{List, [], ◌∷◌, ◌++◌}
-use native.Mathlib.Numerals.{add-one}
+use mathlib.Core.Path.{◌≡◌, ap, ◌∙◌}
+use mathlib.Core.List.{List, [], ◌∷◌, ◌++◌, append-nil}
+use native.Mathlib.Nat.{pow-suc}
 use native.Mathlib.Omega.{arith}
-use native.Mathlib.Numerals.{unary_clauses}
-use native.Mathlib.Nat.{pow-suc, one-le-pow, zero-lt-suc, pow-le-pow_right}
-use native.Mathlib.Decide.{dec_le}
-use lib.ListN.{length, set, length-append}
+use native.Mathlib.Decide.{dec_lt}
+use lib.ListN.{length, take, drop}
+use lib.Seq.{take_all}
 use borrow.Author.Tests.{lt-ltb, le-ltb}
-use Rattle.io.specs.Digits.{hex_digit_ascii, last_digits, IsDigitCount}
-use Rattle.meaning.specs.Bytes.{put}
+use Rattle.std.specs.Fmt.{decimal}
+use Rattle.std.proofs.lemmas.Fmt.{decimal_digit, decimal_step, length-decimal-le}
 use Rattle.tape.specs.Text.{decimal_in, decimal_of}
-use Rattle.tape.proofs.Outputs.{put_back}
 
-pub length_digits : (k n : ℕ) → length (last_digits 10 k n) ≡ k
-length_digits zero n = refl
-length_digits (suc k) n = rw (length-append (last_digits 10 k (n / 10)), length_digits k (n / 10), add-one k)
-
-pub last_digit : (n : ℕ) → hex_digit_ascii (n % 10) ≡ 48 + n % 10
-last_digit n = rw (lt-ltb (n % 10) 10 (omega arith))
-
--- the fewest digits that hold a number are its decimal digits
-same_in : (j k n : ℕ) → suc k ≤ suc j → n < 10 ^ suc k → (1 < suc k → 10 ^ k ≤ n) → decimal_in j n ≡ last_digits 10 (suc k) n
+same_in : (j n : ℕ) → n < 10 ^ suc j → n < 2 ^ 64 → decimal n ≡ decimal_in j n
 unfolding decimal_in
-same_in zero zero n h l m = rw (last_digit n)
-same_in zero (suc k) n h l m = absurd (omega arith)
-same_in (suc j) zero n h l m =
-    let e : n % 10 ≡ n = omega arith in
-    rw (lt-ltb n 10 l, last_digit n, e)
-same_in (suc j) (suc k) n h l m =
-    let b : 10 ^ suc k ≤ n = m (omega arith) in
-    let q : 10 ^ suc k ≡ 10 ^ k * 10 = pow-suc 10 k in
-    let r : 10 ^ suc (suc k) ≡ 10 ^ suc k * 10 = pow-suc 10 (suc k) in
-    let p : 1 ≤ 10 ^ k = one-le-pow k 10 (zero-lt-suc 9) in
-    let u : n / 10 < 10 ^ suc k = omega arith in
-    let v : 10 ^ k ≤ n / 10 = omega arith in
-    rw (le-ltb n 10 (omega arith), last_digit n, same_in j k (n / 10) (omega arith) u (λ x. v))
-
-pub same_digits : (k n : ℕ) → k ≤ 20 → IsDigitCount 10 1 n k → last_digits 10 k n ≡ decimal_of n
-unfolding decimal_of
-same_digits zero n h f = absurd (omega arith)
-same_digits (suc k) n h f = sym (same_in 19 k n h f.1 (λ l. simp unary_clauses at (f.2 l)))
-
--- the last of the digits that are left is stored behind the place where the others will stand
-pub digit_less : (out : List ℕ) (at i n : ℕ) → 0 < i → at + i ≤ length out
-    → put (set out (at + (i - 1)) (48 + n % 10)) at (last_digits 10 (i - 1) (n / 10)) ≡ put out at (last_digits 10 i n)
-digit_less out at zero n h k = absurd (omega arith)
-digit_less out at (suc i) n h k =
-    let e : suc i - 1 ≡ i = omega arith in
-    let l : length (last_digits 10 i (n / 10)) ≡ i = length_digits i (n / 10) in
-    let q : put (set out (at + length (last_digits 10 i (n / 10))) (48 + n % 10)) at (last_digits 10 i (n / 10)) ≡ put out at (last_digits 10 i (n / 10) ++ ((48 + n % 10) ∷ []))
-    = put_back out at (48 + n % 10) (last_digits 10 i (n / 10)) (omega arith) in
-    rw (e, last_digit n) (rw l at q)
-
--- the place of a record has at most 20 digits
-pub few_digits : (n k : ℕ) → n < 2 ^ 64 → IsDigitCount 10 1 n k → k ≤ 20
-few_digits n k h f = go (dec_le k 20)
+same_in zero n h l = let e : n % 10 ≡ n = omega arith in rw e (decimal_digit n h)
+same_in (suc j) n h l =
+    let q : 10 ^ suc (suc j) ≡ 10 ^ suc j * 10 = pow-suc 10 (suc j) in
+    let u : n / 10 < 10 ^ suc j = omega arith in
+    go (dec_lt n 10) (same_in j (n / 10) u (omega arith))
   where
-    go : Dec (k ≤ 20) → k ≤ 20
-    go (yes l) = l
-    go (no l) =
-        let m : 20 < k = omega arith in
-        let b : 10 ^ 20 ≤ 10 ^ (k - 1) = pow-le-pow_right (zero-lt-suc 9) {i = 20} {j = k - 1} (omega arith) in
-        let a : 10 ^ (k - 1) ≤ n = f.2 (omega arith) in
-        absurd (omega arith)
+    go : Dec (n < 10) → decimal (n / 10) ≡ decimal_in j (n / 10) → decimal n ≡ decimal_in (suc j) n
+    go (yes k) e = rw (lt-ltb n 10 k) (decimal_digit n k)
+    go (no k) e = rw (le-ltb n 10 (omega arith)) (decimal_step n (omega arith) l ∙ ap (λ (x : List ℕ). x ++ ((48 + n % 10) ∷ [])) e)
+
+pub same_digits : (n : ℕ) → n < 2 ^ 64 → decimal n ≡ decimal_of n
+unfolding decimal_of
+same_digits n h = same_in 19 n (omega arith) h
+
+-- a place has at most 20 digits, a tick 10
+pub few_digits : (n : ℕ) → n < 2 ^ 64 → length (decimal_of n) ≤ 20
+few_digits n h = rw (← same_digits n h) (length-decimal-le 20 n (omega arith) (omega arith) h)
+
+pub tick_digits : (n : ℕ) → n < 2 ^ 32 → length (decimal_of n) ≤ 10
+tick_digits n h = rw (← same_digits n (omega arith)) (length-decimal-le 10 n (omega arith) (omega arith) (omega arith))
+
+-- the digits stand at the end of the bytes that the library wrote
+pub last_written : (n start : ℕ) (digits : List ℕ) → n < 2 ^ 64 → start + length (decimal n) ≡ 20 → drop start digits ≡ decimal n ++ [] → take (20 - start) (drop start digits) ≡ decimal_of n
+last_written n start digits h l e = rw (e, append-nil) (take_all (20 - start) (decimal n) (omega arith) ∙ same_digits n h)

@@ -1,21 +1,33 @@
 -- What a body says, kind by kind. Assumes nothing.
-use Prim.Native.Nat.{ℕ, ◌≤◌, ◌<◌}
+use Prim.Native.Nat.{ℕ, ◌-◌, ◌≤◌, ◌<◌}
 use mathlib.Core.Path.{◌≡◌, refl, sym, ap, subst, ◌∙◌}
 use mathlib.Core.Bool.{Bool, true, false}
-use mathlib.Core.List.{List}
+use mathlib.Core.List.{List, [], ◌∷◌}
 use native.Mathlib.Omega.{arith}
-use lib.ListN.{length, get_or}
+use lib.ListN.{length, get_or, take, length-take}
 use lib.Dec.{eqb, leb}
-use lib.Seq.{take_all}
-use borrow.Author.Tests.{eq-eqb, ne_eqb, lt-leb, le-leb}
-use Rattle.meaning.specs.Bytes.{pick, part, arg, little, zeros}
+use borrow.Author.Tests.{eqb-true, eq-eqb, ne_eqb, lt-leb, le-leb}
+use Rattle.std.specs.Prelude.{Result, Ok, Err, Option, None, Some}
+use Rattle.std.specs.Int.{w32, from_le_bytes}
+use Rattle.meaning.specs.Bytes.{pick, arg, little, zeros}
 use Rattle.meaning.specs.State.{Plate, label_length}
 use Rattle.meaning.specs.Run.{character}
 use Rattle.tape.specs.Kinds.{Said, plate, call, unfit, character_in, sized, call_of}
-use Rattle.records.specs.Reader.{read_at}
+use Rattle.tape.specs.Reader.{number_of}
+use Rattle.records.specs.Reader.{Whole, read_at}
 use Rattle.tape.specs.Passes.{NextRecord, incomplete, says, longest_record, next_record_by, next_record}
-use Rattle.records.specs.declared.record.Read.{Read}
-use Rattle.records.specs.declared.record.Read.TheVariants.{Record, More, Bad}
+use Rattle.records.specs.declared.record.Unread.{Unread}
+use Rattle.records.specs.declared.record.Unread.TheVariants.{More, Bad}
+
+-- four bytes, the low one first
+four : (b : List ℕ) → length b ≡ 4 → little b ≡ from_le_bytes w32 (get_or b 0 0 ∷ get_or b 1 0 ∷ get_or b 2 0 ∷ get_or b 3 0 ∷ [])
+unfolding little
+four (w ∷ x ∷ y ∷ z ∷ []) h = omega arith
+four [] h = absurd (omega arith)
+four (w ∷ []) h = absurd (omega arith)
+four (w ∷ x ∷ []) h = absurd (omega arith)
+four (w ∷ x ∷ y ∷ []) h = absurd (omega arith)
+four (v ∷ w ∷ x ∷ y ∷ z ∷ b) h = absurd (omega arith)
 
 module _ (b : List ℕ) where
   pub unfitted : (k : ℕ) (x : Said) → (length b ≡ k → ⊥) → unfit ≡ sized k b x
@@ -26,21 +38,62 @@ module _ (b : List ℕ) where
   unfolding sized
   fitted k x h = rw (eq-eqb (length b) k h)
 
-  pub character-unfit : length b ≡ 6 → 1 < get_or b 5 0 → unfit ≡ sized 6 b (character_in b)
-  unfolding character_in
-  character-unfit h k = sym (rw (lt-leb (get_or b 5 0) 1 k)) ∙ fitted 6 (character_in b) h
+  pub unnumbered : (length b ≡ 4 → ⊥) → None ≡ number_of b
+  unfolding number_of
+  unnumbered h = rw (ne_eqb (length b) 4 h)
 
-  pub character-said : (tick : ℕ) → length b ≡ 6 → tick ≡ little (part b 0 4) → get_or b 5 0 ≤ 1
-      → call (character tick (get_or b 4 0) (eqb (get_or b 5 0) 1)) ≡ sized 6 b (character_in b)
-  unfolding character_in part
-  character-said tick h e k = sym (rw (le-leb (get_or b 5 0) 1 k, e)) ∙ fitted 6 (character_in b) h
+  pub numbered : length b ≡ 4 → Some (from_le_bytes w32 (get_or b 0 0 ∷ get_or b 1 0 ∷ get_or b 2 0 ∷ get_or b 3 0 ∷ [])) ≡ number_of b
+  unfolding number_of
+  numbered h = rw (eq-eqb (length b) 4 h, four b h)
 
-  pub number-said : (tick : ℕ) (f : ℕ → Said) → length b ≡ 4 → tick ≡ little (part b 0 4) → f tick ≡ sized 4 b (f (little b))
-  unfolding part
-  number-said tick f h e = ap f (e ∙ ap little (take_all 4 b (omega arith))) ∙ fitted 4 (f (little b)) h
+  -- a number that was read is that of four bytes, and where none was read there are not four
+  number-read : (n : ℕ) → number_of b ≡ Some n → (length b ≡ 4) × (n ≡ little b)
+  unfolding number_of
+  number-read n = go (eqb (length b) 4) refl
+    where
+      go : (q : Bool) → eqb (length b) 4 ≡ q → pick q (Some (little b)) None ≡ Some n → (length b ≡ 4) × (n ≡ little b)
+      go true h e = (eqb-true (length b) 4 h, cc)
+      go false h e = let z : ◌≡◌ {A = ℕ} 0 1 = cc in absurd (omega arith)
+
+  number-unread : number_of b ≡ None → length b ≡ 4 → ⊥
+  unfolding number_of
+  number-unread e h = let k : ◌≡◌ {A = Option ℕ} (Some (little b)) None = rw (eq-eqb (length b) 4 h) at e in let z : ◌≡◌ {A = ℕ} 0 1 = cc in absurd (omega arith)
+
+  pub number-said : (n : ℕ) (f : ℕ → Said) → number_of b ≡ Some n → f n ≡ sized 4 b (f (little b))
+  number-said n f e = let (h, k) = number-read n e in ap f k ∙ fitted 4 (f (little b)) h
+
+  pub number-unsaid : (x : Said) → number_of b ≡ None → unfit ≡ sized 4 b x
+  number-unsaid x e = unfitted 4 x (number-unread e)
+
+-- a character's first four bytes are its tick
+module _ (b : List ℕ) (some : 2 ≤ length b) where
+  abbrev front : List ℕ
+  front = take (length b - 2) b
+
+  front_four : length b ≡ 6 → length front ≡ 4
+  front_four h = rw (length-take (length b - 2) b) (omega arith)
+
+  pub character-untimed : number_of front ≡ None → unfit ≡ sized 6 b (character_in b)
+  character-untimed e = unfitted b 6 (character_in b) (λ h. number-unread front e (front_four h))
+
+  module _ (tick : ℕ) (e : number_of front ≡ Some tick) where
+    six : length b ≡ 6
+    six = let n = length-take (length b - 2) b in let (h, k) = number-read front tick e in omega (arith, n)
+
+    pub character-unfit : 1 < get_or b (length b - 1) 0 → unfit ≡ sized 6 b (character_in b)
+    unfolding character_in
+    character-unfit k = sym (rw (lt-leb (get_or b 5 0) 1 (rw six at k))) ∙ fitted b 6 (character_in b) six
+
+    pub character-said : get_or b (length b - 1) 0 ≤ 1
+        → call (character tick (get_or b (length b - 2) 0) (eqb (get_or b (length b - 1) 0) 1)) ≡ sized 6 b (character_in b)
+    unfolding character_in
+    character-said k =
+        let (h, t) = number-read front tick e in
+        let q : tick ≡ little (take 4 b) = rw six at t in
+        rw six (sym (rw (le-leb (get_or b 5 0) 1 (rw six at k), q)) ∙ fitted b 6 (character_in b) six)
 
 -- what the functions of each kind cite
-pub ruleset kinds_read = (unfitted, fitted, character-unfit, character-said, number-said)
+pub ruleset kinds_read = (unfitted, fitted, unnumbered, numbered)
 
 -- 02, Req 01, "on the tape they are all zero": the label bytes of every plate that a record says
 abbrev Unlabelled : Said → Type 0
@@ -66,11 +119,11 @@ abbrev UnlabelledNext : NextRecord → Type 0
 UnlabelledNext incomplete = Unit
 UnlabelledNext (says x) = Unlabelled x
 
-read_unlabelled : (t : List ℕ) (r : Read) → UnlabelledNext (next_record_by t r)
+read_unlabelled : (r : Result Whole Unread) → UnlabelledNext (next_record_by r)
 unfolding next_record_by
-read_unlabelled t (Record k from n c) = said_unlabelled k (part t 4 n)
-read_unlabelled t More = tt
-read_unlabelled t Bad = tt
+read_unlabelled (Ok w) = said_unlabelled w.kind w.body
+read_unlabelled (Err More) = tt
+read_unlabelled (Err Bad) = tt
 
 pub no_label : (t : List ℕ) (p : Plate) → next_record t ≡ says (plate p) → p.label ≡ zeros label_length
-no_label t p e = subst UnlabelledNext e (read_unlabelled t (read_at longest_record 0 t))
+no_label t p e = subst UnlabelledNext e (read_unlabelled (read_at longest_record 0 t))

@@ -1,12 +1,13 @@
--- Bytes put into an output one after another, from the front and from the back. Assumes nothing.
-use Prim.Native.Nat.{ℕ, suc, ◌+◌, ◌-◌, ◌*◌, ◌/◌, ◌%◌, ◌≤◌, ◌<◌}
+-- Bytes put into an output one after another. Assumes nothing.
+use Prim.Native.Nat.{ℕ, ◌+◌, ◌-◌, ◌*◌, ◌/◌, ◌%◌, ◌≤◌, ◌<◌}
 use mathlib.Core.Path.{◌≡◌, refl, sym, ap, ◌∙◌}
 use mathlib.Core.List.{List, [], ◌∷◌, ◌++◌}
 use native.Mathlib.Numerals.{add-one}
 use native.Mathlib.Nat.{add-zero}
 use native.Mathlib.Omega.{arith}
-use lib.ListN.{length, get_or, take, drop, set, length-append, length-drop, length-set, take-append-drop, drop_of_length-le}
-use lib.Seq.{drop-cons, drop_at, set_split, length-take-le, take-set-le, append_snoc}
+use lib.ListN.{length, get_or, drop, set, length-drop, length-set, take-append-drop, drop_of_length-le}
+use lib.Seq.{drop-cons, drop-drop}
+use borrow.Rule.Slice.PartMut.{put_mid}
 use Rattle.meaning.specs.Bytes.{put}
 use Rattle.meaning.proofs.Puts.{length-put, put-put, put_one}
 use Rattle.tape.specs.Text.{digit_of, hex_of}
@@ -16,23 +17,19 @@ pub put-nil : (out : List ℕ) (at : ℕ) → put out at [] ≡ out
 unfolding put
 put-nil out at = rw (add-zero at) (take-append-drop at out)
 
+-- a part of the output that was copied over
+pub put_copied : (out s part : List ℕ) (at n : ℕ) → part ≡ s → n ≡ length s → put_mid at n out part ≡ put out at s
+unfolding put
+put_copied out s part at n e k = rw (e, k, drop-drop (length s) at out)
+
 -- a byte in front of the rest
 pub put_next : (out : List ℕ) (at b : ℕ) (bs : List ℕ) → at + 1 + length bs ≤ length out → put (set out at b) (at + 1) bs ≡ put out at (b ∷ bs)
 put_next out at b bs h = rw (put_one out at b (omega arith)) (put-put out at (b ∷ []) bs (at + 1) refl (omega arith))
 
--- a byte behind the rest, stored before it or after it
+-- a byte behind the rest
 pub put_last : (out : List ℕ) (at z : ℕ) (bs : List ℕ) → at + length bs < length out → set (put out at bs) (at + length bs) z ≡ put out at (bs ++ (z ∷ []))
 put_last out at z bs h =
     put_one (put out at bs) (at + length bs) z (rw (length-put out at bs (omega arith)) h) ∙ put-put out at bs (z ∷ []) (at + length bs) refl (omega arith)
-
-pub put_back : (out : List ℕ) (at z : ℕ) (bs : List ℕ) → at + length bs < length out → put (set out (at + length bs) z) at bs ≡ put out at (bs ++ (z ∷ []))
-unfolding put
-put_back out at z bs h =
-    let k : length (bs ++ (z ∷ [])) ≡ suc (length bs) = simp length-append (omega arith) in
-    let n : at + suc (length bs) ≡ suc (at + length bs) = omega arith in
-    let d : drop (at + length bs) (set out (at + length bs) z) ≡ z ∷ drop (suc (at + length bs)) out
-    = rw (set_split out (at + length bs) z h) (drop_at (take (at + length bs) out) (z ∷ drop (suc (at + length bs)) out) (at + length bs) (length-take-le (at + length bs) out (omega arith))) in
-    rw (take-set-le at out (at + length bs) z (omega arith), d, k, n, append_snoc bs z)
 
 -- one more byte as a space and two digits
 pub hex_next : (out : List ℕ) (at b : ℕ) (bs : List ℕ) → at + 3 + length (hex_of bs) ≤ length out

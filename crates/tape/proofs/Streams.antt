@@ -9,6 +9,7 @@ use lib.ListN.{length, take, drop, length-append, length-drop}
 use lib.Seq.{take-append-le, drop-append-le, drop-drop}
 use lib.Dec.{ltb, leb, eqb}
 use borrow.Author.Tests.{ltb-true, ltb-false, leb-true, leb-false, ne_eqb}
+use Rattle.std.specs.Prelude.{Ok, Err}
 use Rattle.meaning.specs.Bytes.{pick, part, little}
 use Rattle.records.specs.Records.{length_at, whole_length, cut, record_at}
 use Rattle.tape.specs.Kinds.{Said, unfit, sized, call_of, said_by}
@@ -16,7 +17,7 @@ use Rattle.tape.specs.Text.{first_line}
 use Rattle.tape.specs.Answers.{Stage, opening, running, ended, bad_record, turn, answers_from, answers_of}
 use Rattle.records.specs.Reader.{read_at}
 use Rattle.tape.specs.Passes.{longest_record, longest_line, NextRecord, incomplete, says, next_record_by, next_record, Stop, more, full, Pass, stopped, after, on_next_record, pass, closing, Feed, fed, tape_of, Settled, read_all, was_bad, AnyParts}
-use Rattle.records.specs.declared.record.Read.TheVariants.{Record, More, Bad}
+use Rattle.records.specs.declared.record.Unread.TheVariants.{More, Bad}
 use Rattle.records.proofs.Bytes.{length_part}
 use Rattle.records.proofs.Windows.{record_cut, record_whole}
 
@@ -87,7 +88,8 @@ front t =
     go (ltb (length t) 4) (ltb (length_at t) 2) (ltb longest_record (length_at t)) (ltb (length t) (whole_length t)) refl refl refl refl
   where
     go : (a b c d : Bool) → ltb (length t) 4 ≡ a → ltb (length_at t) 2 ≡ b → ltb longest_record (length_at t) ≡ c → ltb (length t) (whole_length t) ≡ d
-        → Front t (next_record_by t (pick a More (pick b Bad (pick c Bad (pick d More (Record (little (part t 2 2)) (0 + 4) (length_at t - 2) (record { at = 0 + whole_length t })))))))
+        → Front t (next_record_by (pick a (Err More) (pick b (Err Bad) (pick c (Err Bad) (pick d (Err More)
+        (Ok (record { kind = little (part t 2 2); start = 0 + 4; body = part t 4 (length_at t - 2); next = 0 + whole_length t })))))))
     go true b c d e f g h = cut_off (record_cut t (λ q. omega (arith, ltb-true (length t) 4 e)))
     go false true c d e f g h =
         let l : 4 ≤ length t = ltb-false (length t) 4 e in

@@ -1,6 +1,6 @@
 -- Texts written one behind another. Assumes nothing.
-use Prim.Native.Nat.{ℕ, zero, suc, ◌+◌, ◌≤◌, ◌<◌}
-use mathlib.Core.Path.{◌≡◌, refl, sym, ap, ◌∙◌}
+use Prim.Native.Nat.{ℕ, ◌+◌, ◌≤◌, ◌<◌}
+use mathlib.Core.Path.{◌≡◌, refl, ap, ◌∙◌}
 use mathlib.Core.List.{List, [], ◌∷◌, ◌++◌, append_assoc}
 use native.Mathlib.Omega.{arith}
 use lib.ListN.{length, set, length-append}
@@ -8,9 +8,7 @@ use Rattle.meaning.specs.Bytes.{put}
 use Rattle.meaning.proofs.Puts.{length-put, put-put}
 use Rattle.tape.specs.Text.{decimal_of, hex_of, reply_line, bad_line}
 use Rattle.tape.specs.Reader.{Printed}
-use Rattle.io.specs.Digits.{last_digits, IsDigitCount}
-use Rattle.tape.proofs.Outputs.{put-nil, put_last}
-use Rattle.tape.proofs.Decimal.{same_digits, length_digits}
+use Rattle.tape.proofs.Outputs.{put_last}
 
 pub same_size : {text out : List ℕ} {at r : ℕ} {out' : List ℕ} → Printed text out at r out' → length out' ≡ length out
 same_size {text} {out} {at} p = ap length p.bytes ∙ length-put out at text (omega (arith, p.next, p.within))
@@ -41,12 +39,3 @@ bad-printed place p k h = closed 10 (joined p k) h
 
 pub printed_as : {x y out out' : List ℕ} {at r : ℕ} → x ≡ y → Printed x out at r out' → Printed y out at r out'
 printed_as e p = rw e at p
-
--- no digit is left
-pub decimal_printed : (n k at i rest : ℕ) (out out' : List ℕ) → IsDigitCount 10 1 n k → k ≤ 10 → at + k ≤ length out → i ≤ 0 → put out' at (last_digits 10 i rest) ≡ put out at (last_digits 10 k n)
-    → Printed (decimal_of n) out at (at + k) out'
-decimal_printed n k at zero rest out out' f s h l e =
-    let d = same_digits k n (omega arith) f in
-    let g : length (decimal_of n) ≡ k = ap length (sym d) ∙ length_digits k n in
-    record { next = rw g; bytes = sym (put-nil out' at) ∙ e ∙ ap (λ (x : List ℕ). put out at x) d; within = h }
-decimal_printed n k at (suc i) rest out out' f s h l e = absurd (omega arith)

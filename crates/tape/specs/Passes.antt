@@ -1,13 +1,13 @@
 -- The tape read in parts: a pass over the bytes at hand, and any number of passes (01, "The answer program"). Assumes nothing.
-use Rattle.std.specs.Prelude.{ℕ, zero, suc, ◌+◌, ◌-◌, ◌≡◌, List, [], ◌∷◌, ◌++◌, length, drop, ltb}
-use Rattle.meaning.specs.Bytes.{pick, part}
+use Rattle.std.specs.Prelude.{ℕ, zero, suc, ◌+◌, ◌-◌, ◌≡◌, List, [], ◌∷◌, ◌++◌, length, drop, ltb, Result, Ok, Err}
+use Rattle.meaning.specs.Bytes.{pick}
 use Rattle.records.specs.Records.{whole_length}
 use Rattle.tape.specs.Kinds.{Said, unfit, call_of}
 use Rattle.tape.specs.Text.{first_line, bad_line}
 use Rattle.tape.specs.Answers.{Stage, opening, running, ended, turn, answers_of}
-use Rattle.records.specs.Reader.{read_at}
-use Rattle.records.specs.declared.record.Read.{Read}
-use Rattle.records.specs.declared.record.Read.TheVariants.{Record, More, Bad}
+use Rattle.records.specs.Reader.{Whole, read_at}
+use Rattle.records.specs.declared.record.Unread.{Unread}
+use Rattle.records.specs.declared.record.Unread.TheVariants.{More, Bad}
 
 -- the longest record of the answer program's kinds: kind, tick, value and parity of a character
 abbrev pub longest_record : ℕ
@@ -22,13 +22,13 @@ pub data NextRecord : Type 0 where
   incomplete : NextRecord
   says : Said → NextRecord
 
-unfoldable pub next_record_by : List ℕ → Read → NextRecord
-next_record_by t (Record k from n c) = says (call_of k (part t 4 n))
-next_record_by t More = incomplete
-next_record_by t Bad = says unfit
+unfoldable pub next_record_by : Result Whole Unread → NextRecord
+next_record_by (Ok w) = says (call_of w.kind w.body)
+next_record_by (Err More) = incomplete
+next_record_by (Err Bad) = says unfit
 
 abbrev pub next_record : List ℕ → NextRecord
-next_record t = next_record_by t (read_at longest_record 0 t)
+next_record t = next_record_by (read_at longest_record 0 t)
 
 -- why a pass stopped: no whole record is left, no space for a line is left, or a record was bad
 pub data Stop : Type 0 where

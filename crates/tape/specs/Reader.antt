@@ -1,6 +1,6 @@
 -- How the code's events say what the records say, and a text that is written. Assumes nothing.
-use Rattle.std.specs.Prelude.{ℕ, ◌+◌, ◌≤◌, ◌≡◌, List, [], ◌∷◌, length}
-use Rattle.meaning.specs.Bytes.{put}
+use Rattle.std.specs.Prelude.{ℕ, ◌+◌, ◌≤◌, ◌≡◌, List, [], ◌∷◌, length, eqb, Option, None, Some}
+use Rattle.meaning.specs.Bytes.{pick, little, put}
 use Rattle.meaning.specs.Run.{character, poll, measured, fault, power_on}
 use Rattle.tape.specs.Kinds.{Said, plate, call, unfit, plate_in}
 use Rattle.tape.specs.declared.kinds.Event.{Event}
@@ -13,7 +13,15 @@ said_of (event.Poll t) = call (poll t)
 said_of (event.Measured n) = call (measured n)
 said_of (event.Fault c) = call (fault c)
 said_of event.PowerOn = call power_on
-said_of event.Unfit = unfit
+
+-- nothing where the record fits no kind
+abbrev pub said_in : Option Event → Said
+said_in None = unfit
+said_in (Some e) = said_of e
+
+-- the number of a body of four bytes
+unfoldable pub number_of : List ℕ → Option ℕ
+number_of b = pick (eqb (length b) 4) (Some (little b)) None
 
 -- a text is written into an output from a place on: r is the place past it, and the rest is untouched
 pub record Printed (text out : List ℕ) (at r : ℕ) (out' : List ℕ) : Type 0 where

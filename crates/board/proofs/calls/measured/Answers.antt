@@ -1,10 +1,17 @@
 -- What is left to show of `board::calls::measured`.
 use Rattle.std.proofs.Common.{refl}
+use Rattle.std.proofs.lemmas.Result.{err_from_is_err_and}
 use Rattle.meaning.specs.Run.{step, closes, lends}
 use Rattle.meaning.specs.Frames.{still}
-use Rattle.board.proofs.Stepping.{tells}
+use Rattle.board.proofs.Stepping.{alone-refused, alone}
 use Rattle.board.proofs.calls.measured.Goals as goal
+
+pub returns-in_err-within_limits : goal.returns-in_err-within_limits
+unfolding lends
+returns-in_err-within_limits c =
+    λ k m w h. let p = err_from_is_err_and c.from_residual.result c.from_residual.ensures.1 in
+    rw (p.1, p.2) (alone-refused _ _ k m w _ h refl refl (c.in_err-within_limits.ensures _ k refl h))
 
 pub returns : goal.returns
 unfolding step still closes lends
-returns c = λ k m w h. tells _ _ _ k m w _ h refl (c.told.ensures k h) refl (c.with_measured-state.ensures _) refl (λ z. z)
+returns c = λ k m w h. alone _ _ k m w _ h refl _ (c.in_ok-within_limits.ensures _ k refl h) refl (c.with_measured-state.ensures _) refl (λ z. z)

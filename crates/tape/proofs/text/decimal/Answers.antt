@@ -1,19 +1,14 @@
--- What is left to show of `tape::text::decimal`.
-use Rattle.std.proofs.Common.{◌∙◌, arith}
-use Rattle.tape.proofs.Decimal.{digit_less}
-use Rattle.tape.proofs.Texts.{decimal_printed}
+-- What is left to show of `tape::text::decimal`: the library's digits.
+use Rattle.std.proofs.Common.{arith}
+use Rattle.tape.proofs.Decimal.{same_digits, few_digits, last_written}
+use Rattle.tape.proofs.Texts.{printed_as}
 use Rattle.tape.proofs.text.decimal.Goals as goal
 
-pub loop-i-preserved : goal.loop-i-preserved
-loop-i-preserved c =
-    let u = c.loop-i in
-    record {
-      within = omega arith;
-      left = digit_less u.out c.args.at u.i u.rest (omega arith) (omega arith) ∙ u.invariant.left;
-    }
+pub write_digits-start-requires : goal.write_digits-start-requires
+write_digits-start-requires c = (rw (same_digits c.args.n (omega arith)) (few_digits c.args.n (omega arith)), omega arith)
 
-pub returns-clause-printed : goal.returns-clause-printed
-returns-clause-printed c =
-    let u = c.loop-i in
-    let p = c.places-k.ensures in
-    decimal_printed _ _ _ u.i u.rest _ _ p.digits p.few (omega arith) (omega arith) u.invariant.left
+pub copy-requires : goal.copy-requires
+copy-requires c = rw (last_written c.args.n _ _ (omega arith) c.write_digits-start.ensures.start c.write_digits-start.ensures.written) c.requires
+
+pub returns : goal.returns
+returns c = printed_as (last_written c.args.n _ _ (omega arith) c.write_digits-start.ensures.start c.write_digits-start.ensures.written) c.copy.ensures
