@@ -7,6 +7,7 @@ use native.Mathlib.Omega.{arith}
 use lib.Dec.{T, eqb, leb, ltb, eqb→eq, leb→le, ltb→lt}
 use lib.ListN.{length, get_or, drop}
 use borrow.Author.Tests.{le-ltb}
+use Rattle.std.specs.Prelude.{Ok, Err}
 use Rattle.meaning.specs.Bytes.{pick, either, arg, same}
 use Rattle.meaning.specs.Fields.{writable}
 use Rattle.meaning.specs.Commands.{command_of}
@@ -16,7 +17,7 @@ use Rattle.meaning.proofs.Fitting.{only_if_fits}
 use Rattle.meaning.proofs.Steps.{both_0, both_1}
 use Rattle.meaning.proofs.Choices.{told-true}
 use Rattle.meaning.proofs.Wire.{writes_well}
-use Rattle.programmer.specs.Wishes.{Wish, wanted, checked_tape, wish_of}
+use Rattle.programmer.specs.Wishes.{Wish, wanted, good, checked_tape, wish_of}
 use Rattle.programmer.specs.Steps.{due, making, clearing, locking, onto, on_verdict, bytes_due, after_reply}
 use Rattle.programmer.specs.Running.{asks, reachable, fails_by, can_stand, is_possible}
 use Rattle.programmer.specs.Promises.{after_replies, AllBytes}
@@ -26,7 +27,7 @@ use Rattle.programmer.specs.declared.step.Step.TheVariants.{Count, Look, Remove,
 use Rattle.programmer.specs.declared.step.Why.TheVariants.{Judgement, Error, Differs}
 use Rattle.programmer.specs.declared.step.Standing.{Standing}
 use Rattle.programmer.specs.declared.step.Standing.TheVariants.{At, Done, Failed}
-use Rattle.programmer.specs.declared.wish.Checked.TheVariants.{Good, BadRecord, WrongSize}
+use Rattle.programmer.specs.declared.wish.TapeFault.TheVariants.{BadRecord, WrongSize}
 use Rattle.programmer.proofs.Allowed.{due-allowed}
 use Rattle.programmer.proofs.Counting.{few_present, progress-few}
 use Rattle.programmer.proofs.Leading.{making_by, clearing_by, locking_by}
@@ -34,7 +35,6 @@ use Rattle.programmer.proofs.Replies.{data_byte, Few, few_checks, stands_after, 
 use Rattle.programmer.proofs.Whole.{good-is-whole}
 use Rattle.handheld.specs.Numbers.{field_part, status_part, number_part, standing_bytes, run_number, run_in}
 use Rattle.handheld.specs.Entries.{request_of, given_by, handed_on, bit31, QpRuns, QpWrites, QpToldApart, QpRefusals}
-use Rattle.handheld.specs.declared.given.Given.TheVariants as given
 use Rattle.handheld.proofs.Numbers.{Small, five_small, as_seven, run-back, is_run_lem}
 
 -- ---- statuses and codes that replies told are bytes
@@ -122,12 +122,12 @@ module _ (l : Wish) (p : ℕ) (few : p ≤ 255) (fields : length l.fields ≤ 25
   small Done h t = tt
   small (Failed st w) h t = ((small-field st (both_1 (fails_by st w) (reachable l p st) h), t.0), t.1)
 
-module _ (t : List ℕ) (good : checked_tape t ≡ Good) where
+module _ (t : List ℕ) (good : checked_tape t ≡ good) where
   abbrev l : Wish
   l = wish_of t
 
   -- what is possible, with told parts that are bytes, is taken by its number
-  taken_back : (x : Programmer) → T (is_possible l x) → Told x.standing → given_by t (run_number x) ≡ given.Run x
+  taken_back : (x : Programmer) → T (is_possible l x) → Told x.standing → given_by t (run_number x) ≡ Ok x
   taken_back x could told =
       let few = few_present l x could in
       let stands = can_stand_lem l x could in
@@ -196,6 +196,6 @@ qp_told-apart n t rs good ok B =
     }
 
 pub qp_refusals : QpRefusals
-qp_refusals Good e = absurd (e refl)
-qp_refusals (BadRecord at) e = omega arith
-qp_refusals (WrongSize at) e = omega arith
+qp_refusals (Ok u) e = absurd (e refl)
+qp_refusals (Err (BadRecord at)) e = omega arith
+qp_refusals (Err (WrongSize at)) e = omega arith

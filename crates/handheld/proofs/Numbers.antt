@@ -2,7 +2,9 @@
 use Prim.Native.Nat.{ℕ, ◌+◌, ◌*◌, ◌/◌, ◌%◌, ◌<◌}
 use mathlib.Core.Path.{◌≡◌, refl, ap}
 use mathlib.Core.Bool.{true, false}
+use mathlib.Core.List.{List, [], ◌∷◌}
 use native.Mathlib.Omega.{arith}
+use Rattle.std.specs.Int.{w64, from_le_bytes}
 use lib.Dec.{eqb}
 use borrow.Author.Tests.{eq-eqb}
 use Rattle.meaning.specs.Bytes.{arg, little}
@@ -145,6 +147,12 @@ unfolding little
 five_number (At st) = omega arith
 five_number Done = omega arith
 five_number (Failed st w) = omega arith
+
+-- the number by the library's word
+pub number_of : (x : Programmer) (s : List ℕ) (p a : ℕ) → s ≡ standing_bytes x.standing → p ≡ x.present % 256 → a ≡ x.address % 256
+    → from_le_bytes w64 (arg s 0 ∷ arg s 1 ∷ arg s 2 ∷ arg s 3 ∷ arg s 4 ∷ p ∷ a ∷ 0 ∷ []) ≡ run_number x
+unfolding run_number
+number_of x s p a e f g = rw e (omega (arith, five_number x.standing, f, g))
 
 module _ (x : Programmer) (h : Small x.standing) (few : x.present < 256) (near : x.address < 256) where
   abbrev y : Standing

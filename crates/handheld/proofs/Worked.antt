@@ -1,12 +1,13 @@
 -- Numbers of runs and refusals, computed (host/programmer.h). Assumes nothing.
 use mathlib.Core.Path.{◌≡◌, refl}
+use Rattle.std.specs.Prelude.{Err}
 use Rattle.meaning.specs.Bytes.{little}
 use Rattle.programmer.specs.Running.{at_first}
 use Rattle.programmer.specs.declared.run.Programmer.{Programmer}
 use Rattle.programmer.specs.declared.step.Step.TheVariants.{Remove}
 use Rattle.programmer.specs.declared.step.Why.TheVariants.{Error}
 use Rattle.programmer.specs.declared.step.Standing.TheVariants.{Failed}
-use Rattle.programmer.specs.declared.wish.Checked.TheVariants.{BadRecord, WrongSize}
+use Rattle.programmer.specs.declared.wish.TapeFault.TheVariants.{BadRecord, WrongSize}
 use Rattle.handheld.specs.Numbers.{run_number, byte_in, step_in, why_in, standing_in, run_in}
 use Rattle.handheld.specs.Entries.{tape_number}
 
@@ -19,5 +20,5 @@ unfolding run_number little run_in byte_in standing_in step_in why_in
 run_values = (refl, refl, refl)
 
 -- a bad record at place 8, and a field of a wrong size at place 29
-pub tape_values : (tape_number (BadRecord 8) ≡ 0x880000001) × (tape_number (WrongSize 29) ≡ 0x1D80000002)
+pub tape_values : (tape_number (Err (BadRecord 8)) ≡ 0x880000001) × (tape_number (Err (WrongSize 29)) ≡ 0x1D80000002)
 tape_values = (refl, refl)

@@ -3,9 +3,10 @@ ghost use Rattle.std.specs.Prelude.{◌≡◌, ◌<◌};
 ghost use Rattle.programmer.specs.Wishes.{checked_tape, wish_of};
 ghost use Rattle.handheld.specs.Entries.{tape_number, start_number, asked_number, given_by, next_by, heard_by, progress_number, progress_by};
 
-use crate::given::{Given, REFUSED, placed, taken, tape_number};
+use crate::given::{Refusal, taken, tape_number};
 use crate::number::run_number;
-use programmer::{Asked, Programmer, Progress, Started};
+use bench::Unwritten;
+use programmer::{Programmer, Progress, StartRefusal};
 use wire::codes::LONGEST_REQUEST;
 
 #[unsafe(no_mangle)]
@@ -20,21 +21,20 @@ pub extern "C" fn qp_start(address: u32, tape: &[u8]) -> u64
     ensures { result ≡ start_number address (checked_tape tape.now) }
 {
     match Programmer::start(address, tape) {
-        Started::Ready(run) => run_number(run),
-        Started::BadRecord { at } => placed(at, 1),
-        Started::WrongSize { at } => placed(at, 2),
-        Started::R5 => REFUSED + 5,
+        Ok(run) => run_number(run),
+        Err(StartRefusal::Tape(fault)) => Refusal::Tape(fault).number(),
+        Err(StartRefusal::R5) => Refusal::R5.number(),
     }
 }
 
-fn request_number(asked: Asked) -> u64
+fn request_number(asked: Result<Option<usize>, Unwritten>) -> u64
     ensures { result ≡ asked_number asked }
 {
     match asked {
-        Asked::Request { len } => len as u64,
-        Asked::Over => 0,
-        Asked::R4 => REFUSED + 4,
-        Asked::R5 => REFUSED + 5,
+        Ok(Some(len)) => len as u64,
+        Ok(None) => 0,
+        Err(Unwritten::R4) => Refusal::R4.number(),
+        Err(Unwritten::R5) => Refusal::R5.number(),
     }
 }
 
@@ -44,10 +44,10 @@ pub extern "C" fn qp_next(run: u64, tape: &[u8], buffer: &mut [u8]) -> u64
     ensures { record { number = result; buffer = buffer.new } ≡ next_by (given_by tape.now run) (wish_of tape.now) buffer.old }
 {
     match taken(run, tape) {
-        Given::Refused(number) => number,
-        Given::Run(held) => {
+        Err(refusal) => refusal.number(),
+        Ok(held) => {
             if buffer.len() < LONGEST_REQUEST {
-                return REFUSED + 4;
+                return Refusal::R4.number();
             }
             request_number(held.next(tape, buffer))
         }
@@ -59,8 +59,8 @@ pub extern "C" fn qp_heard(run: u64, tape: &[u8], reply: &[u8]) -> u64
     ensures { result ≡ heard_by (given_by tape.now run) (wish_of tape.now) reply.now }
 {
     match taken(run, tape) {
-        Given::Refused(number) => number,
-        Given::Run(held) => run_number(held.heard(tape, reply)),
+        Err(refusal) => refusal.number(),
+        Ok(held) => run_number(held.heard(tape, reply)),
     }
 }
 
@@ -77,7 +77,7 @@ pub extern "C" fn qp_progress(run: u64, tape: &[u8]) -> u64
     ensures { result ≡ progress_by (given_by tape.now run) (wish_of tape.now) }
 {
     match taken(run, tape) {
-        Given::Refused(number) => number,
-        Given::Run(held) => { progress_number(held.progress(tape)) }
+        Err(refusal) => refusal.number(),
+        Ok(held) => progress_number(held.progress(tape)),
     }
 }

@@ -1,53 +1,68 @@
-// What a host hands in, and a refusal as a number.
-ghost use Rattle.std.specs.Prelude.{◌≡◌, ◌+◌, ◌*◌, ◌<◌};
+// What a host hands in, and why a call is refused.
+ghost use Rattle.std.specs.Prelude.{◌≡◌, ◌<◌};
 ghost use Rattle.programmer.specs.Wishes.{checked_tape};
-ghost use Rattle.handheld.specs.Entries.{refused_with, tape_number, given_by};
+ghost use Rattle.handheld.specs.Entries.{place_of, refusal_number, tape_number, given_by};
+ghost use Rattle.handheld.specs.declared.given.Refusal.TheVariants.{Tape};
 
 use crate::number::{run_in, run_number};
-use programmer::{Checked, Programmer};
+use programmer::{Programmer, TapeFault};
 
-// Bit 31 is set in no run, length or progress.
-pub const REFUSED: u64 = 0x80000000;
-
-// A run of this tape; or the refusal's number.
-#[derive(Clone, Copy)]
-pub enum Given {
-    Run(Programmer),
-    Refused(u64),
+// The tape's fault; a number that no run of this tape has; a buffer that is too short; an address that the bench does not write.
+#[derive(Clone, Copy, PartialEq, Eq, Debug)]
+pub enum Refusal {
+    Tape(TapeFault),
+    R3,
+    R4,
+    R5,
 }
 
-// A refusal with the place of a record in its high 32 bits.
-pub(crate) fn placed(at: usize, refusal: u64) -> u64
-    requires { (at < 0x100000000) × (refusal < 8) }
-    ensures { result ≡ at * 0x100000000 + refused_with refusal }
-{
-    at as u64 * 0x100000000 + (REFUSED + refusal)
+impl From<TapeFault> for Refusal {
+    ghost from_gives = { λ fault refusal. refusal ≡ Tape fault };
+
+    fn from(fault: TapeFault) -> Refusal {
+        Refusal::Tape(fault)
+    }
+}
+
+// Bit 31 is set in no run, length or progress.
+const REFUSED: u64 = 0x80000000;
+
+impl Refusal {
+    // As C is told it: host/programmer.h has these numbers, with the place of a record in the high 32 bits.
+    pub(crate) fn number(self) -> u64
+        requires { place_of self < 0x100000000 }
+        ensures { result ≡ refusal_number self }
+    {
+        match self {
+            Refusal::Tape(TapeFault::BadRecord { at }) => at as u64 * 0x100000000 + (REFUSED + 1),
+            Refusal::Tape(TapeFault::WrongSize { at }) => at as u64 * 0x100000000 + (REFUSED + 2),
+            Refusal::R3 => REFUSED + 3,
+            Refusal::R4 => REFUSED + 4,
+            Refusal::R5 => REFUSED + 5,
+        }
+    }
 }
 
 pub(crate) fn tape_number(tape: &[u8]) -> u64
     ensures { result ≡ tape_number (checked_tape tape.now) }
 {
     match programmer::check(tape) {
-        Checked::Good => 0,
-        Checked::BadRecord { at } => placed(at, 1),
-        Checked::WrongSize { at } => placed(at, 2),
+        Ok(()) => 0,
+        Err(fault) => Refusal::Tape(fault).number(),
     }
 }
 
-// The tape's faults come first, then whether this tape has such a run.
-pub(crate) fn taken(run: u64, tape: &[u8]) -> Given
+// A run of this tape: the tape's faults come first, then whether this tape has such a run.
+pub(crate) fn taken(run: u64, tape: &[u8]) -> Result<Programmer, Refusal>
     ensures { result ≡ given_by tape.now run }
 {
-    let refusal = tape_number(tape);
-    if refusal != 0 {
-        return Given::Refused(refusal);
-    }
+    programmer::check(tape)?;
     let held = run_in(run);
     if run_number(held) != run {
-        return Given::Refused(REFUSED + 3);
+        return Err(Refusal::R3);
     }
     if !held.is_possible(tape) {
-        return Given::Refused(REFUSED + 3);
+        return Err(Refusal::R3);
     }
-    Given::Run(held)
+    Ok(held)
 }

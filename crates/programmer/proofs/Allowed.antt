@@ -1,29 +1,24 @@
 -- Each request that is due is one that the bench writes (R5 is not met on the way). Assumes nothing.
-use Prim.Native.Nat.{ℕ, zero, suc, ◌+◌, ◌*◌, ◌≤◌, ◌<◌}
+use Prim.Native.Nat.{ℕ, ◌+◌, ◌*◌, ◌≤◌}
 use mathlib.Core.Path.{◌≡◌}
 use mathlib.Core.Bool.{true}
 use mathlib.Core.List.{List, [], ◌∷◌}
 use native.Mathlib.Omega.{arith}
-use native.Mathlib.Nat.{not-suc-le-zero, le_of_suc-le-suc}
 use lib.Dec.{T, eqb, leb, ltb, ltb→lt, le→leb}
-use lib.ListN.{length, get_or}
+use lib.ListN.{length}
 use Rattle.meaning.specs.Bytes.{both}
 use Rattle.meaning.specs.Fields.{blocks}
 use Rattle.meaning.specs.Commands.{c4a, c4b, command_of, row, length_fits, asked}
 use Rattle.meaning.specs.Bench.{in_range, allowed}
 use Rattle.meaning.proofs.Cases.{eq→eqb}
 use Rattle.meaning.proofs.Choices.{both_intro}
-use Rattle.programmer.specs.Wishes.{Field, Wish, no_field, wanted, code_for}
+use Rattle.programmer.specs.Wishes.{Wish, wanted, code_for}
 use Rattle.programmer.specs.Steps.{due}
 use Rattle.programmer.specs.Running.{reachable}
 use Rattle.programmer.specs.Promises.{FieldsFit}
+use Rattle.programmer.proofs.Reading.{fits-at}
 use Rattle.programmer.specs.declared.step.Step.{Step}
 use Rattle.programmer.specs.declared.step.Step.TheVariants.{Count, Look, Remove, Create, Store, Read, Lock}
-
-pub fits-at : (fs : List Field) (g : ℕ) → FieldsFit fs → g < length fs → length (get_or fs g no_field).bytes ≡ 16 * blocks (get_or fs g no_field).status
-fits-at [] g F h = absurd (not-suc-le-zero h)
-fits-at (f ∷ fs) zero F h = F.1
-fits-at (f ∷ fs) (suc g) F h = fits-at fs g F.2 (le_of_suc-le-suc h)
 
 -- R5: what is stored and read back is allowed
 pub may_store : (i c : ℕ) (bs : List ℕ) → 1 ≤ length bs → length bs ≤ 128 → T (allowed c4b (i ∷ 0 ∷ length bs ∷ c ∷ bs))

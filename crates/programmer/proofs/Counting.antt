@@ -1,15 +1,15 @@
 -- Laws of counting the requests, and of what a run can have left. Assumes nothing.
 use Prim.Native.Nat.{ℕ, zero, suc, ◌+◌, ◌*◌, ◌≤◌, ◌<◌}
-use mathlib.Core.Path.{◌≡◌, refl, sym, ap, ◌∙◌}
+use mathlib.Core.Path.{◌≡◌, refl, sym, ◌∙◌}
 use mathlib.Core.Bool.{Bool, true, false, not}
-use mathlib.Core.List.{List, [], ◌∷◌}
+use mathlib.Core.List.{List, [], ◌∷◌, map}
+use Rattle.std.specs.List.{sum}
+use Rattle.std.proofs.lemmas.List.Sums.{sum_by-cons}
 use native.Mathlib.Omega.{arith}
 use native.Mathlib.Nat.{not-suc-le-zero, le_of_suc-le-suc}
-use native.Mathlib.Decide.{dec_lt}
 use lib.Dec.{T, leb, ltb, leb→le}
 use lib.ListN.{length, get_or, take}
-use lib.Seq.{take_all}
-use borrow.Author.Tests.{lt-ltb, le-ltb, ltb-true, ltb-false, le-leb, lt-leb}
+use borrow.Author.Tests.{lt-ltb, le-ltb, le-leb, lt-leb}
 use types.Run.{OneOf, miss}
 use denote.Enum.Declared.{tag_of}
 use Rattle.meaning.specs.Bytes.{pick, both}
@@ -18,9 +18,10 @@ use Rattle.meaning.specs.Bench.{address_ok}
 use Rattle.meaning.proofs.Steps.{both_0, both_1}
 use Rattle.programmer.specs.Wishes.{Field, Wish, no_field, wanted}
 use Rattle.programmer.specs.Steps.{still_there, requests_for, in_all, answered, answered_at}
-use Rattle.programmer.specs.Reading.{FoundField, RequestsCounted}
+use Rattle.programmer.specs.Reading.{FoundField}
 use Rattle.programmer.specs.Running.{progress_of, can_stand, is_possible}
 use Rattle.programmer.specs.declared.count.Progress.{Progress}
+use Rattle.programmer.specs.declared.wish.Wanted.{Wanted}
 use Rattle.programmer.specs.declared.run.Programmer.{Programmer}
 use Rattle.programmer.specs.declared.step.Step.{Step}
 use Rattle.programmer.specs.declared.step.Step.TheVariants.{Count, Look, Remove, Create, Store, Read, Lock}
@@ -54,77 +55,26 @@ some_of [] (suc i) = omega arith
 some_of (f ∷ fs) zero = omega arith
 some_of (f ∷ fs) (suc i) = omega (arith, some_of fs i)
 
--- ---- the walk that counts: k fields are counted, and of them those before i
+-- as a sum over the fields
+abbrev pub cost_of : Field → ℕ
+cost_of f = 3 + pick (writable f.status) 0 1
 
-pub record Counting (l : Wish) (i k before all : ℕ) : Type 0 where
-  pub sum : all ≡ requests_for (take k l.fields)
-  pub few : all ≤ 4 * k
-  pub still : k ≤ i → before ≡ all
-  pub past : i ≤ k → before ≡ requests_for (take i l.fields)
-  pub no_more : before ≤ all
-
-pub counting_none : (l : Wish) (i : ℕ) → Counting l i 0 0 0
+pub summed : (fs : List Field) → requests_for fs ≡ sum (map cost_of fs)
 unfolding requests_for
-counting_none l i = record { sum = refl; few = omega arith; still = λ h. refl; past = λ h. go i h; no_more = omega arith }
-  where
-    go : (i : ℕ) → i ≤ 0 → 0 ≡ requests_for (take i l.fields)
-    go zero h = refl
-    go (suc i) h = absurd (omega arith)
-
--- all are counted
-pub counting_done : (l : Wish) (i k before all : ℕ) → Counting l i k before all → length l.fields ≤ k → k ≤ 256 → RequestsCounted l i (record { before = before; all = all })
-counting_done l i k before all C end few = record {
-  before = go (dec_lt k i);
-  all = whole;
-  few_before = omega (arith, C.no_more, C.few);
-  few = omega (arith, C.few);
-}
-  where
-    whole : all ≡ requests_for l.fields
-    whole = C.sum ∙ ap requests_for (take_all k l.fields end)
-
-    go : Dec (k < i) → before ≡ requests_for (take i l.fields)
-    go (yes h) = C.still (omega arith) ∙ whole ∙ ap requests_for (sym (take_all i l.fields (omega arith)))
-    go (no h) = C.past (omega arith)
-
-module _ (l : Wish) (i k before all c : ℕ) (C : Counting l i k before all) (there : k < length l.fields) (e : c ≡ 3 + pick (writable (wanted l k).status) 0 1) where
-  sum_more : all + c ≡ requests_for (take (k + 1) l.fields)
-  sum_more = rw (C.sum, e) (sym (cost l.fields k there))
-
-  few-more : all + c ≤ 4 * (k + 1)
-  few-more = rw e (omega (arith, C.few, cost_few (writable (wanted l k).status)))
-
-  pub counting_more : Counting l i (k + 1) (pick (ltb k i) (all + c) before) (all + c)
-  counting_more = go (ltb k i) (ltb-true k i) (ltb-false k i)
-    where
-      go : (q : Bool) → (q ≡ true → k < i) → (q ≡ false → i ≤ k) → Counting l i (k + 1) (pick q (all + c) before) (all + c)
-      go true y n = record {
-        sum = sum_more;
-        few = few-more;
-        still = λ j. refl;
-        past = λ j. let e : i ≡ k + 1 = omega (arith, y refl) in rw e sum_more;
-        no_more = omega arith;
-      }
-      go false y n = record {
-        sum = sum_more;
-        few = few-more;
-        still = λ j. absurd (omega (arith, n refl));
-        past = λ j. C.past (n refl);
-        no_more = omega (arith, C.no_more);
-      }
+summed [] = refl
+summed (f ∷ fs) = omega (arith, summed fs, sum_by-cons (λ (x : ℕ). x) (cost_of f) (map cost_of fs))
 
 -- ---- what is wanted, by what is found
 
-module _ (l : Wish) (s : List ℕ) (i : ℕ) where
-  pub wanted_found : (status start n : ℕ) → FoundField l s i status start n → true ≡ ltb i (length l.fields)
-  wanted_found status start n h = sym (lt-ltb i (length l.fields) h.there)
+module _ (l : Wish) (i : ℕ) where
+  pub wanted_found : (w : Wanted) → FoundField l i w → true ≡ ltb i (length l.fields)
+  wanted_found w h = sym (lt-ltb i (length l.fields) h.there)
 
-  pub wanted-none : length l.fields ≤ i → false ≡ ltb i (length l.fields)
-  wanted-none h = sym (le-ltb i (length l.fields) h)
+  pub wanted_none : length l.fields ≤ i → false ≡ ltb i (length l.fields)
+  wanted_none h = sym (le-ltb i (length l.fields) h)
 
-  pub locked_found : (status start n : ℕ) → FoundField l s i status start n → (q : Bool) → q ≡ writable status
-      → not q ≡ both (ltb i (length l.fields)) (not (writable (wanted l i).status))
-  locked_found status start n h q e = rw (lt-ltb i (length l.fields) h.there, h.is, e)
+  pub locked_found : (w : Wanted) → FoundField l i w → (q : Bool) → q ≡ writable w.status → not q ≡ both (ltb i (length l.fields)) (not (writable (wanted l i).status))
+  locked_found w h q e = rw (lt-ltb i (length l.fields) h.there, h.is, e)
 
   pub locked_none : length l.fields ≤ i → false ≡ both (ltb i (length l.fields)) (not (writable (wanted l i).status))
   locked_none h = rw (le-ltb i (length l.fields) h)

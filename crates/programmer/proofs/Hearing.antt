@@ -16,17 +16,18 @@ use Rattle.meaning.specs.Bench as meaning
 use Rattle.meaning.specs.Bench.{address_ok, address_for, allowed, request, writes, judge, refusal, done, failed}
 use Rattle.meaning.specs.Demands.{contents}
 use Rattle.meaning.proofs.Puts.{put_front}
-use Rattle.bench.specs.Outcomes.{written_of, without_data}
-use Rattle.bench.specs.declared.request.Written.{Written}
-use Rattle.bench.specs.declared.request.Written.TheVariants.{Request, R4, R5}
+use Rattle.std.specs.Prelude.{Some, Ok, Err}
+use Rattle.std.specs.Result.{result_unwrap_or}
+use Rattle.bench.specs.Outcomes.{Written, written_of, without_data}
+use Rattle.bench.specs.declared.request.Unwritten.{Unwritten}
+use Rattle.bench.specs.declared.request.Unwritten.TheVariants.{R4, R5}
 use Rattle.programmer.specs.Wishes.{Wish}
 use Rattle.programmer.specs.Steps.{due, onto, on_verdict, bytes_due, after_reply, still_there}
-use Rattle.programmer.specs.Running.{told_by, length_written, asked_of, asks, hears}
+use Rattle.programmer.specs.Running.{asked_of, asks, hears}
 use Rattle.programmer.specs.declared.step.Step.{Step}
 use Rattle.programmer.specs.declared.step.Why.TheVariants.{Judgement, Error}
 use Rattle.programmer.specs.declared.step.Standing.{Standing}
 use Rattle.programmer.specs.declared.step.Standing.TheVariants.{At, Done, Failed}
-use Rattle.programmer.specs.declared.run.Asked.{Asked}
 use Rattle.programmer.specs.declared.run.Programmer.{Programmer}
 use Rattle.programmer.specs.contracts.step.Standing.{the_type}
 
@@ -74,22 +75,25 @@ module _ (n : ℕ) (l : Wish) where
   heard-over Done r k = refl
   heard-over (Failed st w) r k = refl
 
-  told_as : (w : Written) (buffer : List ℕ) → asked_of (told_by w) buffer ≡ written_of w buffer
-  told_as (Request k) buffer = refl
-  told_as R4 buffer = refl
-  told_as R5 buffer = refl
+  module _ (x : Standing) (st : Step) (at : x ≡ At st) (buffer buffer' : List ℕ) where
+    pub asks-length : (k : ℕ) → written_of (Ok k) buffer' ≡ writes n (due l st).command (due l st).body buffer → asked_of (Ok (Some k)) buffer' ≡ asks n l x buffer
+    unfolding asks
+    asks-length k h = rw at h
+
+    pub asks-unwritten : (u : Unwritten) → written_of (Err u) buffer' ≡ writes n (due l st).command (due l st).body buffer → asked_of (Err u) buffer' ≡ asks n l x buffer
+    unfolding asks
+    asks-unwritten R4 h = rw at h
+    asks-unwritten R5 h = rw at h
 
   module _ (x : Standing) (st : Step) (at : x ≡ At st) where
-    pub asks-told : (w : Written) (r : Asked) (buffer buffer' : List ℕ) → r ≡ told_by w → written_of w buffer' ≡ writes n (due l st).command (due l st).body buffer
-        → asked_of r buffer' ≡ asks n l x buffer
-    unfolding asks
-    asks-told w r buffer buffer' e h = rw (e, at) (told_as w buffer' ∙ h)
-
     pub heard-at : (q r : List ℕ) (y : Standing) → q ≡ bytes_due n l (At st) → y ≡ on_verdict l st (judge q r) → y ≡ after_reply n l x r
     unfolding after_reply
     heard-at q r y e h = rw at (h ∙ ap (λ (z : List ℕ). on_verdict l st (judge z r)) e)
 
 -- what is written is what is sent
+abbrev pub length_written : Written → ℕ
+length_written w = result_unwrap_or w 0
+
 pub record Sends (n : ℕ) (l : Wish) (st : Step) (w : Written) (buffer' : List ℕ) : Type 0 where
   pub within : length_written w ≤ length buffer'
   pub bytes : take (length_written w) buffer' ≡ bytes_due n l (At st)
@@ -109,17 +113,17 @@ module _ (n : ℕ) (l : Wish) (st : Step) (w : Written) (buffer buffer' : List �
   count_as = go w
     where
       go : (w : Written) → length_written w ≡ (written_of w buffer').count
-      go (Request k) = refl
-      go R4 = refl
-      go R5 = refl
+      go (Ok k) = refl
+      go (Err R4) = refl
+      go (Err R5) = refl
 
   buffer_as : buffer' ≡ (written_of w buffer').buffer
   buffer_as = go w
     where
       go : (w : Written) → buffer' ≡ (written_of w buffer').buffer
-      go (Request k) = refl
-      go R4 = refl
-      go R5 = refl
+      go (Ok k) = refl
+      go (Err R4) = refl
+      go (Err R5) = refl
 
   pub sends : Sends n l st w buffer'
   unfolding writes bytes_due

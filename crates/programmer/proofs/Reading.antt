@@ -1,28 +1,33 @@
 -- Laws of the label tape's readers. Assumes nothing.
-use Prim.Native.Nat.{ℕ, zero, suc, ◌+◌, ◌-◌, ◌*◌, ◌%◌, ◌≤◌, ◌<◌}
-use mathlib.Core.Path.{◌≡◌, refl, sym, ap, ◌∙◌}
-use mathlib.Core.Bool.{Bool, true, false}
+use Prim.Native.Nat.{ℕ, zero, suc, ◌+◌, ◌-◌, ◌*◌, ◌≤◌, ◌<◌, min}
+use mathlib.Core.Path.{◌≡◌, refl, sym, ◌∙◌}
+use mathlib.Core.Bool.{Bool, true, false, false≢true}
 use mathlib.Core.List.{List, [], ◌∷◌}
 use native.Mathlib.Omega.{arith}
+use native.Mathlib.Nat.{not-suc-le-zero, le_of_suc-le-suc}
 use native.Mathlib.Decide.{dec_lt}
-use lib.Dec.{eqb, ltb}
+use lib.Dec.{T, eqb, ltb}
 use lib.ListN.{length, get_or, take, drop, length-drop, drop_of_length-le}
-use lib.Seq.{drop-drop, drop-cons, get_or-drop, take-nil}
+use lib.Seq.{drop-drop, drop-cons, get_or-drop, take_all}
 use borrow.Author.Tests.{ltb-true, eqb-true, ne_eqb}
-use Rattle.std.specs.Prelude.{Result, Ok, Err}
-use Rattle.meaning.specs.Bytes.{pick, both, arg, part, little}
+use Rattle.std.specs.Option.{option_map}
+use Rattle.std.specs.List.{slice_get}
+use Rattle.std.specs.Prelude.{Option, Some, None, Result, Ok, Err}
+use Rattle.std.specs.Result.{result_ok}
+use Rattle.meaning.specs.Bytes.{pick, both, arg, part, little, most_count}
 use Rattle.meaning.specs.Fields.{bytes_of, blocks, exists}
-use Rattle.records.specs.Records.{cut, length_at, whole_length, record_at}
-use Rattle.records.specs.Reader.{Whole, read_at}
+use Rattle.meaning.proofs.Choices.{both_right, true-told}
+use Rattle.records.specs.Records.{Found, whole, cut, length_at, whole_length, record_at}
+use Rattle.records.specs.Reader.{Whole, read_as, read_at}
+use Rattle.records.specs.declared.record.Record.{Record}
 use Rattle.records.specs.declared.record.Unread.{Unread}
 use Rattle.records.specs.declared.record.Unread.TheVariants.{More, Bad}
-use Rattle.records.proofs.Bytes.{length_part, part-byte, part-drop}
-use Rattle.records.proofs.Windows.{record_read}
-use Rattle.records.proofs.Windows.{record_cut, record_whole}
-use Rattle.programmer.specs.Wishes.{Field, Wish, no_field, wanted, field_in, body_of, is_codes, is_field, of_its_size, first_wrong, checked_from, fields_from, wish_of}
-use Rattle.programmer.specs.Reading.{RecordLies, FieldLies, FoundField}
-use Rattle.programmer.specs.declared.wish.Checked.{Checked}
-use Rattle.programmer.specs.declared.wish.Checked.TheVariants.{BadRecord}
+use Rattle.records.proofs.Windows.{record_read, record_cut, record_whole}
+use Rattle.programmer.specs.Wishes.{Field, Wish, Checked, no_field, wanted, field_in, body_of, is_field, of_its_size, first_wrong, checked_from, fields_from, wish_of}
+use Rattle.programmer.specs.Reading.{RecordLies, RecordStands, FieldLies, field_as, Finds}
+use Rattle.programmer.specs.Promises.{FieldsFit}
+use Rattle.programmer.specs.declared.wish.TapeFault.TheVariants.{BadRecord}
+use Rattle.programmer.specs.declared.wish.Wanted.{Wanted}
 
 -- a length of two bytes is no more than they can say
 pub short-length : (l : List ℕ) → ((i : ℕ) → get_or l i 0 < 256) → little (take 2 l) ≤ 0xFFFF
@@ -31,24 +36,17 @@ short-length [] B = omega arith
 short-length (x ∷ []) B = omega (arith, B 0)
 short-length (x ∷ y ∷ l) B = omega (arith, B 0, B 1)
 
--- a record that is read
+-- a record that is read, or none
 module _ (s : List ℕ) (at : ℕ) where
   abbrev t : List ℕ
   t = drop at s
 
-  pub stands-whole : (longest : ℕ) (w : Whole) → read_at longest at t ≡ Ok w → RecordLies s at w.kind w.start (length w.body) w.next
-  stands-whole longest w e =
-      let r = record_read longest at t w e in
-      let n : length w.body ≡ length_at t - 2 = rw r.body_is (length_part t 4 (length_at t - 2) (omega (arith, r.has_kind, r.inside))) in
-      let b : part t 4 (length_at t - 2) ≡ part s w.start (length w.body) = part-drop s at 4 (length_at t - 2) ∙ rw (r.body_at, n) in
-      record {
-        record_is = record_whole t r.has_kind r.inside ∙ rw (r.kind_is, b);
-        inside = omega (arith, r.body_at, n, r.has_kind, r.inside, length-drop at s);
-        past = r.past;
-        onward = omega (arith, r.past);
-      }
+  stands_whole : (longest : ℕ) (e : Record) → read_as (Ok e) ≡ read_at longest at t → RecordLies s at e
+  stands_whole longest e q =
+      let r = record_read longest at t _ (sym q) in
+      record { record_is = record_whole t r.has_kind r.inside ∙ rw (← r.kind_is, ← r.body_is); past = r.past }
 
-  pub stands-cut : ((i : ℕ) → get_or s i 0 < 256) → (u : Unread) → Err u ≡ read_at 0xFFFF at t → record_at t ≡ cut
+  stands-cut : ((i : ℕ) → get_or s i 0 < 256) → (u : Unread) → read_as (Err u) ≡ read_at 0xFFFF at t → record_at t ≡ cut
   unfolding read_at length_at
   stands-cut B u e =
       record_cut t (go (ltb (length t) 4) (ltb (length_at t) 2) (ltb 0xFFFF (length_at t)) (ltb (length t) (whole_length t)) refl refl refl refl e)
@@ -66,189 +64,184 @@ module _ (s : List ℕ) (at : ℕ) where
       go false false false true f g h k e l = ltb-true (length t) (whole_length t) k
       go false false false false f g h k e l = let z : ◌≡◌ {A = ℕ} 0 1 = cc in absurd (omega arith)
 
-pub head_of : (s : List ℕ) (kind start n next : ℕ) → RecordLies s 0 kind start n next → is_codes (record_at s) ≡ both (eqb kind 0x20) (eqb n 4)
-unfolding is_codes
-head_of s kind start n next h = rw (h.record_is, length_part s start n h.inside)
+  pub stands : ((i : ℕ) → get_or s i 0 < 256) → (r : Result Record Unread) → read_as r ≡ read_at 0xFFFF at t → RecordStands s at (result_ok r)
+  stands B (Ok e) q = stands_whole 0xFFFF e q
+  stands B (Err u) q = stands-cut B u q
 
-pub no_head : (s : List ℕ) → record_at s ≡ cut → is_codes (record_at s) ≡ false
-unfolding is_codes
-no_head s e = rw e
-
-some : (k : ℕ) → (k ≡ 0 → ⊥) → 1 ≤ k
-some zero w = absurd (w refl)
-some (suc k) w = omega arith
-
-module _ (s : List ℕ) (at kind start n next : ℕ) (h : RecordLies s at kind start n next) where
-  field_is : is_field (record_at (drop at s)) ≡ both (eqb kind 0x21) (exists (arg (part s start n) 0))
+-- a field's record by its test, or none
+module _ (s : List ℕ) (at : ℕ) (e : Record) (h : RecordLies s at e) where
+  field_is : is_field (record_at (drop at s)) ≡ both (eqb e.kind 0x21) (exists (arg e.body.now 0))
   unfolding is_field
   field_is = rw h.record_is
 
-  first_byte : 1 ≤ n → arg (part s start n) 0 ≡ get_or s start 0
-  first_byte l = let e : start + 0 ≡ start = omega arith in part-byte s start n 0 l ∙ rw e
+  pub other_kind : (e.kind ≡ 0x21 → ⊥) → is_field (record_at (drop at s)) ≡ false
+  other_kind k = field_is ∙ rw (ne_eqb e.kind 0x21 k)
 
-  pub other_kind : (kind ≡ 0x21 → ⊥) → is_field (record_at (drop at s)) ≡ false
-  other_kind e = field_is ∙ rw (ne_eqb kind 0x21 e)
+  module _ (k : e.kind ≡ 0x21) where
+    pub no_bit : exists (arg e.body.now 0) ≡ false → is_field (record_at (drop at s)) ≡ false
+    no_bit x = field_is ∙ rw (k, x)
 
-  pub no_body : kind ≡ 0x21 → n ≡ 0 → is_field (record_at (drop at s)) ≡ false
-  unfolding part exists
-  no_body e z = field_is ∙ rw (e, z)
-
-  pub no_bit : kind ≡ 0x21 → (n ≡ 0 → ⊥) → exists (get_or s start 0) ≡ false → is_field (record_at (drop at s)) ≡ false
-  no_bit e z x = field_is ∙ rw (e, first_byte (some n z), x)
-
-  pub lies_field : kind ≡ 0x21 → (n ≡ 0 → ⊥) → exists (get_or s start 0) ≡ true → FieldLies s at start n next
-  unfolding body_of
-  lies_field e z x =
-      let o : 1 ≤ n = some n z in
-      record {
-        is = field_is ∙ rw (e, first_byte o, x);
-        body = rw h.record_is;
-        some = o;
-        inside = h.inside;
-        past = h.past;
-        onward = h.onward;
-      }
+    pub lies_field : exists (arg e.body.now 0) ≡ true → FieldLies s at e
+    unfolding body_of
+    lies_field x = record { is = field_is ∙ rw (k, x); body = rw h.record_is; past = h.past }
 
 pub cut_field : (s : List ℕ) (at : ℕ) → record_at (drop at s) ≡ cut → is_field (record_at (drop at s)) ≡ false
 unfolding is_field
 cut_field s at e = rw e
 
-pub size_is : (s : List ℕ) (start n x : ℕ) → 1 ≤ n → start + n ≤ length s → x ≡ bytes_of (blocks (get_or s start 0)) → eqb n (1 + x) ≡ of_its_size (part s start n)
-unfolding of_its_size
-size_is s start n x o l e = let z : start + 0 ≡ start = omega arith in rw (length_part s start n l, part-byte s start n 0 o, z, e)
-
-pub head_then : (s : List ℕ) (kind start n next : ℕ) → RecordLies s 0 kind start n next → kind ≡ 0x20 → eqb n 4 ≡ is_codes (record_at s)
-head_then s kind start n next h e = sym (head_of s kind start n next h ∙ rw e)
-
-pub head_else : (s : List ℕ) (kind start n next : ℕ) → RecordLies s 0 kind start n next → (kind ≡ 0x20 → ⊥) → eqb kind 0x20 ≡ is_codes (record_at s)
-head_else s kind start n next h e = rw (head_of s kind start n next h, ne_eqb kind 0x20 e)
-
 -- the walk over the fields that looks for a fault
-module _ (s : List ℕ) (at left : ℕ) (w : Checked) where
-  pub fault_end : length s ≤ at → w ≡ checked_from left w at (drop at s)
+module _ (s : List ℕ) (at : ℕ) (w : Checked) where
+  pub fault_end : (left : ℕ) → length s ≤ at → w ≡ checked_from left w at (drop at s)
   unfolding checked_from
-  fault_end h = rw (drop_of_length-le s {i = at} h) (go left)
+  fault_end left h = rw (drop_of_length-le s {i = at} h) (go left)
     where
       go : (k : ℕ) → w ≡ checked_from k w at []
       go zero = refl
       go (suc k) = refl
 
   module _ (more : at < length s) where
-    pub none_left : left ≡ 0 → BadRecord at ≡ checked_from left w at (drop at s)
+    pub none_left : Err (BadRecord at) ≡ checked_from 0 w at (drop at s)
     unfolding checked_from
-    none_left e = rw (drop-cons s at 0 more, e)
-
-    one_more : (left ≡ 0 → ⊥) → left ≡ suc (left - 1)
-    one_more z = go left z
-      where
-        go : (k : ℕ) → (k ≡ 0 → ⊥) → k ≡ suc (k - 1)
-        go zero z = absurd (z refl)
-        go (suc k) z = omega arith
+    none_left = rw (drop-cons s at 0 more)
 
     opens : (k : ℕ) (l : List ℕ) → drop at s ≡ l → 0 < length l
-        → checked_from (suc k) w at l ≡ pick (is_field (record_at l)) (checked_from k (first_wrong w (of_its_size (body_of (record_at l))) at) (at + whole_length l) (drop (whole_length l) l)) (BadRecord at)
+        → checked_from (suc k) w at l ≡ pick (is_field (record_at l)) (checked_from k (first_wrong w (of_its_size (body_of (record_at l))) at) (at + whole_length l) (drop (whole_length l) l)) (Err (BadRecord at))
     unfolding checked_from
     opens k [] e h = absurd (omega arith)
     opens k (x ∷ l) e h = refl
 
-    enabled : (left ≡ 0 → ⊥) → checked_from left w at (drop at s)
-        ≡ pick (is_field (record_at (drop at s))) (checked_from (left - 1) (first_wrong w (of_its_size (body_of (record_at (drop at s)))) at) (at + whole_length (drop at s)) (drop (whole_length (drop at s)) (drop at s))) (BadRecord at)
-    enabled z =
-        ap (λ (k : ℕ). checked_from k w at (drop at s)) (one_more z)
-        ∙ opens (left - 1) (drop at s) refl (rw (length-drop at s) (omega arith))
+    module _ (left rest : ℕ) (one : left ≡ suc rest) where
+      opened : checked_from left w at (drop at s)
+          ≡ pick (is_field (record_at (drop at s))) (checked_from rest (first_wrong w (of_its_size (body_of (record_at (drop at s)))) at) (at + whole_length (drop at s)) (drop (whole_length (drop at s)) (drop at s))) (Err (BadRecord at))
+      opened = rw one (opens rest (drop at s) refl (rw (length-drop at s) (omega arith)))
 
-    pub bad_here : (left ≡ 0 → ⊥) → is_field (record_at (drop at s)) ≡ false → BadRecord at ≡ checked_from left w at (drop at s)
-    bad_here z e = sym (enabled z ∙ rw e)
+      pub bad_here : is_field (record_at (drop at s)) ≡ false → Err (BadRecord at) ≡ checked_from left w at (drop at s)
+      bad_here e = sym (opened ∙ rw e)
 
-    pub fault_more : (left ≡ 0 → ⊥) → (start n next : ℕ) → FieldLies s at start n next
-        → checked_from (left - 1) (first_wrong w (of_its_size (part s start n)) at) next (drop next s) ≡ checked_from left w at (drop at s)
-    fault_more z start n next h =
-        sym (enabled z ∙ rw (h.is, h.body, drop-drop (whole_length (drop at s)) at s, ← h.past))
+      pub fault_more : (e : Record) → FieldLies s at e → checked_from rest (first_wrong w (of_its_size e.body.now) at) e.next.at (drop e.next.at s) ≡ checked_from left w at (drop at s)
+      fault_more e h = sym (opened ∙ rw (h.is, h.body, drop-drop (whole_length (drop at s)) at s, ← h.past))
 
--- the walk that looks for field i
-pub record Walked (s : List ℕ) (at k : ℕ) : Type 0 where
-  pub upto : k ≤ length (wish_of s).fields
-  pub rest : drop k (wish_of s).fields ≡ fields_from (256 - k) (drop at s)
+-- one wanted field more, or none
+pub none_allowed : (t : List ℕ) (left : ℕ) → left ≡ 0 → fields_from left t ≡ []
+unfolding fields_from
+none_allowed t left z = rw z
 
-module _ (s : List ℕ) where
-  abbrev l : Wish
-  l = wish_of s
-
-  pub walk_start : Walked s 8 0
-  unfolding wish_of
-  walk_start = record { upto = omega arith; rest = refl }
-
-  all_walked : (at k : ℕ) → Walked s at k → drop k l.fields ≡ [] → length l.fields ≤ k
-  all_walked at k W e = omega (arith, length-drop k l.fields, ap length e)
-
-  pub walk_end : (at k i : ℕ) → Walked s at k → 256 ≤ k → k ≤ i → length l.fields ≤ i
+module _ (s : List ℕ) (at left : ℕ) where
+  pub none_here : is_field (record_at (drop at s)) ≡ false → fields_from left (drop at s) ≡ []
   unfolding fields_from
-  walk_end at k i W h o =
-      let z : 256 - k ≡ 0 = omega arith in
-      omega (arith, all_walked at k W (W.rest ∙ rw z))
+  none_here e = go left
+    where
+      go : (k : ℕ) → fields_from k (drop at s) ≡ []
+      go zero = refl
+      go (suc k) = rw e
 
-  module _ (at k i : ℕ) (W : Walked s at k) (few : k < 256) where
-    open_rest : drop k l.fields
-        ≡ pick (both (is_field (record_at (drop at s))) (of_its_size (body_of (record_at (drop at s)))))
-        (field_in (body_of (record_at (drop at s))) ∷ fields_from (255 - k) (drop (whole_length (drop at s)) (drop at s))) []
+  module _ (e : Record) (h : FieldLies s at e) where
+    pub unsized_here : of_its_size e.body.now ≡ false → fields_from left (drop at s) ≡ []
     unfolding fields_from
-    open_rest = let z : 256 - k ≡ suc (255 - k) = omega arith in W.rest ∙ rw z
+    unsized_here f = go left
+      where
+        go : (k : ℕ) → fields_from k (drop at s) ≡ []
+        go zero = refl
+        go (suc k) = rw (h.is, h.body, f)
 
-    pub walk_none : k ≤ i → is_field (record_at (drop at s)) ≡ false → length l.fields ≤ i
-    walk_none o e = omega (arith, all_walked at k W (open_rest ∙ rw e))
+    pub field_more : of_its_size e.body.now ≡ true → (left ≡ 0 → ⊥) → fields_from left (drop at s) ≡ field_in e.body.now ∷ fields_from (left - 1) (drop e.next.at s)
+    unfolding fields_from
+    field_more f z = go left z
+      where
+        go : (k : ℕ) → (k ≡ 0 → ⊥) → fields_from k (drop at s) ≡ field_in e.body.now ∷ fields_from (k - 1) (drop e.next.at s)
+        go zero z = absurd (z refl)
+        go (suc k) z = let y : suc k - 1 ≡ k = omega arith in rw (h.is, h.body, f, drop-drop (whole_length (drop at s)) at s, ← h.past, y)
 
-    module _ (start n next : ℕ) (h : FieldLies s at start n next) where
-      pub walk_unsized : k ≤ i → of_its_size (part s start n) ≡ false → length l.fields ≤ i
-      walk_unsized o e = omega (arith, all_walked at k W (open_rest ∙ rw (h.is, h.body, e)))
+pub some_body : (b : List ℕ) → of_its_size b ≡ true → 1 ≤ length b
+unfolding of_its_size
+some_body b e = omega (arith, eqb-true (length b) (1 + bytes_of (blocks (arg b 0))) e)
 
-      module _ (e : of_its_size (part s start n) ≡ true) where
-        at-k : drop k l.fields ≡ field_in (part s start n) ∷ fields_from (255 - k) (drop next s)
-        at-k = open_rest ∙ rw (h.is, h.body, e, drop-drop (whole_length (drop at s)) at s, ← h.past)
+pub body_rest : (b : List ℕ) → take (length b - 1) (drop 1 b) ≡ drop 1 b
+body_rest b = take_all (length b - 1) (drop 1 b) (omega (arith, length-drop 1 b))
 
-        some_left : k < length l.fields
-        some_left = omega (arith, length-drop k l.fields, ap length at-k)
+-- the body of a field's record is not empty, and has its status
+fits_in_lem : (x : Found) → is_field x ≡ true → of_its_size (body_of x) ≡ true → (T (exists (arg (body_of x) 0))) × (length (drop 1 (body_of x)) ≡ bytes_of (blocks (arg (body_of x) 0)))
+unfolding is_field of_its_size body_of
+fits_in_lem (whole k b) e s = (
+  true-told (exists (arg b 0)) (both_right (eqb k 0x21) (exists (arg b 0)) e),
+  omega (arith, length-drop 1 b, eqb-true (length b) (1 + bytes_of (blocks (arg b 0))) s),
+)
+fits_in_lem cut e s = absurd (false≢true e)
 
-        pub walk_more : Walked s next (k + 1)
-        walk_more =
-            let z : 256 - (k + 1) ≡ 255 - k = omega arith in
-            record {
-              upto = omega (arith, some_left);
-              rest = rw z (sym (drop-drop 1 k l.fields) ∙ ap (drop 1) at-k);
-            }
-
-        pub walk_found : k ≡ i → FoundField l s i (get_or s start 0) (start + 1) (n - 1)
-        unfolding of_its_size part blocks
-        walk_found q =
-            let z : start + 0 ≡ start = omega arith in
-            let y : get_or (take n (drop start s)) 0 0 ≡ get_or s start 0 = part-byte s start n 0 h.some ∙ rw z in
-            let f : wanted l k ≡ field_in (part s start n) = sym (get_or-drop-zero k l.fields) ∙ rw at-k in
-            let b : drop 1 (part s start n) ≡ part s (start + 1) (n - 1) = drop-part s start n h.some in
-            let g : n ≡ 1 + 16 * (get_or (take n (drop start s)) 0 0 % 8 + 1)
-            = sym (length_part s start n h.inside) ∙ eqb-true (length (part s start n)) (1 + 16 * (get_or (take n (drop start s)) 0 0 % 8 + 1)) e in
-            record {
-              there = omega (arith, some_left);
-              is = ap (wanted l) (sym q) ∙ f ∙ rw (y, b);
-              inside = omega (arith, h.inside, h.some);
-              few = omega (arith, g);
-              low = omega arith;
-            }
-          where
-            get_or-drop-zero : (k : ℕ) (fs : List Field) → get_or (drop k fs) 0 no_field ≡ get_or fs k no_field
-            get_or-drop-zero zero fs = refl
-            get_or-drop-zero (suc k) [] = refl
-            get_or-drop-zero (suc k) (f ∷ fs) = get_or-drop-zero k fs
-
-            drop-take : (n : ℕ) (l : List ℕ) → 1 ≤ n → drop 1 (take n l) ≡ take (n - 1) (drop 1 l)
-            drop-take zero l h = absurd (omega arith)
-            drop-take (suc n) [] h = sym (take-nil (suc n - 1))
-            drop-take (suc n) (x ∷ l) h = let z : suc n - 1 ≡ n = omega arith in rw z
-
-            drop-part : (s : List ℕ) (a n : ℕ) → 1 ≤ n → drop 1 (take n (drop a s)) ≡ take (n - 1) (drop (a + 1) s)
-            drop-part s a n h = drop-take n (drop a s) h ∙ rw (drop-drop 1 a s)
-
-pub other : (k i : ℕ) → k ≤ i → (k ≡ i → ⊥) → k < i
-other k i h n = go (dec_lt k i)
+-- whatever the tape, the fields taken from it fit
+pub all_fit : (n : ℕ) (t : List ℕ) → FieldsFit (fields_from n t)
+unfolding fields_from
+all_fit zero t = tt
+all_fit (suc n) t = go (is_field (record_at t)) (of_its_size (body_of (record_at t))) refl refl (all_fit n (drop (whole_length t) t))
   where
-    go : Dec (k < i) → k < i
-    go (yes l) = l
-    go (no l) = absurd (n (omega arith))
+    go : (p q : Bool) → is_field (record_at t) ≡ p → of_its_size (body_of (record_at t)) ≡ q → FieldsFit (fields_from n (drop (whole_length t) t))
+        → FieldsFit (pick (both p q) (field_in (body_of (record_at t)) ∷ fields_from n (drop (whole_length t) t)) [])
+    go true true e s h = ((fits_in_lem (record_at t) e s).0, (fits_in_lem (record_at t) e s).1, h)
+    go true false e s h = tt
+    go false q e s h = tt
+
+pub all-few : (n : ℕ) (t : List ℕ) → length (fields_from n t) ≤ n
+unfolding fields_from
+all-few zero t = omega arith
+all-few (suc n) t = go (both (is_field (record_at t)) (of_its_size (body_of (record_at t)))) (all-few n (drop (whole_length t) t))
+  where
+    go : (p : Bool) → length (fields_from n (drop (whole_length t) t)) ≤ n → length (pick p (field_in (body_of (record_at t)) ∷ fields_from n (drop (whole_length t) t)) []) ≤ suc n
+    go true h = omega arith
+    go false h = omega arith
+
+pub fits-at : (fs : List Field) (g : ℕ) → FieldsFit fs → g < length fs → length (get_or fs g no_field).bytes ≡ 16 * blocks (get_or fs g no_field).status
+fits-at [] g F h = absurd (not-suc-le-zero h)
+fits-at (f ∷ fs) zero F h = F.1
+fits-at (f ∷ fs) (suc g) F h = fits-at fs g F.2 (le_of_suc-le-suc h)
+
+-- the first k wanted fields
+fewer : (k n : ℕ) (t : List ℕ) → k ≤ n → fields_from k t ≡ take k (fields_from n t)
+unfolding fields_from
+fewer zero n t h = refl
+fewer (suc k) zero t h = absurd (not-suc-le-zero h)
+fewer (suc k) (suc n) t h = go (both (is_field (record_at t)) (of_its_size (body_of (record_at t)))) (fewer k n (drop (whole_length t) t) (le_of_suc-le-suc h))
+  where
+    go : (p : Bool) → fields_from k (drop (whole_length t) t) ≡ take k (fields_from n (drop (whole_length t) t))
+        → pick p (field_in (body_of (record_at t)) ∷ fields_from k (drop (whole_length t) t)) [] ≡ take (suc k) (pick p (field_in (body_of (record_at t)) ∷ fields_from n (drop (whole_length t) t)) [])
+    go true e = rw e
+    go false e = refl
+
+pub first_of : (k : ℕ) (s : List ℕ) → fields_from (min k 256) (drop 8 s) ≡ take k (wish_of s).fields
+unfolding wish_of
+first_of k s = go (dec_lt k 256)
+  where
+    go : Dec (k < 256) → fields_from (min k 256) (drop 8 s) ≡ take k (fields_from 256 (drop 8 s))
+    go (yes h) = let e : min k 256 ≡ k = omega arith in rw e (fewer k 256 (drop 8 s) (omega arith))
+    go (no h) = let e : min k 256 ≡ 256 = omega arith in rw e (sym (take_all k (fields_from 256 (drop 8 s)) (omega (arith, all-few 256 (drop 8 s)))))
+
+pub all_of : (s : List ℕ) → take 256 (wish_of s).fields ≡ (wish_of s).fields
+unfolding wish_of
+all_of s = take_all 256 (fields_from 256 (drop 8 s)) (all-few 256 (drop 8 s))
+
+-- wanted field i, by its place among them
+placed : (fs : List Field) (i : ℕ) (f : Field) → Some f ≡ slice_get fs i → (i < length fs) × (get_or fs i no_field ≡ f)
+placed [] i f e = absurd cc
+placed (g ∷ fs) zero f e = (omega arith, cc)
+placed (g ∷ fs) (suc i) f e = let h = placed fs i f e in (omega (arith, h.0), h.1)
+
+past_all : (fs : List Field) (i : ℕ) → None ≡ slice_get fs i → length fs ≤ i
+past_all [] i e = omega arith
+past_all (g ∷ fs) zero e = absurd cc
+past_all (g ∷ fs) (suc i) e = omega (arith, past_all fs i e)
+
+few_bytes : (l : Wish) (i : ℕ) → FieldsFit l.fields → i < length l.fields → length (wanted l i).bytes ≤ most_count
+unfolding blocks
+few_bytes l i F h = omega (arith, fits-at l.fields i F h)
+
+pub finds : (s : List ℕ) (i : ℕ) (r : Option Wanted) → option_map field_as r ≡ slice_get (wish_of s).fields i → Finds (wish_of s) i r
+unfolding wish_of
+finds s i None e = past_all (wish_of s).fields i e
+finds s i (Some w) e =
+    let l = wish_of s in
+    let h = placed l.fields i (field_as w) e in
+    record {
+      there = h.0;
+      is = h.1;
+      few = rw h.1 at (few_bytes l i (all_fit 256 (drop 8 s)) h.0);
+      low = omega (arith, h.0, all-few 256 (drop 8 s));
+    }

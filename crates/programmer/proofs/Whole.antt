@@ -4,63 +4,20 @@ use mathlib.Core.Path.{◌≡◌, refl, ap}
 use mathlib.Core.Bool.{Bool, true, false, false≢true}
 use mathlib.Core.List.{List, [], ◌∷◌}
 use native.Mathlib.Omega.{arith}
-use lib.Dec.{T, eqb, leb}
+use lib.Dec.{eqb, leb}
 use lib.ListN.{length, get_or, drop, length-drop}
 use lib.Seq.{get_or-drop}
-use borrow.Author.Tests.{eqb-true, eqb-false, leb-true}
+use borrow.Author.Tests.{eqb-true, leb-true}
+use Rattle.std.specs.Prelude.{Ok, Err}
 use Rattle.meaning.specs.Bytes.{pick, both, arg, part, little}
-use Rattle.meaning.specs.Fields.{bytes_of, blocks, exists}
-use Rattle.meaning.proofs.Choices.{both_right, true-told}
+use Rattle.meaning.specs.Fields.{exists}
+use Rattle.meaning.proofs.Choices.{both_right}
 use Rattle.records.specs.Records.{Found, whole, cut, length_at, whole_length, record_at}
 use Rattle.records.proofs.Bytes.{length_part}
-use Rattle.programmer.specs.Wishes.{field_in, body_of, is_codes, is_field, of_its_size, first_wrong, checked_from, checked_tape, fields_from, wish_of}
-use Rattle.programmer.specs.Promises.{FieldsFit, span_of, WholeTape, GoodIsWhole}
-use Rattle.programmer.specs.declared.wish.Checked.{Checked}
-use Rattle.programmer.specs.declared.wish.Checked.TheVariants.{Good, BadRecord, WrongSize}
-use Rattle.programmer.proofs.Reading.{short-length}
-
-kind : Checked → ℕ
-kind Good = 0
-kind (BadRecord n) = 1
-kind (WrongSize n) = 2
-
-never-bad : {A : Type 0} (n : ℕ) → BadRecord n ≡ Good → A
-unfolding kind
-never-bad n e = absurd (eqb-false 1 0 refl (ap kind e))
-
-never-size : {A : Type 0} (n : ℕ) → WrongSize n ≡ Good → A
-unfolding kind
-never-size n e = absurd (eqb-false 2 0 refl (ap kind e))
-
--- the body of a field's record is not empty, and has its status
-fits_in_lem : (x : Found) → is_field x ≡ true → of_its_size (body_of x) ≡ true → (T (exists (arg (body_of x) 0))) × (length (drop 1 (body_of x)) ≡ bytes_of (blocks (arg (body_of x) 0)))
-unfolding is_field of_its_size body_of
-fits_in_lem (whole k b) e s = (
-  true-told (exists (arg b 0)) (both_right (eqb k 0x21) (exists (arg b 0)) e),
-  omega (arith, length-drop 1 b, eqb-true (length b) (1 + bytes_of (blocks (arg b 0))) s),
-)
-fits_in_lem cut e s = absurd (false≢true e)
-
--- whatever the tape, the fields taken from it fit
-all_fit : (n : ℕ) (t : List ℕ) → FieldsFit (fields_from n t)
-unfolding fields_from
-all_fit zero t = tt
-all_fit (suc n) t = go (is_field (record_at t)) (of_its_size (body_of (record_at t))) refl refl (all_fit n (drop (whole_length t) t))
-  where
-    go : (p q : Bool) → is_field (record_at t) ≡ p → of_its_size (body_of (record_at t)) ≡ q → FieldsFit (fields_from n (drop (whole_length t) t))
-        → FieldsFit (pick (both p q) (field_in (body_of (record_at t)) ∷ fields_from n (drop (whole_length t) t)) [])
-    go true true e s h = ((fits_in_lem (record_at t) e s).0, (fits_in_lem (record_at t) e s).1, h)
-    go true false e s h = tt
-    go false q e s h = tt
-
-all-few : (n : ℕ) (t : List ℕ) → length (fields_from n t) ≤ n
-unfolding fields_from
-all-few zero t = omega arith
-all-few (suc n) t = go (both (is_field (record_at t)) (of_its_size (body_of (record_at t)))) (all-few n (drop (whole_length t) t))
-  where
-    go : (p : Bool) → length (fields_from n (drop (whole_length t) t)) ≤ n → length (pick p (field_in (body_of (record_at t)) ∷ fields_from n (drop (whole_length t) t)) []) ≤ suc n
-    go true h = omega arith
-    go false h = omega arith
+use Rattle.programmer.specs.Wishes.{field_in, body_of, is_codes, is_field, of_its_size, first_wrong, Checked, good, checked_from, checked_tape, fields_from, wish_of}
+use Rattle.programmer.specs.Promises.{span_of, WholeTape, GoodIsWhole}
+use Rattle.programmer.specs.declared.wish.TapeFault.TheVariants.{BadRecord, WrongSize}
+use Rattle.programmer.proofs.Reading.{short-length, all_fit, all-few}
 
 some-body : (b : List ℕ) → leb 128 (arg b 0) ≡ true → 1 ≤ length b
 some-body [] e = absurd (false≢true e)
@@ -82,31 +39,30 @@ spans t x e f = go (leb 2 (length_at t)) (leb (whole_length t) (length t)) refl 
     go true false a b x e f = absurd (false≢true (rw (← e) at f))
     go false q a b x e f = absurd (false≢true (rw (← e) at f))
 
-first_good : (w : Checked) (q : Bool) (at : ℕ) → first_wrong w q at ≡ Good → (w ≡ Good) × (q ≡ true)
+first_good : (w : Checked) (q : Bool) (at : ℕ) → first_wrong w q at ≡ good → (w ≡ good) × (q ≡ true)
 unfolding first_wrong
-first_good Good true at e = (refl, refl)
-first_good Good false at e = never-size at e
-first_good (BadRecord n) q at e = never-bad n e
-first_good (WrongSize n) q at e = never-size n e
+first_good (Ok u) true at e = (refl, refl)
+first_good (Ok u) false at e = absurd cc
+first_good (Err f) q at e = absurd cc
 
 none_more : (n : ℕ) → fields_from (suc n) [] ≡ []
 unfolding fields_from is_field record_at length_at little
 none_more n = refl
 
-all_read : (n : ℕ) (w : Checked) (at : ℕ) (t : List ℕ) → checked_from n w at t ≡ Good → (w ≡ Good) × (span_of (fields_from n t) ≡ length t)
+all_read : (n : ℕ) (w : Checked) (at : ℕ) (t : List ℕ) → checked_from n w at t ≡ good → (w ≡ good) × (span_of (fields_from n t) ≡ length t)
 unfolding checked_from fields_from span_of
 all_read zero w at [] e = (e, refl)
-all_read zero w at (x ∷ t) e = never-bad at e
+all_read zero w at (x ∷ t) e = absurd cc
 all_read (suc n) w at [] e = (e, ap span_of (none_more n))
 all_read (suc n) w at (x ∷ t) e =
     let s : List ℕ = x ∷ t in
     go (is_field (record_at s)) refl (λ v h. all_read n v (at + whole_length s) (drop (whole_length s) s) h) e
   where
     go : (p : Bool) → is_field (record_at (x ∷ t)) ≡ p
-        → ((v : Checked) → checked_from n v (at + whole_length (x ∷ t)) (drop (whole_length (x ∷ t)) (x ∷ t)) ≡ Good
-        → (v ≡ Good) × (span_of (fields_from n (drop (whole_length (x ∷ t)) (x ∷ t))) ≡ length (drop (whole_length (x ∷ t)) (x ∷ t))))
-        → pick p (checked_from n (first_wrong w (of_its_size (body_of (record_at (x ∷ t)))) at) (at + whole_length (x ∷ t)) (drop (whole_length (x ∷ t)) (x ∷ t))) (BadRecord at) ≡ Good
-        → (w ≡ Good) × (span_of (pick (both p (of_its_size (body_of (record_at (x ∷ t))))) (field_in (body_of (record_at (x ∷ t))) ∷ fields_from n (drop (whole_length (x ∷ t)) (x ∷ t))) []) ≡ suc (length t))
+        → ((v : Checked) → checked_from n v (at + whole_length (x ∷ t)) (drop (whole_length (x ∷ t)) (x ∷ t)) ≡ good
+        → (v ≡ good) × (span_of (fields_from n (drop (whole_length (x ∷ t)) (x ∷ t))) ≡ length (drop (whole_length (x ∷ t)) (x ∷ t))))
+        → pick p (checked_from n (first_wrong w (of_its_size (body_of (record_at (x ∷ t)))) at) (at + whole_length (x ∷ t)) (drop (whole_length (x ∷ t)) (x ∷ t))) (Err (BadRecord at)) ≡ good
+        → (w ≡ good) × (span_of (pick (both p (of_its_size (body_of (record_at (x ∷ t))))) (field_in (body_of (record_at (x ∷ t))) ∷ fields_from n (drop (whole_length (x ∷ t)) (x ∷ t))) []) ≡ suc (length t))
     go true f ih e =
         let s : List ℕ = x ∷ t in
         let b = body_of (record_at s) in
@@ -114,7 +70,7 @@ all_read (suc n) w at (x ∷ t) e =
         let g = first_good w (of_its_size b) at h.0 in
         let y = spans s (record_at s) refl f in
         (g.0, rw g.1 (omega (arith, h.1, y.0, y.1, y.2, length-drop (whole_length s) s, length-drop 1 b)))
-    go false f ih e = never-bad at e
+    go false f ih e = absurd cc
 
 -- the codes' record has eight bytes
 head_spans : (t : List ℕ) (x : Found) → record_at t ≡ x → is_codes x ≡ true → 8 ≤ length t
@@ -135,30 +91,29 @@ pub good-is-whole : GoodIsWhole
 unfolding checked_tape wish_of
 good-is-whole t e = go (is_codes (record_at t)) refl e
   where
-    go : (p : Bool) → is_codes (record_at t) ≡ p → pick p (checked_from 256 Good 8 (drop 8 t)) (BadRecord 0) ≡ Good → WholeTape t (wish_of t)
+    go : (p : Bool) → is_codes (record_at t) ≡ p → pick p (checked_from 256 good 8 (drop 8 t)) (Err (BadRecord 0)) ≡ good → WholeTape t (wish_of t)
     go true f e =
         let h = head_spans t (record_at t) refl f in
         record {
           four = length_part t 4 4 h;
           few = all-few 256 (drop 8 t);
           fit = all_fit 256 (drop 8 t);
-          all = omega (arith, h, (all_read 256 Good 8 (drop 8 t) e).1, length-drop 8 t);
+          all = omega (arith, h, (all_read 256 good 8 (drop 8 t) e).1, length-drop 8 t);
         }
-    go false f e = never-bad 0 e
+    go false f e = absurd cc
 
 -- ---- the place of a fault
 
 abbrev pub place_in : Checked → ℕ
-place_in Good = 0
-place_in (BadRecord at) = at
-place_in (WrongSize at) = at
+place_in (Ok u) = 0
+place_in (Err (BadRecord at)) = at
+place_in (Err (WrongSize at)) = at
 
 first-place : (c : Checked) (q : Bool) (at : ℕ) → place_in c ≤ at → place_in (first_wrong c q at) ≤ at
 unfolding first_wrong
-first-place Good true at h = omega arith
-first-place Good false at h = omega arith
-first-place (BadRecord n) q at h = h
-first-place (WrongSize n) q at h = h
+first-place (Ok u) true at h = omega arith
+first-place (Ok u) false at h = omega arith
+first-place (Err f) q at h = h
 
 dropped_byte : (n : ℕ) (t : List ℕ) → ((i : ℕ) → get_or t i 0 < 256) → (i : ℕ) → get_or (drop n t) i 0 < 256
 dropped_byte n t B i = rw (get_or-drop n t i 0) (B (n + i))
@@ -179,7 +134,7 @@ low-from (suc n) c at (x ∷ t) B h =
 
     go : (p : Bool)
         → place_in (checked_from n (first_wrong c (of_its_size (body_of (record_at (x ∷ t)))) at) (at + whole_length (x ∷ t)) (drop (whole_length (x ∷ t)) (x ∷ t))) ≤ at + whole_length (x ∷ t) + n * 65537
-        → place_in (pick p (checked_from n (first_wrong c (of_its_size (body_of (record_at (x ∷ t)))) at) (at + whole_length (x ∷ t)) (drop (whole_length (x ∷ t)) (x ∷ t))) (BadRecord at))
+        → place_in (pick p (checked_from n (first_wrong c (of_its_size (body_of (record_at (x ∷ t)))) at) (at + whole_length (x ∷ t)) (drop (whole_length (x ∷ t)) (x ∷ t))) (Err (BadRecord at)))
         ≤ at + suc n * 65537
     go true k = omega (arith, few, k)
     go false k = omega arith
@@ -187,8 +142,8 @@ low-from (suc n) c at (x ∷ t) B h =
 -- so a place has 32 bits
 pub low-place : (t : List ℕ) → ((i : ℕ) → get_or t i 0 < 256) → place_in (checked_tape t) < 0x100000000
 unfolding checked_tape
-low-place t B = go (is_codes (record_at t)) (low-from 256 Good 8 (drop 8 t) (dropped_byte 8 t B) (omega arith))
+low-place t B = go (is_codes (record_at t)) (low-from 256 good 8 (drop 8 t) (dropped_byte 8 t B) (omega arith))
   where
-    go : (p : Bool) → place_in (checked_from 256 Good 8 (drop 8 t)) ≤ 8 + 256 * 65537 → place_in (pick p (checked_from 256 Good 8 (drop 8 t)) (BadRecord 0)) < 0x100000000
+    go : (p : Bool) → place_in (checked_from 256 good 8 (drop 8 t)) ≤ 8 + 256 * 65537 → place_in (pick p (checked_from 256 good 8 (drop 8 t)) (Err (BadRecord 0))) < 0x100000000
     go true k = omega arith
     go false k = omega arith

@@ -3,10 +3,9 @@ use Rattle.std.specs.Prelude.{ℕ, ◌+◌, ◌≤◌, ◌<◌, ◌≡◌, ◌�
 use Rattle.meaning.specs.Bytes.{arg}
 use Rattle.meaning.specs.Fields.{bytes_of, blocks, exists}
 use Rattle.meaning.specs.Bench.{address_ok, done, judge}
-use Rattle.programmer.specs.Wishes.{Field, Wish, wanted, checked_tape, wish_of}
+use Rattle.programmer.specs.Wishes.{Field, Wish, wanted, good, checked_tape, wish_of}
 use Rattle.programmer.specs.Steps.{bytes_due, in_all, answered}
 use Rattle.programmer.specs.Running.{at_first, hears, is_possible}
-use Rattle.programmer.specs.declared.wish.Checked.TheVariants.{Good}
 use Rattle.programmer.specs.declared.run.Programmer.{Programmer}
 use Rattle.programmer.specs.declared.step.Step.{Step}
 use Rattle.programmer.specs.declared.step.Step.TheVariants.{Look, Remove, Read, Lock}
@@ -31,7 +30,7 @@ pub record WholeTape (t : List ℕ) (l : Wish) : Type 0 where
   pub all : 8 + span_of l.fields ≡ length t
 
 abbrev pub GoodIsWhole : Type 0  -- "The whole tape is checked"
-GoodIsWhole = (t : List ℕ) → checked_tape t ≡ Good → WholeTape t (wish_of t)
+GoodIsWhole = (t : List ℕ) → checked_tape t ≡ good → WholeTape t (wish_of t)
 
 -- any replies whatever, newest first: where the run stands
 unfoldable pub after_replies : ℕ → Wish → List (List ℕ) → Programmer

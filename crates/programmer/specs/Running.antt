@@ -1,20 +1,16 @@
 -- What the programmer's entry points answer (02, Req 04). Assumes nothing.
-use Rattle.std.specs.Prelude.{ℕ, max, Bool, true, false, not, List, length, eqb, leb, ltb}
+use Rattle.std.specs.Prelude.{ℕ, max, Bool, true, false, not, List, length, eqb, leb, ltb, Option, Some, None, Result, Ok, Err}
 use Rattle.meaning.specs.Bytes.{pick, both}
 use Rattle.meaning.specs.Fields.{writable}
 use Rattle.meaning.specs.Bench as meaning
 use Rattle.meaning.specs.Bench.{address_ok, writes}
-use Rattle.bench.specs.declared.request.Written.{Written}
-use Rattle.bench.specs.declared.request.Written.TheVariants as written
-use Rattle.programmer.specs.Wishes.{Wish, wanted}
+use Rattle.bench.specs.declared.request.Unwritten.{Unwritten}
+use Rattle.bench.specs.declared.request.Unwritten.TheVariants as unwritten
+use Rattle.programmer.specs.Wishes.{Checked, Wish, wanted}
 use Rattle.programmer.specs.Steps.{due, after_reply, still_there, in_all, answered_at}
-use Rattle.programmer.specs.declared.wish.Checked as code
-use Rattle.programmer.specs.declared.wish.Checked.TheVariants as checked
 use Rattle.programmer.specs.declared.run.Programmer.{Programmer}
-use Rattle.programmer.specs.declared.run.Started.{Started}
-use Rattle.programmer.specs.declared.run.Started.TheVariants as started
-use Rattle.programmer.specs.declared.run.Asked.{Asked}
-use Rattle.programmer.specs.declared.run.Asked.TheVariants as asked
+use Rattle.programmer.specs.declared.run.StartRefusal.{StartRefusal}
+use Rattle.programmer.specs.declared.run.StartRefusal.TheVariants.{Tape, R5}
 use Rattle.programmer.specs.declared.count.Progress.{Progress}
 use Rattle.programmer.specs.declared.step.Step.{Step}
 use Rattle.programmer.specs.declared.step.Step.TheVariants.{Count, Look, Remove, Create, Store, Read, Lock}
@@ -27,27 +23,23 @@ abbrev pub at_first : ℕ → Programmer  -- the first request is 4Eh, and no fi
 at_first n = record { address = n; present = 0; standing = At Count }
 
 -- "The whole tape is checked before the first request"; then R5, an address that the bench does not write
-abbrev pub started_by : ℕ → code.Checked → Started
-started_by n checked.Good = pick (address_ok n) (started.Ready (at_first n)) started.R5
-started_by n (checked.BadRecord at) = started.BadRecord at
-started_by n (checked.WrongSize at) = started.WrongSize at
+abbrev pub Started : Type 0
+Started = Result Programmer StartRefusal
 
-abbrev pub told_by : Written → Asked
-told_by (written.Request n) = asked.Request n
-told_by written.R4 = asked.R4
-told_by written.R5 = asked.R5
+abbrev pub started_by : ℕ → Checked → Started
+started_by n (Ok u) = pick (address_ok n) (Ok (at_first n)) (Err R5)
+started_by n (Err fault) = Err (Tape fault)
 
-abbrev pub length_written : Written → ℕ
-length_written (written.Request n) = n
-length_written written.R4 = 0
-length_written written.R5 = 0
+-- what is asked: the length of the request that is due, or that none is due any more; or the bench's refusal
+abbrev pub Asked : Type 0
+Asked = Result (Option ℕ) Unwritten
 
 -- by the paper's numbers, with the buffer as it is afterwards; 6 where nothing is due any more, which the paper does not number
 abbrev pub asked_of : Asked → List ℕ → meaning.Written
-asked_of (asked.Request n) buffer = record { refusal = 0; count = n; buffer = buffer }
-asked_of asked.Over buffer = record { refusal = 6; count = 0; buffer = buffer }
-asked_of asked.R4 buffer = record { refusal = 4; count = 0; buffer = buffer }
-asked_of asked.R5 buffer = record { refusal = 5; count = 0; buffer = buffer }
+asked_of (Ok (Some n)) buffer = record { refusal = 0; count = n; buffer = buffer }
+asked_of (Ok None) buffer = record { refusal = 6; count = 0; buffer = buffer }
+asked_of (Err unwritten.R4) buffer = record { refusal = 4; count = 0; buffer = buffer }
+asked_of (Err unwritten.R5) buffer = record { refusal = 5; count = 0; buffer = buffer }
 
 -- the request that is due is written (meaning, `writes`: R4 before R5); where none is, nothing is
 unfoldable pub asks : ℕ → Wish → Standing → List ℕ → meaning.Written

@@ -1,10 +1,10 @@
 -- The label tape: its records, what is wrong with it, and the wish that it holds (02, Req 04). Assumes nothing.
-use Rattle.std.specs.Prelude.{ℕ, zero, suc, ◌+◌, Bool, false, List, [], ◌∷◌, length, drop, get_or, eqb}
+use Rattle.std.specs.Prelude.{ℕ, zero, suc, ◌+◌, Bool, false, List, [], ◌∷◌, length, drop, get_or, eqb, Result, Ok, Err}
 use Rattle.meaning.specs.Bytes.{pick, both, arg, part}
 use Rattle.meaning.specs.Fields.{bytes_of, blocks, exists, code_no}
 use Rattle.records.specs.Records.{Found, whole, cut, record_at, whole_length}
-use Rattle.programmer.specs.declared.wish.Checked.{Checked}
-use Rattle.programmer.specs.declared.wish.Checked.TheVariants.{Good, BadRecord, WrongSize}
+use Rattle.programmer.specs.declared.wish.TapeFault.{TapeFault}
+use Rattle.programmer.specs.declared.wish.TapeFault.TheVariants.{BadRecord, WrongSize}
 
 -- "kind 21h for each field (status with bit 7 set, then exactly its bytes)"
 pub record Field : Type 0 where
@@ -47,25 +47,31 @@ is_field cut = false
 unfoldable pub of_its_size : List ℕ → Bool
 of_its_size b = eqb (length b) (1 + bytes_of (blocks (arg b 0)))
 
+-- what the check of a tape says: good, or what is wrong
+abbrev pub Checked : Type 0
+Checked = Result (Unit {0}) TapeFault
+
+abbrev pub good : Checked
+good = Ok tt
+
 -- the first wrong size is remembered
 unfoldable pub first_wrong : Checked → Bool → ℕ → Checked
-first_wrong Good fits at = pick fits Good (WrongSize at)
-first_wrong (BadRecord n) fits at = BadRecord n
-first_wrong (WrongSize n) fits at = WrongSize n
+first_wrong (Ok u) fits at = pick fits (Ok u) (Err (WrongSize at))
+first_wrong (Err e) fits at = Err e
 
 -- "Refusals, in order: bad tape record; body not the field's size", each at the place of its record's first byte. A bad record ends it, wherever it
 -- stands; c is the first wrong size so far, n how many fields may still come (a field's number is one byte, so 256 in all)
 unfoldable pub checked_from : ℕ → Checked → ℕ → List ℕ → Checked
 checked_from zero c at [] = c
-checked_from zero c at (x ∷ t) = BadRecord at
+checked_from zero c at (x ∷ t) = Err (BadRecord at)
 checked_from (suc n) c at [] = c
 checked_from (suc n) c at (x ∷ t) =
     let r = record_at (x ∷ t) in
     let k = whole_length (x ∷ t) in
-    pick (is_field r) (checked_from n (first_wrong c (of_its_size (body_of r)) at) (at + k) (drop k (x ∷ t))) (BadRecord at)
+    pick (is_field r) (checked_from n (first_wrong c (of_its_size (body_of r)) at) (at + k) (drop k (x ∷ t))) (Err (BadRecord at))
 
 unfoldable pub checked_tape : List ℕ → Checked  -- "The whole tape is checked before the first request"
-checked_tape t = pick (is_codes (record_at t)) (checked_from 256 Good 8 (drop 8 t)) (BadRecord 0)
+checked_tape t = pick (is_codes (record_at t)) (checked_from 256 good 8 (drop 8 t)) (Err (BadRecord 0))
 
 -- "in number order": the fields at the front of what is left of a tape, up to the first record that is none or not of its size
 unfoldable pub fields_from : ℕ → List ℕ → List Field

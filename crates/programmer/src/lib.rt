@@ -10,6 +10,6 @@ mod turn;
 mod wish;
 
 pub use count::Progress;
-pub use run::{Asked, Programmer, Started};
+pub use run::{Programmer, StartRefusal};
 pub use step::{Standing, Step, Why};
-pub use wish::{Checked, check};
+pub use wish::{TapeFault, check};

@@ -4,36 +4,26 @@ ghost use Rattle.meaning.specs.Bytes.{both};
 ghost use Rattle.meaning.specs.Fields.{writable};
 ghost use Rattle.programmer.specs.Wishes.{wish_of};
 ghost use Rattle.programmer.specs.Wishes as wishes;
-ghost use Rattle.programmer.specs.Running.{reachable, is_read, fails_by, can_stand, is_possible};
+ghost use Rattle.programmer.specs.Running.{reachable, fails_by, can_stand, is_possible};
 
 use crate::run::Programmer;
 use crate::step::{Standing, Step, Why};
-use crate::wish::{Wanted, find};
+use crate::wish::find;
 
+#[tactic(auto, using(crate::proofs::Counting::wanted_found, crate::proofs::Counting::wanted_none))]
 fn is_wanted(tape: &[u8], field: u8) -> bool
     ensures { result ≡ ltb field (length (wish_of tape.now).fields) }
 {
-    match find(tape, field as usize) {
-        Wanted::Field {
-            status: _,
-            start: _,
-            count: _,
-        } => true,
-        Wanted::Nothing => false,
-    }
+    find(tape, usize::from(field)).is_some()
 }
 
 #[tactic(auto, using(crate::proofs::Counting::locked_found, crate::proofs::Counting::locked_none))]
 fn is_read_only(tape: &[u8], field: u8) -> bool
     ensures { result ≡ both (ltb field (length (wish_of tape.now).fields)) (not (writable (wishes.wanted (wish_of tape.now) field).status)) }
 {
-    match find(tape, field as usize) {
-        Wanted::Field {
-            status,
-            start: _,
-            count: _,
-        } => !wire::is_writable(status),
-        Wanted::Nothing => false,
+    match find(tape, usize::from(field)) {
+        Some(wanted) => !wire::is_writable(wanted.status),
+        None => false,
     }
 }
 
@@ -42,29 +32,11 @@ fn is_reachable(tape: &[u8], present: u32, step: Step) -> bool
 {
     match step {
         Step::Count => present == 0,
-        Step::Look { field } => (field as u32) < present,
-        Step::Remove { field, status: _ } => (field as u32) < present,
-        Step::Create { field } => is_wanted(tape, field),
-        Step::Store { field } => is_wanted(tape, field),
-        Step::Read { field } => is_wanted(tape, field),
+        Step::Look { field } | Step::Remove { field, .. } => u32::from(field) < present,
+        Step::Create { field } | Step::Store { field } | Step::Read { field } => {
+            is_wanted(tape, field)
+        }
         Step::Lock { field } => is_read_only(tape, field),
-    }
-}
-
-fn is_read(step: Step) -> bool
-    ensures { result ≡ is_read step }
-{
-    match step {
-        Step::Count => false,
-        Step::Look { field: _ } => false,
-        Step::Remove {
-            field: _,
-            status: _,
-        } => false,
-        Step::Create { field: _ } => false,
-        Step::Store { field: _ } => false,
-        Step::Read { field: _ } => true,
-        Step::Lock { field: _ } => false,
     }
 }
 
@@ -74,7 +46,7 @@ fn fails_by(step: Step, why: Why) -> bool
     match why {
         Why::Judgement(number) => number <= 6,
         Why::Error(_) => true,
-        Why::Differs => is_read(step),
+        Why::Differs => step.is_read(),
     }
 }
 
@@ -84,12 +56,7 @@ fn can_stand(tape: &[u8], present: u32, standing: Standing) -> bool
     match standing {
         Standing::At(step) => is_reachable(tape, present, step),
         Standing::Done => true,
-        Standing::Failed(step, why) => {
-            if !fails_by(step, why) {
-                return false;
-            }
-            is_reachable(tape, present, step)
-        }
+        Standing::Failed(step, why) => fails_by(step, why) && is_reachable(tape, present, step),
     }
 }
 
@@ -98,13 +65,8 @@ impl Programmer {
     pub fn is_possible(self, tape: &[u8]) -> bool
         ensures { result ≡ is_possible (wish_of tape.now) self }
     {
-        if !bench::address_ok(self.address) {
-            return false;
-        }
-        if 255 < self.present {
-            return false;
-        }
-        let standing = self.standing;
-        can_stand(tape, self.present, standing)
+        bench::address_ok(self.address)
+            && self.present <= 255
+            && can_stand(tape, self.present, self.standing)
     }
 }

@@ -9,34 +9,18 @@ ghost use Rattle.programmer.specs.Reading.{Wants};
 
 use crate::step::Step;
 use crate::wish::{Wanted, find};
-use bench::Written;
+use bench::Unwritten;
 
 // A wanted field, or status 00h and no bytes past the last.
-#[derive(Clone, Copy)]
-pub struct Piece {
-    pub status: u8,
-    pub start: usize,
-    pub count: usize,
-}
-
-#[tactic(auto, using(crate::proofs::Asking::wants_found))]
-pub fn wanted(tape: &[u8], field: u8) -> Piece
-    ensures { Wants (wish_of tape.now) tape.now field result }
+#[tactic(auto, using(crate::proofs::Asking::wants_found, crate::proofs::Asking::wants_none))]
+pub fn wanted(tape: &[u8], field: u8) -> Wanted<'_>
+    ensures { Wants (wish_of tape.now) field result }
 {
-    match find(tape, field as usize) {
-        Wanted::Field {
-            status,
-            start,
-            count,
-        } => Piece {
-            status,
-            start,
-            count,
-        },
-        Wanted::Nothing => Piece {
+    match find(tape, usize::from(field)) {
+        Some(wanted) => wanted,
+        None => Wanted {
             status: 0,
-            start: 0,
-            count: 0,
+            bytes: &tape[..0],
         },
     }
 }
@@ -46,7 +30,7 @@ pub fn wanted(tape: &[u8], field: u8) -> Piece
 fn code_for(tape: &[u8], status: u8) -> u8
     ensures { result ≡ code_for (wish_of tape.now) status }
 {
-    wire::byte_at(tape, 4 + wire::code_number(status) as usize)
+    wire::byte_at(tape, 4 + usize::from(wire::code_number(status)))
 }
 
 // "Read-only fields are created write-enabled".
@@ -61,7 +45,13 @@ fn enabled(status: u8) -> u8
 }
 
 // 4Dh.
-fn shape(address: u32, field: u8, status: u8, code: u8, buffer: &mut [u8]) -> Written
+fn shape(
+    address: u32,
+    field: u8,
+    status: u8,
+    code: u8,
+    buffer: &mut [u8],
+) -> Result<usize, Unwritten>
     ensures { written_of result buffer.new ≡ writes address 0x4D (field ∷ status ∷ code ∷ []) buffer.old }
 {
     let body = [field, status, code];
@@ -69,7 +59,7 @@ fn shape(address: u32, field: u8, status: u8, code: u8, buffer: &mut [u8]) -> Wr
 }
 
 // 4Ch.
-fn look(address: u32, field: u8, buffer: &mut [u8]) -> Written
+fn look(address: u32, field: u8, buffer: &mut [u8]) -> Result<usize, Unwritten>
     ensures { written_of result buffer.new ≡ writes address 0x4C (field ∷ []) buffer.old }
 {
     let body = [field];
@@ -77,38 +67,36 @@ fn look(address: u32, field: u8, buffer: &mut [u8]) -> Written
 }
 
 // 4Bh of a whole field.
-fn store(address: u32, tape: &[u8], field: u8, buffer: &mut [u8]) -> Written
+fn store(address: u32, tape: &[u8], field: u8, buffer: &mut [u8]) -> Result<usize, Unwritten>
     ensures { written_of result buffer.new ≡ writes address 0x4B (due (wish_of tape.now) (Step.Store field)).body buffer.old }
 {
-    let piece = wanted(tape, field);
-    let start = piece.start;
-    let count = piece.count;
-    let end = start + count;
+    let wanted = wanted(tape, field);
+    let count = wanted.bytes.len();
     let mut body = [0; 132];
     body[0] = field;
-    body[2] = (count % 256) as u8;
-    body[3] = code_for(tape, piece.status);
-    wire::fill(&tape[start..end], &mut body[4..]);
+    body[2] = count as u8;
+    body[3] = code_for(tape, wanted.status);
+    wire::fill(wanted.bytes, &mut body[4..]);
     let len = 4 + count;
     bench::write_request(address, 0x4B, &body[..len], buffer)
 }
 
 // 4Ah of a whole field.
-fn fetch(address: u32, tape: &[u8], field: u8, buffer: &mut [u8]) -> Written
+fn fetch(address: u32, tape: &[u8], field: u8, buffer: &mut [u8]) -> Result<usize, Unwritten>
     ensures { written_of result buffer.new ≡ writes address 0x4A (due (wish_of tape.now) (Step.Read field)).body buffer.old }
 {
-    let piece = wanted(tape, field);
-    let count = piece.count;
-    let body = [field, 0, (count % 256) as u8, code_for(tape, piece.status)];
+    let wanted = wanted(tape, field);
+    let count = wanted.bytes.len() as u8;
+    let body = [field, 0, count, code_for(tape, wanted.status)];
     bench::write_request(address, 0x4A, &body, buffer)
 }
 
 // R4 before R5, as the bench has them.
-pub fn ask(address: u32, tape: &[u8], step: Step, buffer: &mut [u8]) -> Written
+pub fn ask(address: u32, tape: &[u8], step: Step, buffer: &mut [u8]) -> Result<usize, Unwritten>
     ensures { written_of result buffer.new ≡ writes address (due (wish_of tape.now) step).command (due (wish_of tape.now) step).body buffer.old }
 {
     match step {
-        Step::Count => bench::write_request(address, 0x4E, &tape[..0], buffer),
+        Step::Count => bench::write_request(address, 0x4E, &[], buffer),
         Step::Look { field } => look(address, field, buffer),
         Step::Remove { field, status } => {
             shape(

@@ -1,140 +1,83 @@
 // The programmer, held by value (02, Req 04). The host sends and receives between `next` and `heard`.
-ghost use Rattle.std.specs.Prelude.{◌≡◌, max};
+ghost use Rattle.std.specs.Prelude.{◌≡◌};
 ghost use Rattle.programmer.specs.Wishes.{checked_tape, wish_of};
-ghost use Rattle.programmer.specs.Steps.{still_there};
-ghost use Rattle.programmer.specs.Running.{started_by, told_by, length_written, asked_of, asks, hears};
+ghost use Rattle.programmer.specs.Running.{started_by, asked_of, asks, hears};
+ghost use Rattle.programmer.specs.declared.run.StartRefusal.TheVariants.{Tape};
 
 use crate::request::ask;
 use crate::step::{Standing, Step};
 use crate::turn::on_verdict;
-use crate::wish::{Checked, check};
-use bench::Written;
+use crate::wish::{TapeFault, check};
+use bench::{Piece, Unwritten};
 use wire::codes::LONGEST_REQUEST;
 
 // The address is that of the board, 0 to 31, or 255 for broadcast; `present` is how many fields the board had, as far as it has told.
-#[derive(Clone, Copy)]
+#[derive(Clone, Copy, PartialEq, Eq, Debug)]
 pub struct Programmer {
     pub address: u32,
     pub present: u32,
     pub standing: Standing,
 }
 
-// "Refusals, in order: bad tape record; body not the field's size": the place of the record's first byte. Then R5, an address that the bench does not write.
-#[derive(Clone, Copy)]
-pub enum Started {
-    Ready(Programmer),
-    BadRecord { at: usize },
-    WrongSize { at: usize },
+// "Refusals, in order: bad tape record; body not the field's size": the tape's fault. Then R5, an address that the bench does not write.
+#[derive(Clone, Copy, PartialEq, Eq, Debug)]
+pub enum StartRefusal {
+    Tape(TapeFault),
     R5,
 }
 
-// The length of the request that fills the front of the buffer; or nothing is due any more; or the bench's refusal.
-#[derive(Clone, Copy)]
-pub enum Asked {
-    Request { len: usize },
-    Over,
-    R4,
-    R5,
-}
+impl From<TapeFault> for StartRefusal {
+    ghost from_gives = { λ fault refusal. refusal ≡ Tape fault };
 
-fn told(written: Written) -> Asked
-    ensures { result ≡ told_by written }
-{
-    match written {
-        Written::Request { len } => Asked::Request { len },
-        Written::R4 => Asked::R4,
-        Written::R5 => Asked::R5,
+    fn from(fault: TapeFault) -> StartRefusal {
+        StartRefusal::Tape(fault)
     }
-}
-
-fn length_written(written: Written) -> usize
-    ensures { result ≡ length_written written }
-{
-    match written {
-        Written::Request { len } => len,
-        Written::R4 => 0,
-        Written::R5 => 0,
-    }
-}
-
-// 4Ch and 4Dh name the last field that is still there.
-fn still_there(standing: Standing) -> u32
-    ensures { result ≡ still_there standing }
-{
-    let Standing::At(step) = standing else {
-        return 0;
-    };
-    match step {
-        Step::Count => 0,
-        Step::Look { field } => field as u32 + 1,
-        Step::Remove { field, status: _ } => field as u32 + 1,
-        Step::Create { field: _ } => 0,
-        Step::Store { field: _ } => 0,
-        Step::Read { field: _ } => 0,
-        Step::Lock { field: _ } => 0,
-    }
-}
-
-fn larger(a: u32, b: u32) -> u32
-    ensures { result ≡ max a b }
-{
-    if a < b {
-        return b;
-    }
-    a
 }
 
 impl Programmer {
-    pub fn start(address: u32, tape: &[u8]) -> Started
+    pub fn start(address: u32, tape: &[u8]) -> Result<Programmer, StartRefusal>
         ensures { result ≡ started_by address (checked_tape tape.now) }
     {
-        match check(tape) {
-            Checked::BadRecord { at } => Started::BadRecord { at },
-            Checked::WrongSize { at } => Started::WrongSize { at },
-            Checked::Good => {
-                if !bench::address_ok(address) {
-                    return Started::R5;
-                }
-                Started::Ready(Programmer {
-                    address,
-                    present: 0,
-                    standing: Standing::At(Step::Count),
-                })
-            }
+        check(tape)?;
+        if !bench::address_ok(address) {
+            return Err(StartRefusal::R5);
         }
+        Ok(Programmer {
+            address,
+            present: 0,
+            standing: Standing::At(Step::Count),
+        })
     }
 
-    // Writes the request that is due.
+    // Writes the request that is due, and tells its length; nothing, where nothing is due any more.
     #[tactic(auto, unfolding(crate::specs::Running::asks))]
-    pub fn next(self, tape: &[u8], buffer: &mut [u8]) -> Asked
+    pub fn next(self, tape: &[u8], buffer: &mut [u8]) -> Result<Option<usize>, Unwritten>
         ensures { asked_of result buffer.new ≡ asks self.address (wish_of tape.now) self.standing buffer.old }
     {
-        let standing = self.standing;
-        let Standing::At(step) = standing else {
-            return Asked::Over;
+        let Standing::At(step) = self.standing else {
+            return Ok(None);
         };
-        told(ask(self.address, tape, step, buffer))
+        let len = ask(self.address, tape, step, buffer)?;
+        Ok(Some(len))
     }
 
     // Takes the reply that came, empty for silence. The request is written anew, so that nobody's copy of it is trusted.
     pub fn heard(self, tape: &[u8], reply: &[u8]) -> Programmer
         ensures { result ≡ hears (wish_of tape.now) self reply.now }
     {
-        let standing = self.standing;
-        let Standing::At(step) = standing else {
+        let Standing::At(step) = self.standing else {
             return self;
         };
         let mut request = [0; LONGEST_REQUEST];
-        let len = length_written(ask(self.address, tape, step, &mut request));
+        let len = ask(self.address, tape, step, &mut request).unwrap_or(0);
         let asked = &request[..len];
-        let verdict = bench::judge(asked, reply);
-        let piece = verdict.piece(reply.len());
-        let from = piece.from;
-        let end = from + piece.count;
-        let next = on_verdict(tape, step, verdict, &reply[from..end]);
+        let judged = bench::judge(asked, reply);
+        let Piece { from, count } = Piece::of(judged, reply.len());
+        let end = from + count;
+        let next = on_verdict(tape, step, judged, &reply[from..end]);
         Programmer {
             address: self.address,
-            present: larger(self.present, still_there(next)),
+            present: self.present.max(next.still_there()),
             standing: next,
         }
     }

@@ -8,23 +8,17 @@ ghost use Rattle.programmer.specs.Steps as steps;
 
 use crate::request::wanted;
 use crate::step::{Standing, Step, Why};
-use crate::wish::{Wanted, find};
-use bench::Verdict;
+use crate::wish::find;
+use bench::{Refusal, Verdict};
 
 // The first i wanted fields are there: the next, or done.
-#[tactic(auto, using(crate::proofs::Asking::making_none))]
+#[tactic(auto, using(crate::proofs::Asking::making_found, crate::proofs::Asking::making_none))]
 fn making(tape: &[u8], i: usize) -> Standing
     ensures { result ≡ steps.making (wish_of tape.now) i }
 {
     match find(tape, i) {
-        Wanted::Field {
-            status: _,
-            start: _,
-            count: _,
-        } => Standing::At(Step::Create {
-            field: (i % 256) as u8,
-        }),
-        Wanted::Nothing => Standing::Done,
+        Some(_) => Standing::At(Step::Create { field: i as u8 }),
+        None => Standing::Done,
     }
 }
 
@@ -44,9 +38,8 @@ fn clearing(tape: &[u8], n: u8) -> Standing
 fn locking(tape: &[u8], field: u8) -> Standing
     ensures { result ≡ steps.locking (wish_of tape.now) field }
 {
-    let piece = wanted(tape, field);
-    if wire::is_writable(piece.status) {
-        return making(tape, field as usize + 1);
+    if wire::is_writable(wanted(tape, field).status) {
+        return making(tape, usize::from(field) + 1);
     }
     Standing::At(Step::Lock { field })
 }
@@ -55,10 +48,8 @@ fn locking(tape: &[u8], field: u8) -> Standing
 fn past_three(answer: &[u8]) -> &[u8]
     ensures { result.now ≡ drop 3 answer.now }
 {
-    if answer.len() < 3 {
-        return &answer[..0];
-    }
-    &answer[3..]
+    let from = answer.len().min(3);
+    &answer[from..]
 }
 
 // "read-back differs".
@@ -66,11 +57,8 @@ fn past_three(answer: &[u8]) -> &[u8]
 fn read_back(tape: &[u8], field: u8, answer: &[u8]) -> Standing
     ensures { result ≡ steps.onto (wish_of tape.now) (Step.Read field) answer.now }
 {
-    let piece = wanted(tape, field);
-    let start = piece.start;
-    let end = start + piece.count;
     let read = past_three(answer);
-    let stored = &tape[start..end];
+    let stored = wanted(tape, field).bytes;
     if !wire::same(read, stored) {
         return Standing::Failed(Step::Read { field }, Why::Differs);
     }
@@ -88,23 +76,30 @@ fn onto(tape: &[u8], step: Step, answer: &[u8]) -> Standing
             field,
             status: wire::byte_at(answer, 1),
         }),
-        Step::Remove { field, status: _ } => clearing(tape, field),
+        Step::Remove { field, .. } => clearing(tape, field),
         Step::Create { field } => Standing::At(Step::Store { field }),
         Step::Store { field } => Standing::At(Step::Read { field }),
         Step::Read { field } => read_back(tape, field, answer),
-        Step::Lock { field } => making(tape, field as usize + 1),
+        Step::Lock { field } => making(tape, usize::from(field) + 1),
     }
 }
 
 // "a warning does not stop the run"; "a failed judgement; an error code". `answer` is the data part that the bench handed back.
-pub fn on_verdict(tape: &[u8], step: Step, verdict: Verdict, answer: &[u8]) -> Standing
-    ensures { (v : meaning.Verdict) → verdict_of verdict ≡ without_data v → answer.now ≡ contents v → result ≡ steps.on_verdict (wish_of tape.now) step v }
+pub fn on_verdict(
+    tape: &[u8],
+    step: Step,
+    judged: Result<Verdict, Refusal>,
+    answer: &[u8],
+) -> Standing
+    ensures { (v : meaning.Verdict) → verdict_of judged ≡ without_data v → answer.now ≡ contents v → result ≡ steps.on_verdict (wish_of tape.now) step v }
 {
-    match verdict {
-        Verdict::Done => onto(tape, step, answer),
-        Verdict::DoneWithWarning => onto(tape, step, answer),
-        Verdict::Error(code) => Standing::Failed(step, Why::Error(code)),
-        Verdict::ErrorWithWarning(code) => Standing::Failed(step, Why::Error(code)),
-        Verdict::Refused(refusal) => Standing::Failed(step, Why::Judgement(refusal.number())),
+    match judged {
+        Err(refusal) => Standing::Failed(step, Why::Judgement(refusal.number())),
+        Ok(verdict) => match verdict {
+            Verdict::Done | Verdict::DoneWithWarning => onto(tape, step, answer),
+            Verdict::Error(code) | Verdict::ErrorWithWarning(code) => {
+                Standing::Failed(step, Why::Error(code))
+            }
+        },
     }
 }

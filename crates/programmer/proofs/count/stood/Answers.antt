@@ -10,5 +10,5 @@ returns c =
     let l = wish_of c.args.tape.now in
     let counted = c.count-counts.ensures in
     stood_as l c.args.present c.args.step _ _
-    (c.answered.ensures l (counted.before ∙ ap (λ (i : ℕ). requests_for (take i l.fields)) c.field_of.ensures))
+    (c.answered.ensures l (counted.before ∙ ap (λ (i : ℕ). requests_for (take i l.fields)) c.wanted_field.ensures))
     (all_as l c.args.present _ _ counted.all c.in_all.ensures)

@@ -23,7 +23,7 @@ pub returns-in-Create : goal.returns-in-Create
 unfolding due
 returns-in-Create c =
     writes-due _ _ _ _ _ _ _ _ c.in-Create.is c.shape-in-Create.ensures refl
-    (create-body _ _ _ _ _ _ c.wanted-status.ensures c.enabled.ensures c.code_for-in-Create.ensures)
+    (create-body _ _ _ _ _ c.wanted-status.ensures c.enabled.ensures c.code_for-in-Create.ensures)
 
 pub returns-in-Store : goal.returns-in-Store
 unfolding due
@@ -37,4 +37,4 @@ pub returns-in-Lock : goal.returns-in-Lock
 unfolding due
 returns-in-Lock c =
     writes-due _ _ _ _ _ _ _ _ c.in-Lock.is c.shape-in-Lock.ensures refl
-    (lock-body _ _ _ _ _ c.wanted-status-in-Lock.ensures c.code_for-in-Lock.ensures)
+    (lock-body _ _ _ _ c.wanted-status-in-Lock.ensures c.code_for-in-Lock.ensures)

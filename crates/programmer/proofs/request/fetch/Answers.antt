@@ -7,4 +7,4 @@ use Rattle.programmer.proofs.request.fetch.Goals as goal
 pub returns : goal.returns
 returns c =
     c.write_request.ensures
-    ∙ ap (λ (d : List ℕ). writes c.args.address 0x4A d c.args.buffer.now) (fetch_body _ _ _ _ c.wanted-piece.ensures _ c.code_for.ensures)
+    ∙ ap (λ (d : List ℕ). writes c.args.address 0x4A d c.args.buffer.now) (fetch_body _ _ _ c.wanted-wanted.ensures _ c.code_for.ensures)
