@@ -12,7 +12,7 @@ use Rattle.board.specs.declared.limits.Outcome.TheVariants.{R1, R2, R3, Still, O
 use Rattle.board.specs.declared.limits.Carried.{Carried}
 use Rattle.board.specs.declared.limits.Carried.TheVariants.{Nothing, Carries}
 use Rattle.board.specs.declared.limits.Stepped.{Stepped}
-use Rattle.board.specs.declared.faults.Oldest.{Oldest}
+use Rattle.state.specs.declared.faults.Oldest.{Oldest}
 
 abbrev pub state_of : Board → List ℕ → State
 state_of b kept = state_with b.state (line_of b.frame kept)
@@ -89,6 +89,6 @@ pub record Steps (p : Plate) (b : Board) (kept m w : List ℕ) (g : Call) (r : S
   pub refused : ((called_on p b kept m w g).refusal ≡ 0 → ⊥) → r.board ≡ b
 
 -- 01, row 50h, "oldest queued code, or 00h; removes it"
-pub record ReadsOldest (b : Board) (r : Oldest) : Type 0 where
+pub record ReadsOldest (b : Board) (r : Oldest Board) : Type 0 where
   pub code : (kept : List ℕ) → r.code ≡ arg (state_of b kept).queue 0
-  pub board : (kept : List ℕ) → state_of r.board kept ≡ with_queue (state_of b kept) (drop 1 (state_of b kept).queue)
+  pub board : (kept : List ℕ) → state_of r.rest kept ≡ with_queue (state_of b kept) (drop 1 (state_of b kept).queue)
