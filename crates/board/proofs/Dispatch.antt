@@ -15,8 +15,9 @@ use Rattle.meaning.specs.Commands as commands
 use Rattle.meaning.specs.Commands.{Command, c42, c43, c46, c47, c49, c4a, c4b, c4c, c4d, c4f, c50, c52, c53, c55, c56, unknown, command_of, asked, row, length_fits, error, choose, on_field}
 use Rattle.meaning.specs.Commands.{read_position, set_position, read_counter, step_counter, clear_counter, read_field, store_field, field_status, shape_field, memory_status, set_code, read_fault, read_label, reset, set_address, read_version, worked}
 use Rattle.meaning.proofs.Choices.{both_left, both_right, shaped_by}
-use Rattle.wire.specs.declared.answer.Answer.{Answer}
-use Rattle.wire.specs.Answers.{memory_after, state_after, Works}
+use Rattle.std.specs.Prelude.{Result}
+use Rattle.wire.specs.declared.codes.ErrorCode.{ErrorCode}
+use Rattle.wire.specs.Answers.{Answer, memory_after, state_after, Works}
 use Rattle.fields.specs.declared.seen.Survey.{Survey}
 use Rattle.fields.specs.Memory.{Sized, Lent, Saw, survey_of}
 use Rattle.fields.specs.Replies.{Asked, Looked, Tellable, Countable}
@@ -105,13 +106,28 @@ not-on_memory : (c : ℕ) → on_memory c ≡ false → (k : ℕ) → on_memory 
 not-on_memory c x k y = ne_eqb c k (λ e. false≢true (sym x ∙ ap on_memory e ∙ y))
 
 -- a command of the table that is on the state and none of the other nine tells label bytes
-pub last-alone : (c : ℕ) (d : List ℕ) → asked (command_of c) d ≡ true → on_memory c ≡ false → eqb c 0x42 ≡ false → eqb c 0x43 ≡ false → eqb c 0x46 ≡ false
-    → eqb c 0x47 ≡ false → eqb c 0x49 ≡ false → eqb c 0x4F ≡ false → eqb c 0x50 ≡ false → eqb c 0x53 ≡ false → eqb c 0x55 ≡ false
-    → either (eqb c 0x52) (eqb c 0x56) ≡ true
+pub last-alone : (c : ℕ) (d : List ℕ) → asked (command_of c) d ≡ true → on_memory c ≡ false → (c ≡ 0x42 → ⊥) → (c ≡ 0x43 → ⊥) → (c ≡ 0x46 → ⊥)
+    → (c ≡ 0x47 → ⊥) → (c ≡ 0x49 → ⊥) → (c ≡ 0x4F → ⊥) → (c ≡ 0x50 → ⊥) → (c ≡ 0x53 → ⊥) → (c ≡ 0x55 → ⊥) → either (eqb c 0x52) (eqb c 0x56) ≡ true
 unfolding command_of on_memory
 last-alone c d h x i j k l n o q u v =
     let y = not-on_memory c x in
-    go (eqb c 0x52) (eqb c 0x56) (rw (i, j, k, l, n, y 0x4A refl, y 0x4B refl, y 0x4C refl, y 0x4D refl, y 0x4E refl, o, q, u, v) at h)
+    go (eqb c 0x52) (eqb c 0x56)
+    (rw (
+      ne_eqb c 0x42 i,
+      ne_eqb c 0x43 j,
+      ne_eqb c 0x46 k,
+      ne_eqb c 0x47 l,
+      ne_eqb c 0x49 n,
+      y 0x4A refl,
+      y 0x4B refl,
+      y 0x4C refl,
+      y 0x4D refl,
+      y 0x4E refl,
+      ne_eqb c 0x4F o,
+      ne_eqb c 0x50 q,
+      ne_eqb c 0x53 u,
+      ne_eqb c 0x55 v,
+    ) at h)
   where
     go : (s t : Bool) → asked (pick s c52 (pick t c56 unknown)) d ≡ true → either s t ≡ true
     go true t e = refl
@@ -122,13 +138,10 @@ last-alone c d h x i j k l n o q u v =
 pub not_52 : (c : ℕ) → either (eqb c 0x52) (eqb c 0x56) ≡ true → (c ≡ 0x52 → ⊥) → c ≡ 0x56
 not_52 c h n = eqb-true c 0x56 (rw (ne_eqb c 0x52 n) at h)
 
--- the last of those on the memory
-pub last-on_memory : (c : ℕ) → on_memory c ≡ true → (c ≡ 0x4A → ⊥) → (c ≡ 0x4B → ⊥) → (c ≡ 0x4C → ⊥) → (c ≡ 0x4D → ⊥) → c ≡ 0x4E
+-- the rows on the memory by their numbers
+pub memory_rows : (c : ℕ) → on_memory c ≡ true → (0x4A ≤ c) × (c ≤ 0x4E)
 unfolding on_memory
-last-on_memory c e k l n o =
-    let low : 0x4A ≤ c = leb-true 0x4A c (both_left (leb 0x4A c) (leb c 0x4E) e) in
-    let high : c ≤ 0x4E = leb-true c 0x4E (both_right (leb 0x4A c) (leb c 0x4E) e) in
-    omega arith
+memory_rows c e = (leb-true 0x4A c (both_left (leb 0x4A c) (leb c 0x4E) e), leb-true c 0x4E (both_right (leb 0x4A c) (leb c 0x4E) e))
 
 -- what the rows on the state leave of the memory, and those on the fields of the state
 module _ (m : List ℕ) where
@@ -148,7 +161,7 @@ module _ (s : meaning.State) where
   stays e true a h = refl
   stays e false a h = h
 
-module _ (p : meaning.Plate) (s : State) {c : ℕ} (d m w : List ℕ) {r : Worked} {w' : List ℕ} where
+module _ (p : meaning.Plate) (s : State) {c : ℕ} (d m w : List ℕ) {r : Result Worked ErrorCode} {w' : List ℕ} where
   pub row_42 : c ≡ 0x42 → Answers c42 p s none m d w r w' → WorksOn (command_of c) p s d m w r m w'
   unfolding command_of worked read_position
   row_42 e h = rw e (record { row = h; memory = sym (keeps m _ _ _ refl) })

@@ -16,9 +16,9 @@ use Rattle.meaning.specs.Characters.{closed}
 use Rattle.meaning.specs.Frames.{command_byte, data_of, message, warned, still, outcome, leaves, work}
 use Rattle.meaning.proofs.Puts.{length-put}
 use Rattle.meaning.proofs.Limits as limits
-use Rattle.wire.specs.declared.answer.Answer.{Answer}
-use Rattle.wire.specs.declared.answer.Answer.TheVariants.{Refuse, Accept, Quiet}
-use Rattle.wire.specs.Answers.{told, data_in, memory_after, state_after}
+use Rattle.std.specs.Prelude.{Some, None, Result, Ok, Err}
+use Rattle.wire.specs.declared.codes.ErrorCode.{ErrorCode}
+use Rattle.wire.specs.Answers.{Answer, told, data_in, memory_after, state_after}
 use Rattle.wire.proofs.Laws.{seal_data}
 use Rattle.fields.proofs.Tight.{field-row_tight}
 use Rattle.line.specs.declared.plate.Plate.{Plate}
@@ -33,6 +33,7 @@ use Rattle.state.specs.declared.rows.Worked.{Worked}
 use Rattle.state.specs.declared.effects.Effect.{Effect}
 use Rattle.state.specs.declared.effects.Effect.TheVariants.{Nothing, Code, Counter, Address, Offset, Overflow, OldestRead, Emptied}
 use Rattle.state.specs.Effects.{Bounded, effect_on}
+use Rattle.state.specs.Rows.{answer_in, effect_in}
 use Rattle.board.specs.declared.closing.Closed.{Closed}
 use Rattle.state.specs.State.{state_with}
 use Rattle.state.proofs.Same.{same-state, row_tight}
@@ -84,7 +85,7 @@ left : (s : meaning.State) (c : ℕ) (m w : List ℕ) (a : commands.Answer) (t :
     → x ≡ told a → state_with t none ≡ state_after a s → m' ≡ memory_after a m → v ≡ data_in a w → Sends t c x v n w' → Left s c m w a t n m' w'
 unfolding outcome reply_of
 left s c m w (commands.refuse e) t x {n} {m'} {v} {w'} few wide i j k l h =
-    let y : Sends t c (Refuse e) w n w' = rw (i, l) at h in
+    let y : Sends t c (Err (record { byte = e })) w n w' = rw (i, l) at h in
     record {
       state = j;
       sent = y.count ∙ ap (λ (z : meaning.State). length (message z 0x50 (e ∷ []))) j;
@@ -92,7 +93,7 @@ left s c m w (commands.refuse e) t x {n} {m'} {v} {w'} few wide i j k l h =
       room = y.bytes ∙ ap (λ (z : meaning.State). put w 0 (message z 0x50 (e ∷ []))) j;
     }
 left s c m w (commands.accept d s' m'') t x {n} {m'} {v} {w'} few wide i j k l h =
-    let y : Sends t c (Accept (length d)) (put w 2 d) n w' = rw (i, l) at h in
+    let y : Sends t c (Ok (Some (length d))) (put w 2 d) n w' = rw (i, l) at h in
     record {
       state = j;
       sent = y.count ∙ ap (λ (z : meaning.State). length (message z c (part (put w 2 d) 2 (length d)))) j ∙ as_long s' c d w few wide;
@@ -100,7 +101,7 @@ left s c m w (commands.accept d s' m'') t x {n} {m'} {v} {w'} few wide i j k l h
       room = y.bytes ∙ ap (λ (z : meaning.State). put (put w 2 d) 0 (message z c (part (put w 2 d) 2 (length d)))) j ∙ as_put s' c d w few wide;
     }
 left s c m w (commands.quiet s' m'') t x {n} {m'} {v} {w'} few wide i j k l h =
-    let y : Sends t c Quiet w n w' = rw (i, l) at h in
+    let y : Sends t c (Ok None) w n w' = rw (i, l) at h in
     record { state = j; sent = y.count; memory = k; room = y.bytes }
 
 module _ (p : meaning.Plate) (s : State) (f : OpenFrame) (k m w : List ℕ) {own : ℕ} (o : own ≡ own_byte (state_with s none)) where
@@ -117,7 +118,7 @@ module _ (p : meaning.Plate) (s : State) (f : OpenFrame) (k m w : List ℕ) {own
   refused Short e q h = record { state = rw (worked_as e); sent = rw (worked_as e) h.count; memory = rw (worked_as e); room = rw (worked_as e) h.bytes }
   refused Elsewhere e q h = record { state = rw (worked_as e); sent = rw (worked_as e) h.count; memory = rw (worked_as e); room = rw (worked_as e) h.bytes }
   refused (Fault x) e q h =
-      let z : eqb x 0 ≡ false = some-fault own (frame_of f (take f.len k)) e in
+      let z : eqb x.byte 0 ≡ false = some-fault own (frame_of f (take f.len k)) e in
       record { state = rw (worked_as e); sent = rw (worked_as e) (rw z at h.count); memory = rw (worked_as e); room = rw (worked_as e) (rw z at h.bytes) }
   refused (Request c) e q h = absurd (false≢true (sym q))
 
@@ -134,7 +135,7 @@ data_length (commands.refuse e) w few wide = refl
 data_length (commands.accept d s m) w few wide = length-put w 2 d (omega arith)
 data_length (commands.quiet s m) w few wide = refl
 
-pub still-wide : (p : meaning.Plate) (s : State) (c : ℕ) (d m w : List ℕ) {r : Worked} {m' v : List ℕ} → longest_reply ≤ length w → WorksOn (command_of c) p s d m w r m' v → longest_reply ≤ length v
+pub still-wide : (p : meaning.Plate) (s : State) (c : ℕ) (d m w : List ℕ) {r : Result Worked ErrorCode} {m' v : List ℕ} → longest_reply ≤ length w → WorksOn (command_of c) p s d m w r m' v → longest_reply ≤ length v
 still-wide p s c d m w wide h =
     let q : meaning.State = state_with s none in
     rw (h.row.room, data_length (worked (command_of c) p q m d) w (limits.brief p q m d (command_of c)) wide) wide
@@ -152,9 +153,9 @@ module _ (p : meaning.Plate) (s : State) (c : ℕ) (d m w : List ℕ) where
         left (state_with s none) c m w a t x (limits.brief p (state_with s none) m d (command_of c)) wide i j k l h in
         record { state = y.state; sent = y.sent; memory = y.memory; room = y.room }
 
-    pub worked_served : (t : State) {e : Effect} → WorksOn (command_of c) p s d m w (record { effect = e; answer = x }) m' v → state_with t none ≡ effect_on e (state_with s none)
+    pub worked_served : (t : State) (r : Result Worked ErrorCode) → WorksOn (command_of c) p s d m w r m' v → x ≡ answer_in r → state_with t none ≡ effect_on (effect_in r) (state_with s none)
         → Sends t c x v n w' → Serves p s c d m w t n m' w'
-    worked_served t y e h = answered t y.row.answer (e ∙ y.row.state) y.memory y.row.room h
+    worked_served t r y i e h = answered t (i ∙ y.row.answer) (e ∙ y.row.state) y.memory y.row.room h
 
     pub told_served : Tells a (state_with s none) m w x m' v → Sends s c x v n w' → Serves p s c d m w s n m' w'
     told_served y h = answered s y.works.answer (sym y.state) y.works.memory y.works.room h
@@ -185,7 +186,7 @@ serves_tight p s c d m w t u x y =
       room = x.room ∙ sym y.room;
     }
 
-pub state-row_tight : (k : commands.Command) (p : meaning.Plate) (s : State) (d m w : List ℕ) (r t : Worked) (u v : List ℕ) → WorksOn k p s d m w r m u → WorksOn k p s d m w t m v
+pub state-row_tight : (k : commands.Command) (p : meaning.Plate) (s : State) (d m w : List ℕ) (r t : Result Worked ErrorCode) (u v : List ℕ) → WorksOn k p s d m w r m u → WorksOn k p s d m w t m v
     → (r ≡ t) × (u ≡ v)
 state-row_tight k p s d m w r t u v h i = row_tight k p s none m d w r t u v h.row i.row
 

@@ -31,7 +31,7 @@ use Rattle.std.proofs.Common.{Option, None, Some, Result, Ok, Err, IsOk}
 use Rattle.board.specs.Promises.{DoesStep, Within, SinceFresh, start, next}
 use Rattle.meaning.proofs.Choices.{told-true, true-told, pick_same}
 use Rattle.board.proofs.Bounding.{lends-poll}
-use Rattle.board.specs.declared.faults.Oldest.{Oldest}
+use Rattle.state.specs.declared.faults.Oldest.{Oldest}
 use Rattle.board.specs.Quick.{TakesIn}
 use Rattle.board.proofs.Stepping.{held_on, same_len, told-ok, unchanged}
 use Rattle.board.proofs.Quickening.{fits_told}
@@ -209,13 +209,13 @@ pub power_on_tight : (b x y : Board) → ((kept : List ℕ) → state_of x kept 
     → ((kept : List ℕ) → state_of y kept ≡ meaning.powered_on (state_of b kept)) → x ≡ y
 power_on_tight b x y = board_tight x y (λ kept. meaning.powered_on (state_of b kept))
 
-oldests : {c e : ℕ} {a b : Board} → c ≡ e → a ≡ b → ◌≡◌ {A = Oldest} (record { code = c; board = a }) (record { code = e; board = b })
+oldests : {c e : ℕ} {a b : Board} → c ≡ e → a ≡ b → ◌≡◌ {A = Oldest Board} (record { code = c; rest = a }) (record { code = e; rest = b })
 oldests i j = rw (i, j)
 
-pub read_tight : (b : Board) (x y : Oldest) → ReadsOldest b x → ReadsOldest b y → x ≡ y
+pub read_tight : (b : Board) (x y : Oldest Board) → ReadsOldest b x → ReadsOldest b y → x ≡ y
 read_tight b x y h i =
     oldests (h.code [] ∙ sym (i.code []))
-    (board_tight x.board y.board (λ kept. meaning.with_queue (state_of b kept) (drop 1 (state_of b kept).queue)) h.board i.board)
+    (board_tight x.rest y.rest (λ kept. meaning.with_queue (state_of b kept) (drop 1 (state_of b kept).queue)) h.board i.board)
 
 pub is_open_tight : (b : Board) (x y : Bool) → ((kept : List ℕ) → x ≡ (state_of b kept).line.begun) → ((kept : List ℕ) → y ≡ (state_of b kept).line.begun) → x ≡ y
 is_open_tight b x y h i = h [] ∙ sym (i [])

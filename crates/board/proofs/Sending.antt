@@ -9,8 +9,9 @@ use lib.ListN.{length, length-append, length-take, length-drop}
 use Rattle.meaning.specs.Bytes.{longest_reply, put, part}
 use Rattle.meaning.specs.State.{none, own_byte}
 use Rattle.meaning.specs.Frames.{sealed, message, warned}
-use Rattle.wire.specs.declared.answer.Answer.{Answer}
-use Rattle.wire.specs.declared.answer.Answer.TheVariants.{Refuse, Accept, Quiet}
+use Rattle.std.specs.Prelude.{Some, None, Ok, Err}
+use Rattle.wire.specs.declared.codes.ErrorCode.{ErrorCode}
+use Rattle.wire.specs.Answers.{Answer}
 use Rattle.state.specs.declared.state.State.{State}
 use Rattle.state.specs.Queue.{queue_of}
 use Rattle.state.specs.State.{state_with}
@@ -25,23 +26,23 @@ pub part_length : (w : List ℕ) (n : ℕ) → n ≤ 131 → longest_reply ≤ l
 unfolding part
 part_length w n few wide = simp (length-take, length-drop) (omega arith)
 
-pub brief_data : {x : Answer} {n : ℕ} → Brief x → x ≡ Accept n → n ≤ 131
+pub brief_data : {x : Answer} {n : ℕ} → Brief x → x ≡ Ok (Some n) → n ≤ 131
 brief_data h e = rw e at h
 
 pub enough_room : {n l : ℕ} → n ≤ 131 → longest_reply ≤ l → n + 3 ≤ l
 enough_room h k = omega arith
 
 module _ (s : State) (c : ℕ) (w : List ℕ) {x : Answer} where
-  pub error-sent : {own mark e : ℕ} {w' : List ℕ} → x ≡ Refuse e → own ≡ own_byte (state_with s none) → mark ≡ warned 0x50 (queue_of s.faults)
-      → w' ≡ put w 0 (sealed (own ∷ mark ∷ e ∷ [])) → Sends s c x w 4 w'
+  pub error-sent : {own mark : ℕ} {e : ErrorCode} {w' : List ℕ} → x ≡ Err e → own ≡ own_byte (state_with s none) → mark ≡ warned 0x50 (queue_of s.faults)
+      → w' ≡ put w 0 (sealed (own ∷ mark ∷ e.byte ∷ [])) → Sends s c x w 4 w'
   unfolding reply_of message
   error-sent {e = e} q o k h =
       record {
-        count = rw q (sym (sealed-length (own_byte (state_with s none)) (warned 0x50 (queue_of s.faults)) (e ∷ [])));
+        count = rw q (sym (sealed-length (own_byte (state_with s none)) (warned 0x50 (queue_of s.faults)) (e.byte ∷ [])));
         bytes = rw (q, ← o, ← k) h;
       }
 
-  pub data_sent : {own mark n : ℕ} {w' : List ℕ} → x ≡ Accept n → n ≤ 131 → longest_reply ≤ length w → own ≡ own_byte (state_with s none)
+  pub data_sent : {own mark n : ℕ} {w' : List ℕ} → x ≡ Ok (Some n) → n ≤ 131 → longest_reply ≤ length w → own ≡ own_byte (state_with s none)
       → mark ≡ warned c (queue_of s.faults) → w' ≡ put w 0 (sealed (own ∷ mark ∷ part w 2 n)) → Sends s c x w (n + 3) w'
   unfolding reply_of message
   data_sent {n = n} q few wide o k h =
@@ -51,12 +52,12 @@ module _ (s : State) (c : ℕ) (w : List ℕ) {x : Answer} where
         bytes = rw (q, ← o, ← k) h;
       }
 
-  pub none-sent : x ≡ Quiet → Sends s c x w 0 w
+  pub none-sent : x ≡ Ok None → Sends s c x w 0 w
   unfolding reply_of
   none-sent q = record { count = rw q; bytes = rw q (put-nothing w 0) }
 
 -- an error code by itself, and silence
-pub fault-sent : (s : State) (w : List ℕ) {e n : ℕ} {w' : List ℕ} → eqb e 0 ≡ false → Sends s 0x50 (Refuse e) w n w' → Refused s e w n w'
+pub fault-sent : (s : State) (w : List ℕ) {e n : ℕ} {w' : List ℕ} → eqb e 0 ≡ false → Sends s 0x50 (Err (record { byte = e })) w n w' → Refused s e w n w'
 unfolding fault_reply reply_of
 fault-sent s w q h = record { count = rw q h.count; bytes = rw q h.bytes }
 

@@ -11,7 +11,7 @@ use Rattle.board.specs.declared.limits.Board.{Board}
 use Rattle.board.specs.declared.calls.Refusal.{Refusal}
 use Rattle.board.specs.declared.calls.Refusal.TheVariants.{R1, R2, R3}
 use Rattle.board.specs.declared.calls.Stepped.{Stepped}
-use Rattle.board.specs.declared.faults.Oldest.{Oldest}
+use Rattle.state.specs.declared.faults.Oldest.{Oldest}
 
 abbrev pub state_of : Board → List ℕ → State
 state_of b kept = state_with b.state (line_of b.frame kept)
@@ -92,6 +92,6 @@ pub record Steps (p : Plate) (b : Board) (kept m w : List ℕ) (g : Call) (r : R
   pub few : (called_on p b kept m w g).refusal ≡ 0 → (board_after b r).frame.len ≤ longest_request
 
 -- 01, row 50h, "oldest queued code, or 00h; removes it"
-pub record ReadsOldest (b : Board) (r : Oldest) : Type 0 where
+pub record ReadsOldest (b : Board) (r : Oldest Board) : Type 0 where
   pub code : (kept : List ℕ) → r.code ≡ arg (state_of b kept).queue 0
-  pub board : (kept : List ℕ) → state_of r.board kept ≡ with_queue (state_of b kept) (drop 1 (state_of b kept).queue)
+  pub board : (kept : List ℕ) → state_of r.rest kept ≡ with_queue (state_of b kept) (drop 1 (state_of b kept).queue)

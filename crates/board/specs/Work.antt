@@ -1,5 +1,5 @@
 -- A frame is closed: what its work, its reply and its close ask and leave (01, "Characters become frames"). Assumes nothing.
-use Rattle.std.specs.Prelude.{ℕ, ◌≤◌, ◌≡◌, Bool, true, false, List, [], ◌∷◌, eqb, leb, length}
+use Rattle.std.specs.Prelude.{ℕ, ◌≤◌, ◌≡◌, Bool, true, false, List, [], ◌∷◌, Some, None, Result, Ok, Err, eqb, leb, length}
 use Rattle.meaning.specs.Bytes.{pick, both, either, longest_reply, part, put}
 use Rattle.meaning.specs.State as meaning
 use Rattle.meaning.specs.State.{label_length, last_address, none, last_count, plate_ok}
@@ -8,9 +8,8 @@ use Rattle.meaning.specs.Commands.{Command, command_of, asked, worked}
 use Rattle.meaning.specs.Commands as commands
 use Rattle.meaning.specs.Characters.{closed}
 use Rattle.meaning.specs.Frames.{message, outcome, work}
-use Rattle.wire.specs.declared.answer.Answer.{Answer}
-use Rattle.wire.specs.declared.answer.Answer.TheVariants.{Refuse, Accept, Quiet}
-use Rattle.wire.specs.Answers.{memory_after, state_after, Works}
+use Rattle.wire.specs.declared.codes.ErrorCode.{ErrorCode}
+use Rattle.wire.specs.Answers.{Answer, memory_after, state_after, Works}
 use Rattle.line.specs.declared.plate.Plate.{Plate}
 use Rattle.line.specs.declared.characters.OpenFrame.{OpenFrame}
 use Rattle.line.specs.Line.{plate_of, line_of, Fits}
@@ -39,7 +38,7 @@ pub record Workable (p : Plate) (label : List ℕ) (s : State) (c : ℕ) (d m w 
   pub fits : asked (command_of c) d ≡ true
 
 -- the command k with the data d, worked on state, memory and room
-pub record WorksOn (k : Command) (p : meaning.Plate) (s : State) (d m w : List ℕ) (r : Worked) (m' w' : List ℕ) : Type 0 where
+pub record WorksOn (k : Command) (p : meaning.Plate) (s : State) (d m w : List ℕ) (r : Result Worked ErrorCode) (m' w' : List ℕ) : Type 0 where
   pub row : Answers k p s none m d w r w'
   pub memory : m' ≡ memory_after (worked k p (state_with s none) m d) m
 
@@ -78,9 +77,9 @@ pub record Changeable (n : ℕ) (label : List ℕ) (s : State) (c : ℕ) (d w : 
 
 -- 01, "An error reply is address, 50h, code, checksum"; other data stands from place 2 of the room on; the state is the one after the work
 unfoldable pub reply_of : meaning.State → ℕ → Answer → List ℕ → List ℕ
-reply_of s c (Refuse e) w = message s 0x50 (e ∷ [])
-reply_of s c (Accept n) w = message s c (part w 2 n)
-reply_of s c Quiet w = []
+reply_of s c (Err e) w = message s 0x50 (e.byte ∷ [])
+reply_of s c (Ok (Some n)) w = message s c (part w 2 n)
+reply_of s c (Ok None) w = []
 
 -- a reply may be written
 pub record Answerable (s : State) (w : List ℕ) : Type 0 where
@@ -97,9 +96,9 @@ pub record Refused (s : State) (e : ℕ) (w : List ℕ) (r : ℕ) (w' : List ℕ
 
 -- data that a reply has room for
 abbrev pub Brief : Answer → Type 0
-Brief (Refuse e) = Unit
-Brief (Accept n) = n ≤ 131
-Brief Quiet = Unit
+Brief (Err e) = Unit
+Brief (Ok (Some n)) = n ≤ 131
+Brief (Ok None) = Unit
 
 pub record Sendable (x : Answer) (w : List ℕ) : Type 0 where
   pub room : longest_reply ≤ length w

@@ -3,20 +3,29 @@ ghost use Rattle.std.specs.Prelude.{◌≡◌, false, ◌≤◌};
 ghost use Rattle.meaning.specs.State as meaning;
 ghost use Rattle.meaning.specs.State.{last_address};
 ghost use Rattle.line.specs.Line.{plate_of};
-ghost use Rattle.board.specs.Work.{on_memory, MemoryLent, Ready, Workable, Answerable, Refused, Serves, Closes};
+ghost use Rattle.board.specs.Work.{on_memory, MemoryLent, Ready, Workable, Answerable, Sendable, Sends, Refused, Serves, Closes};
 
 use crate::reply::send;
 use crate::rows::{needs_memory, on_memory, on_state};
 use line::{Judgement, OpenFrame, Plate};
 use state::State;
 use wire::Answer;
-use wire::codes::ERROR_REPLY;
+use wire::codes::{ERROR_REPLY, ErrorCode};
 
 // The state after a frame is closed, and how many reply bytes stand at the room's front, 0 being silence.
 #[derive(Clone, Copy)]
 pub struct Closed {
     pub state: State,
     pub sent: u8,
+}
+
+// The reply of a board in that state, whose data stands at place 2 of the room on; its length comes back.
+fn reply_from(state: State, command: u8, answer: Answer, room: &mut [u8]) -> u8
+    requires { (state.address ≤ last_address) × (Sendable answer room.old) }
+    ensures { Sends state command answer room.old result room.new }
+{
+    let own = wire::own_byte(state.address);
+    send(own, state.faults.waits(), command, answer, room)
 }
 
 // A frame that is no request is answered by its error code; 00h is silence. The reply's length comes back.
@@ -27,14 +36,7 @@ pub fn refuse(state: State, code: u8, room: &mut [u8]) -> u8
     if code == 0 {
         return 0;
     }
-    let waiting = state.faults.waits();
-    send(
-        wire::own_byte(state.address),
-        waiting,
-        ERROR_REPLY,
-        Answer::Refuse(code),
-        room,
-    )
+    reply_from(state, ERROR_REPLY, Err(ErrorCode { byte: code }), room)
 }
 
 // A request that needs the memory, and leaves the state as it is.
@@ -49,16 +51,8 @@ fn ask(
     requires { (MemoryLent total state.codes command request.now memory.old room.old) × (state.address ≤ last_address) }
     ensures { (p : meaning.Plate) → p.total ≡ total → Serves p state command request.now memory.old room.old state result memory.new room.new }
 {
-    let codes = state.codes;
-    let answer = on_memory(total, &codes, command, request, memory, room);
-    let waiting = state.faults.waits();
-    send(
-        wire::own_byte(state.address),
-        waiting,
-        command,
-        answer,
-        room,
-    )
+    let answer = on_memory(total, &state.codes, command, request, memory, room);
+    reply_from(state, command, answer, room)
 }
 
 // Any other request; the memory is not touched.
@@ -74,13 +68,17 @@ fn order(
     requires { (Workable plate label.now state command request.now memory.now room.old) × (on_memory command ≡ false) }
     ensures { Serves (plate_of plate label.now) state command request.now memory.now room.old result.state result.sent memory.now room.new }
 {
-    let worked = on_state(plate.bits, label, state, command, request, room);
-    let effect = worked.effect;
-    let answer = worked.answer;
-    let next = state.after(effect);
-    let waiting = next.faults.waits();
-    let sent = send(wire::own_byte(next.address), waiting, command, answer, room);
-    Closed { state: next, sent }
+    match on_state(plate.bits, label, state, command, request, room) {
+        Ok(worked) => {
+            let next = state.after(worked.effect);
+            let sent = reply_from(next, command, Ok(worked.reply), room);
+            Closed { state: next, sent }
+        }
+        Err(error) => {
+            let sent = reply_from(state, command, Err(error), room);
+            Closed { state, sent }
+        }
+    }
 }
 
 fn serve(

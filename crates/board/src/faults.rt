@@ -5,13 +5,7 @@ ghost use Rattle.board.specs.Board.{state_of, ReadsOldest};
 
 use crate::limits::Board;
 use line::OpenFrame;
-
-// The oldest waiting code, or 00h, and the board without it.
-#[derive(Clone, Copy)]
-pub struct Oldest {
-    pub code: u8,
-    pub board: Board,
-}
+use state::Oldest;
 
 impl Board {
     // 01, "The host notes codes".
@@ -24,16 +18,15 @@ impl Board {
     }
 
     // 01, row 50h.
-    pub fn read(self) -> Oldest
+    pub fn read(self) -> Oldest<Board>
         ensures { ReadsOldest self result }
     {
         let frame = self.frame;
         let oldest = self.state.read();
-        let state = oldest.state;
-        let board = Board { state, frame };
+        let state = oldest.rest;
         Oldest {
             code: oldest.code,
-            board,
+            rest: Board { state, frame },
         }
     }
 

@@ -11,7 +11,6 @@ mod rows;
 
 pub use calls::{Refusal, Stepped, character, fault, fresh, measured, poll, power_on};
 pub use closing::{Closed, refuse};
-pub use faults::Oldest;
 pub use limits::{Board, refusal};
 pub use reply::send;
 pub use rows::{needs_memory, on_memory, on_state};

@@ -16,15 +16,15 @@ pub fn send(own: u8, waiting: bool, command: u8, answer: Answer, room: &mut [u8]
     ensures { (s : State) → own ≡ own_byte (state_with s none) → waiting ≡ waits (queue_of s.faults) → Sends s command answer room.old result room.new }
 {
     match answer {
-        Answer::Refuse(code) => {
-            let body = [code];
+        Err(error) => {
+            let body = [error.byte];
             wire::write(own, state::marked(ERROR_REPLY, waiting), &body, room);
             4
         }
-        Answer::Accept(n) => {
-            wire::seal(own, state::marked(command, waiting), n as usize, room);
+        Ok(Some(n)) => {
+            wire::seal(own, state::marked(command, waiting), usize::from(n), room);
             n + 3
         }
-        Answer::Quiet => 0,
+        Ok(None) => 0,
     }
 }

@@ -7,15 +7,14 @@ ghost use Rattle.board.specs.Work.{MemoryLent, LabelLent, Changeable, WorksOn, o
 
 use state::{State, Worked};
 use wire::Answer;
+use wire::codes::ErrorCode;
 
 // 01, rows 4Ah to 4Eh.
+#[tactic(auto, unfolding(crate::specs::Work::on_memory))]
 pub fn needs_memory(command: u8) -> bool
     ensures { result ≡ on_memory command }
 {
-    if command < 0x4A {
-        return false;
-    }
-    command <= 0x4E
+    matches!(command, 0x4A..=0x4E)
 }
 
 // The rows on the lent memory, which leave the state as it is. `request` is the data part, of the length that its row wants. The status table is
@@ -33,23 +32,17 @@ pub fn on_memory(
         → Tells (worked (command_of command) p s memory.old request.now) s memory.old room.old result memory.new room.new }
 {
     let seen = fields::survey(memory, total, wire::byte_at(request, 0));
-    if command == 0x4A {
-        return fields::read_field(seen, memory, codes, request, room);
+    match command {
+        0x4A => fields::read_field(seen, memory, codes, request, room),
+        0x4B => fields::store_field(seen, memory, codes, request, room),
+        0x4C => fields::field_status(seen, request, room),
+        0x4D => fields::shape_field(seen, memory, codes, request, room),
+        _ => fields::memory_status(seen, room),
     }
-    if command == 0x4B {
-        return fields::store_field(seen, memory, codes, request, room);
-    }
-    if command == 0x4C {
-        return fields::field_status(seen, request, room);
-    }
-    if command == 0x4D {
-        return fields::shape_field(seen, memory, codes, request, room);
-    }
-    fields::memory_status(seen, room)
 }
 
 // 52h and 56h.
-fn on_label(label: &[u8], command: u8, room: &mut [u8]) -> Worked
+fn on_label(label: &[u8], command: u8, room: &mut [u8]) -> Result<Worked, ErrorCode>
     requires { LabelLent label.now command room.old }
     ensures { (p : meaning.Plate) (s : State) (d m : List ℕ) → p.label ≡ label.now → WorksOn (command_of command) p s d m room.old result m room.new }
 {
@@ -67,36 +60,20 @@ pub fn on_state(
     command: u8,
     request: &[u8],
     room: &mut [u8],
-) -> Worked
+) -> Result<Worked, ErrorCode>
     requires { Changeable bits label.now state command request.now room.old }
     ensures { (p : meaning.Plate) (m : List ℕ) → p.bits ≡ bits → p.label ≡ label.now → WorksOn (command_of command) p state request.now m room.old result m room.new }
 {
-    if command == 0x42 {
-        return state::read_position(bits, state, room);
+    match command {
+        0x42 => state::read_position(bits, state, room),
+        0x43 => state::set_position(bits, state, request),
+        0x46 => state::read_counter(state, room),
+        0x47 => state::step_counter(state),
+        0x49 => state::clear_counter(state, request),
+        0x4F => state::set_code(state, request, room),
+        0x50 => state::read_fault(state, room),
+        0x53 => state::reset(state),
+        0x55 => state::set_address(state, request),
+        _ => on_label(label, command, room),
     }
-    if command == 0x43 {
-        return state::set_position(bits, state, request);
-    }
-    if command == 0x46 {
-        return state::read_counter(state, room);
-    }
-    if command == 0x47 {
-        return state::step_counter(state);
-    }
-    if command == 0x49 {
-        return state::clear_counter(state, request);
-    }
-    if command == 0x4F {
-        return state::set_code(state, request, room);
-    }
-    if command == 0x50 {
-        return state::read_fault(state, room);
-    }
-    if command == 0x53 {
-        return state::reset(state);
-    }
-    if command == 0x55 {
-        return state::set_address(state, request);
-    }
-    on_label(label, command, room)
 }

@@ -26,9 +26,11 @@ use Rattle.line.specs.declared.judge.Judgement.{Judgement}
 use Rattle.line.specs.declared.judge.Judgement.TheVariants.{Request}
 use Rattle.line.specs.Judge.{judgement_of, code_to_answer}
 use Rattle.line.proofs.Judging.{asking}
-use Rattle.wire.specs.declared.answer.Answer.{Answer}
+use Rattle.std.specs.Prelude.{Ok, Err}
+use Rattle.wire.specs.declared.codes.ErrorCode.{ErrorCode}
 use Rattle.state.specs.declared.state.State.{State}
-use Rattle.state.specs.declared.effects.Effect.{Effect}
+use Rattle.state.specs.declared.rows.Worked.{Worked}
+use Rattle.state.specs.Effects.{effect_on}
 use Rattle.state.specs.State.{state_with}
 use Rattle.board.specs.declared.closing.Closed.{Closed}
 use Rattle.board.specs.Work.{Ready, Answerable, WorksOn, Sends, Refused, Serves, Closes}
@@ -172,14 +174,20 @@ codes-lent core e = four-first core (omega (arith, (good core e).all))
 pub four-lent : (core : List ℕ) → is_core core ≡ true → length (take 4 core) ≡ 4
 four-lent core e = length-take-le 4 core (omega (arith, (good core e).all))
 
--- a request that leaves the state, and one that changes it
+-- a request that leaves the state, one that changes it, and one that is refused
 module _ (p : Plate) (c : ℕ) (d core m w : List ℕ) {r : ℕ} {w' : List ℕ} where
   pub asked_in : {m' : List ℕ} → is_core core ≡ true → ((i : ℕ) → arg core i < 256) → Serves p (state_in core) c d m w (state_in core) r m' w' → ServedIn p c d core m w r core m' w'
   asked_in e small h = record { serves = h; state = state-said core e small }
 
-  pub ordered_in : {e : Effect} {x : Answer} {core' v : List ℕ} → longest_reply ≤ length w → WorksOn (command_of c) p (state_in core) d m w (record { effect = e; answer = x }) m v
-      → PutsEffect e core core' → Sends (state_in core') c x v r w' → ServedIn p c d core m w r core' m w'
-  ordered_in {core' = core'} wide h q y = record { serves = worked_served p (state_in core) c d m w wide (state_in core') h (q.holds none) y; state = q.bytes }
+  pub ordered_in : {x : Worked} {core' v : List ℕ} → longest_reply ≤ length w → WorksOn (command_of c) p (state_in core) d m w (Ok x) m v
+      → PutsEffect x.effect core core' → Sends (state_in core') c (Ok x.reply) v r w' → ServedIn p c d core m w r core' m w'
+  ordered_in {x = x} {core' = core'} wide h q y =
+      record { serves = worked_served p (state_in core) c d m w wide (state_in core') (Ok x) h refl (q.holds none) y; state = q.bytes }
+
+  pub barred_in : {e : ErrorCode} {v : List ℕ} → is_core core ≡ true → ((i : ℕ) → arg core i < 256) → longest_reply ≤ length w → WorksOn (command_of c) p (state_in core) d m w (Err e) m v
+      → Sends (state_in core) c (Err e) v r w' → ServedIn p c d core m w r core m w'
+  unfolding effect_on
+  barred_in {e = e} k small wide h y = asked_in k small (worked_served p (state_in core) c d m w wide (state_in core) (Err e) h refl refl y)
 
 -- a frame whose close leaves the state
 pub still_in : (p : Plate) (core m w : List ℕ) {f : OpenFrame} {r : ℕ} {m' w' : List ℕ} → f ≡ frame_in core → is_core core ≡ true → ((i : ℕ) → arg core i < 256)

@@ -100,12 +100,14 @@ fn served(image: &mut [u8], command: u8, len: usize, memory: &mut [u8], room: &m
     let label = &image[LABEL..CORE];
     let state = image::state_in(core);
     let request = wire::data_part(&core[KEPT..KEPT + len]);
-    let worked = board::on_state(plate.bits, label, state, command, request, room);
-    let effect = worked.effect;
-    let answer = worked.answer;
-    image::put_effect(effect, &mut image[CORE..LENGTH]);
-    let after = &image[CORE..LENGTH];
-    board::send(own(after), waits(after), command, answer, room)
+    match board::on_state(plate.bits, label, state, command, request, room) {
+        Ok(worked) => {
+            image::put_effect(worked.effect, &mut image[CORE..LENGTH]);
+            let after = &image[CORE..LENGTH];
+            board::send(own(after), waits(after), command, Ok(worked.reply), room)
+        }
+        Err(error) => board::send(own(core), waits(core), command, Err(error), room),
+    }
 }
 
 // The open frame, judged, worked and answered. The number is the reply's length.

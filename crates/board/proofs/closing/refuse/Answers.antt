@@ -1,5 +1,4 @@
 -- What is left to show of `board::closing::refuse`.
-use Rattle.std.proofs.Common.{refl}
 use borrow.Author.Tests.{eq-eqb, ne_eqb}
 use Rattle.board.proofs.Sending.{fault-sent, fault-silent}
 use Rattle.board.proofs.closing.refuse.Goals as goal
@@ -8,4 +7,4 @@ pub returns-then-code-eq0 : goal.returns-then-code-eq0
 returns-then-code-eq0 c = fault-silent _ _ (eq-eqb _ _ c.if-code-eq0.true)
 
 pub returns : goal.returns
-returns c = fault-sent _ _ (ne_eqb _ _ c.if-code-eq0.false) (c.send.ensures _ (c.own_byte.ensures _ refl) c.waits-waiting.ensures)
+returns c = fault-sent _ _ (ne_eqb _ _ c.if-code-eq0.false) c.reply_from.ensures

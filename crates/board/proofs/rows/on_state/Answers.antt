@@ -1,53 +1,51 @@
 -- What is left to show of `board::rows::on_state`.
-use borrow.Author.Tests.{ne_eqb}
+use Rattle.std.proofs.Common.{arith}
 use Rattle.board.proofs.Dispatch.{two, five, three, row_42, row_43, row_46, row_47, row_49, row_4f, row_50, row_53, row_55, last-alone}
 use Rattle.board.proofs.rows.on_state.Goals as goal
 
-pub returns-then-command-eq66 : goal.returns-then-command-eq66
-returns-then-command-eq66 c = λ p m e x. row_42 p _ _ m _ c.if-command-eq66.true (c.read_position.ensures p _ m _ e)
+pub returns-in-66 : goal.returns-in-66
+returns-in-66 c = λ p m e x. row_42 p _ _ m _ c.in-66.is (c.read_position.ensures p _ m _ e)
 
 pub set_position-requires : goal.set_position-requires
-set_position-requires c = (c.requires.bits, five _ _ c.requires.fits c.if-command-eq67.true)
+set_position-requires c = (c.requires.bits, five _ _ c.requires.fits c.in-67.is)
 
-pub returns-then-command-eq67 : goal.returns-then-command-eq67
-returns-then-command-eq67 c = λ p m e x. row_43 p _ _ m _ c.if-command-eq67.true (c.set_position.ensures p _ m _ e)
+pub returns-in-67 : goal.returns-in-67
+returns-in-67 c = λ p m e x. row_43 p _ _ m _ c.in-67.is (c.set_position.ensures p _ m _ e)
 
-pub returns-then-command-eq70 : goal.returns-then-command-eq70
-returns-then-command-eq70 c = λ p m e x. row_46 p _ _ m _ c.if-command-eq70.true (c.read_counter.ensures p _ m _)
+pub returns-in-70 : goal.returns-in-70
+returns-in-70 c = λ p m e x. row_46 p _ _ m _ c.in-70.is (c.read_counter.ensures p _ m _)
 
-pub returns-then-command-eq71 : goal.returns-then-command-eq71
-returns-then-command-eq71 c = λ p m e x. row_47 p _ _ m _ c.if-command-eq71.true (c.step_counter.ensures p _ m _ _)
+pub returns-in-71 : goal.returns-in-71
+returns-in-71 c = λ p m e x. row_47 p _ _ m _ c.in-71.is (c.step_counter.ensures p _ m _ _)
 
-pub returns-then-command-eq73 : goal.returns-then-command-eq73
-returns-then-command-eq73 c = λ p m e x. row_49 p _ _ m _ c.if-command-eq73.true (c.clear_counter.ensures p _ m _)
+pub returns-in-73 : goal.returns-in-73
+returns-in-73 c = λ p m e x. row_49 p _ _ m _ c.in-73.is (c.clear_counter.ensures p _ m _)
 
 pub set_code-requires : goal.set_code-requires
-set_code-requires c = (three _ _ c.requires.fits c.if-command-eq79.true, c.requires.room)
+set_code-requires c = (three _ _ c.requires.fits c.in-79.is, c.requires.room)
 
-pub returns-then-command-eq79 : goal.returns-then-command-eq79
-returns-then-command-eq79 c = λ p m e x. row_4f p _ _ m _ c.if-command-eq79.true (c.set_code.ensures p _ m)
+pub returns-in-79 : goal.returns-in-79
+returns-in-79 c = λ p m e x. row_4f p _ _ m _ c.in-79.is (c.set_code.ensures p _ m)
 
-pub returns-then-command-eq80 : goal.returns-then-command-eq80
-returns-then-command-eq80 c = λ p m e x. row_50 p _ _ m _ c.if-command-eq80.true (c.read_fault.ensures p _ m _)
+pub returns-in-80 : goal.returns-in-80
+returns-in-80 c = λ p m e x. row_50 p _ _ m _ c.in-80.is (c.read_fault.ensures p _ m _)
 
-pub returns-then-command-eq83 : goal.returns-then-command-eq83
-returns-then-command-eq83 c = λ p m e x. row_53 p _ _ m _ c.if-command-eq83.true (c.reset.ensures p _ m _ _)
+pub returns-in-83 : goal.returns-in-83
+returns-in-83 c = λ p m e x. row_53 p _ _ m _ c.in-83.is (c.reset.ensures p _ m _ _)
 
 pub set_address-requires : goal.set_address-requires
-set_address-requires c = two _ _ c.requires.fits c.if-command-eq85.true
+set_address-requires c = two _ _ c.requires.fits c.in-85.is
 
-pub returns-then-command-eq85 : goal.returns-then-command-eq85
-returns-then-command-eq85 c = λ p m e x. row_55 p _ _ m _ c.if-command-eq85.true (c.set_address.ensures p _ m _)
+pub returns-in-85 : goal.returns-in-85
+returns-in-85 c = λ p m e x. row_55 p _ _ m _ c.in-85.is (c.set_address.ensures p _ m _)
 
 pub on_label-requires : goal.on_label-requires
 on_label-requires c = record {
   all = c.requires.label_bytes;
   room = c.requires.room;
-  tells = last-alone _ _ c.requires.fits c.requires.alone (ne_eqb _ _ c.if-command-eq66.false) (ne_eqb _ _ c.if-command-eq67.false)
-      (ne_eqb _ _ c.if-command-eq70.false) (ne_eqb _ _ c.if-command-eq71.false) (ne_eqb _ _ c.if-command-eq73.false)
-      (ne_eqb _ _ c.if-command-eq79.false) (ne_eqb _ _ c.if-command-eq80.false) (ne_eqb _ _ c.if-command-eq83.false)
-      (ne_eqb _ _ c.if-command-eq85.false);
+  tells = last-alone _ _ c.requires.fits c.requires.alone (λ e. omega arith) (λ e. omega arith) (λ e. omega arith) (λ e. omega arith) (λ e. omega arith)
+      (λ e. omega arith) (λ e. omega arith) (λ e. omega arith) (λ e. omega arith);
 }
 
-pub returns : goal.returns
-returns c = λ p m e x. c.on_label.ensures p _ _ m x
+pub returns-in_default : goal.returns-in_default
+returns-in_default c = λ p m e x. c.on_label.ensures p _ _ m x

@@ -1,4 +1,4 @@
--- What is left to show of `quicksetter::events::served`: first of a request that needs the memory, then of one that changes the state.
+-- What is left to show of `quicksetter::events::served`: first of a request that needs the memory, then of one that changes the state or is refused.
 use Rattle.std.proofs.Common.{rules, refl, sym, ◌∙◌, arith, take, drop, ℕ, ◌<◌}
 use Rattle.meaning.specs.Bytes.{arg}
 use Rattle.meaning.specs.State.{none}
@@ -9,7 +9,7 @@ use Rattle.image.proofs.Round.{good}
 use Rattle.board.proofs.Dispatch.{changeable, memory-lent}
 use Rattle.board.proofs.Endings.{sendable, still-wide, told_served}
 use Rattle.quicksetter.proofs.Heads.{ours-length, lent-small}
-use Rattle.quicksetter.proofs.Closing.{asked_in, ordered_in, codes-lent, four-lent}
+use Rattle.quicksetter.proofs.Closing.{asked_in, ordered_in, barred_in, codes-lent, four-lent}
 use Rattle.quicksetter.proofs.Serving.{effect-low, label-there, lent_servable, lent_again, served_still, served_anew}
 use Rattle.quicksetter.proofs.events.served.Goals as goal
 
@@ -54,8 +54,8 @@ slice_bounds-core-end-2 c = omega (arith, ours-length _ c.requires.ours)
 pub slice_bounds-label-end : goal.slice_bounds-label-end
 slice_bounds-label-end c = omega (arith, ours-length _ c.requires.ours)
 
-pub on_state-worked-requires : goal.on_state-worked-requires
-on_state-worked-requires c =
+pub on_state-requires : goal.on_state-requires
+on_state-requires c =
     let may = lent_servable _ c.args.image.now c.requires.ours c.plate_in-plate.ensures _ _ c.requires.core in
     rw (label-there c.args.image.now)
     (changeable c.plate_in-plate.result (label_in c.args.image.now) _ _ c.args.memory.now c.args.room.now
@@ -67,34 +67,50 @@ slice_bounds-put_effect-end c = omega (arith, ours-length _ c.requires.ours)
 pub put_effect-requires-clause-bounded : goal.put_effect-requires-clause-bounded
 put_effect-requires-clause-bounded c =
     let there = sym (label-there c.args.image.now) in
-    (c.on_state-worked.ensures (plate_of c.plate_in-plate.result (label_in c.args.image.now)) c.args.memory.now refl there).row.placed
+    (c.in-Ok.ensures (plate_of c.plate_in-plate.result (label_in c.args.image.now)) c.args.memory.now refl there).row.placed
 
 pub put_effect-requires-clause-holds_state : goal.put_effect-requires-clause-holds_state
 put_effect-requires-clause-holds_state c =
     let may = lent_servable _ c.args.image.now c.requires.ours c.plate_in-plate.ensures _ _ c.requires.core in
     record { all = (good _ may.bytes).all; lock = (good _ may.bytes).locked }
 
-pub own-requires-2 : goal.own-requires-2
-own-requires-2 c =
+pub own-requires-in-Ok : goal.own-requires-in-Ok
+own-requires-in-Ok c =
     let may = lent_servable _ c.args.image.now c.requires.ours c.plate_in-plate.ensures _ _ c.requires.core in
     let worked = rw (c.state_in-state.ensures, c.data_part-request-2.ensures.value) at
-    (c.on_state-worked.ensures (plate_of c.plate_in-plate.result (label_in c.args.image.now)) c.args.memory.now refl (sym (label-there c.args.image.now))) in
+    (c.in-Ok.ensures (plate_of c.plate_in-plate.result (label_in c.args.image.now)) c.args.memory.now refl (sym (label-there c.args.image.now))) in
     let low = effect-low c.put_effect.ensures worked.row.placed may.works.address in
     (search rules, rw (lent_again _ c.args.image.now c.requires.ours c.plate_in-plate.ensures may.bytes c.put_effect.ensures) low)
 
-pub send-requires-2 : goal.send-requires-2
-send-requires-2 c =
+pub send-requires-in-Ok : goal.send-requires-in-Ok
+send-requires-in-Ok c =
     let may = lent_servable _ c.args.image.now c.requires.ours c.plate_in-plate.ensures _ _ c.requires.core in
     let worked = rw (c.state_in-state.ensures, c.data_part-request-2.ensures.value) at
-    (c.on_state-worked.ensures (plate_of c.plate_in-plate.result (label_in c.args.image.now)) c.args.memory.now refl (sym (label-there c.args.image.now))) in
+    (c.in-Ok.ensures (plate_of c.plate_in-plate.result (label_in c.args.image.now)) c.args.memory.now refl (sym (label-there c.args.image.now))) in
     sendable _ _ _ _ _ worked.row.answer (still-wide (plate_of c.plate_in-plate.result (label_in c.args.image.now)) _ _ _ _ _ may.works.room worked)
 
-pub returns : goal.returns
-returns c =
+pub returns-in-Ok : goal.returns-in-Ok
+returns-in-Ok c =
     let may = lent_servable _ c.args.image.now c.requires.ours c.plate_in-plate.ensures _ _ c.requires.core in
     let worked = rw (c.state_in-state.ensures, c.data_part-request-2.ensures.value) at
-    (c.on_state-worked.ensures (plate_of c.plate_in-plate.result (label_in c.args.image.now)) c.args.memory.now refl (sym (label-there c.args.image.now))) in
+    (c.in-Ok.ensures (plate_of c.plate_in-plate.result (label_in c.args.image.now)) c.args.memory.now refl (sym (label-there c.args.image.now))) in
     let again = lent_again _ c.args.image.now c.requires.ours c.plate_in-plate.ensures may.bytes c.put_effect.ensures in
-    let sends = c.send-2.ensures _ (rw again at c.own-2.ensures) (rw again at c.waits-2.ensures) in
+    let sends = c.send-in-Ok.ensures _ (rw again at c.own-in-Ok.ensures) (rw again at c.waits-in-Ok.ensures) in
     served_anew _ c.args.image.now c.requires.ours c.plate_in-plate.ensures _ _ _ _
     (ordered_in (plate_of c.plate_in-plate.result (label_in c.args.image.now)) _ _ _ _ _ may.works.room worked c.put_effect.ensures sends)
+
+pub own-requires-in-Err : goal.own-requires-in-Err
+own-requires-in-Err c =
+    let may = lent_servable _ c.args.image.now c.requires.ours c.plate_in-plate.ensures _ _ c.requires.core in
+    (omega (arith, (good _ may.bytes).all), may.works.address)
+
+pub returns-in-Err : goal.returns-in-Err
+returns-in-Err c =
+    let may = lent_servable _ c.args.image.now c.requires.ours c.plate_in-plate.ensures _ _ c.requires.core in
+    let barred = rw (c.state_in-state.ensures, c.data_part-request-2.ensures.value) at
+    (c.in-Err.ensures (plate_of c.plate_in-plate.result (label_in c.args.image.now)) c.args.memory.now refl (sym (label-there c.args.image.now))) in
+    let sends = c.send-in-Err.ensures (state_in (take 165 (drop 47 c.args.image.now))) c.own-in-Err.ensures c.waits-in-Err.ensures in
+    let bytes : (i : ℕ) → arg c.args.image.now i < 256 = λ i. search rules in
+    let small = lent-small _ c.requires.ours bytes in
+    served_still _ c.args.image.now c.requires.ours c.plate_in-plate.ensures _ _ _ _
+    (barred_in (plate_of c.plate_in-plate.result (label_in c.args.image.now)) _ _ _ _ _ may.bytes small may.works.room barred sends)
