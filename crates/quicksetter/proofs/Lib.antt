@@ -4,6 +4,7 @@ mod Refusing
 mod Closing
 mod Noting
 mod Wholes
+mod Admitting
 mod Numbers
 mod Serving
 mod Heads

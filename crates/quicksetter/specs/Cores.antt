@@ -1,5 +1,5 @@
 -- What a call leaves of the core of an image, for the plate that its head told, and the steps on the way (01, "Named refusals"). Assumes nothing.
-use Rattle.std.specs.Prelude.{ℕ, ◌+◌, ◌-◌, ◌≤◌, ◌^◌, ◌≡◌, Bool, true, not, List, ◌++◌, eqb, leb, ltb, take, drop}
+use Rattle.std.specs.Prelude.{Result, Ok, Err, ℕ, ◌+◌, ◌-◌, ◌≤◌, ◌^◌, ◌≡◌, Bool, true, not, List, ◌++◌, eqb, leb, ltb, take, drop}
 use Rattle.meaning.specs.Bytes.{pick, both, either, longest_reply, arg}
 use Rattle.meaning.specs.State as meaning
 use Rattle.meaning.specs.Fields.{memory_length}
@@ -7,6 +7,8 @@ use Rattle.meaning.specs.Characters.{over}
 use Rattle.meaning.specs.Frames.{data_of}
 use Rattle.meaning.specs.Run.{Call, poll, Held, untouched, called}
 use Rattle.line.specs.declared.plate.Plate.{Plate}
+use Rattle.quicksetter.specs.declared.refusals.Refusal.{Refusal}
+use Rattle.quicksetter.specs.declared.refusals.Refusal.TheVariants.{R1, R2, R3}
 use Rattle.board.specs.Work.{Workable, Serves, Closes}
 use Rattle.image.specs.Image.{kept_at, core_length, number_at, count_at, is_ours, is_core, head_in, core_in, plate_of_head, label_in, state_in, frame_in, held_in, kept_in, core_of}
 use Rattle.image.specs.Writes.{PutsState}
@@ -46,6 +48,21 @@ pub record Unrefused (p : meaning.Plate) (core : List ℕ) (memory room : ℕ) :
   pub state : meaning.state_ok p (held_in core) ≡ true
   pub size : memory ≡ memory_length p.total
   pub wide : longest_reply ≤ room
+
+-- a refusal by its number
+abbrev pub number_of : Refusal → ℕ
+number_of R1 = 1
+number_of R2 = 2
+number_of R3 = 3
+
+-- .. of the tests' result, 0 for none
+abbrev pub refusal_told : Result Plate Refusal → ℕ
+refusal_told (Ok p) = 0
+refusal_told (Err e) = number_of e
+
+-- R1 to R3 of an image, 0 for none
+unfoldable pub image_refusal : List ℕ → ℕ → ℕ → ℕ
+image_refusal img memory room = pick (is_ours img) (refusal_in (plate_held img) (core_in img) memory room) 1
 
 -- the data of a kept request that ends before a place of the core
 abbrev pub data_to : ℕ → List ℕ → List ℕ

@@ -13,10 +13,10 @@ ghost use Rattle.image.specs.Image.{kept_at, core_length, state_in, held_in};
 ghost use Rattle.quicksetter.specs.Calls.{plate_held, CalledWithSleep};
 ghost use Rattle.quicksetter.specs.Cores.{possible, ImageUnrefused, ImageServable, ImageServed, ImageAnswered, ImageShuts, ImagePolls};
 
-use crate::given::{NO_FRAME_OPEN, REFUSED_ANSWER, answer_number};
+use crate::given::{NO_FRAME_OPEN, answer_number};
+use crate::refusals::admitted;
 use image::{ADDRESS, CODES, CORE, COUNTER, KEPT, LABEL, LENGTH, OFFSET, WAITING};
 use line::{Judgement, OpenFrame, Plate};
-use wire::codes::LONGEST_REPLY;
 
 // R1 of the plate and of the core, but for the waiting codes. What a host may get wrong comes first. A counter of three bytes is never too large.
 pub(crate) fn is_possible(core: &[u8], plate: Plate) -> bool
@@ -172,22 +172,10 @@ pub extern "C" fn qs_character(
 ) -> u64
     ensures { CalledWithSleep image.old memory.old room.old (run.character tick value (differ parity 0)) result image.new memory.new room.new }
 {
-    if !image::is_ours(image) {
-        return REFUSED_ANSWER + 1;
-    }
-    let plate = image::plate_in(image);
-    if !is_possible(&image[CORE..LENGTH], plate) {
-        return REFUSED_ANSWER + 1;
-    }
-    if !is_sound(&image[CORE..LENGTH]) {
-        return REFUSED_ANSWER + 1;
-    }
-    if memory.len() as u64 != plate.memory_length() {
-        return REFUSED_ANSWER + 2;
-    }
-    if room.len() < LONGEST_REPLY {
-        return REFUSED_ANSWER + 3;
-    }
+    let plate = match admitted(image, memory, room) {
+        Ok(plate) => plate,
+        Err(refusal) => return refusal.answer(),
+    };
     let full = plate.full_pause();
     let sent = polled(image, tick, full, memory, room);
     image::take_character(tick, value, is_fault(parity), &mut image[CORE..LENGTH]);
@@ -199,22 +187,10 @@ pub extern "C" fn qs_character(
 pub extern "C" fn qs_poll(image: &mut [u8], tick: u32, memory: &mut [u8], room: &mut [u8]) -> u64
     ensures { CalledWithSleep image.old memory.old room.old (run.poll tick) result image.new memory.new room.new }
 {
-    if !image::is_ours(image) {
-        return REFUSED_ANSWER + 1;
-    }
-    let plate = image::plate_in(image);
-    if !is_possible(&image[CORE..LENGTH], plate) {
-        return REFUSED_ANSWER + 1;
-    }
-    if !is_sound(&image[CORE..LENGTH]) {
-        return REFUSED_ANSWER + 1;
-    }
-    if memory.len() as u64 != plate.memory_length() {
-        return REFUSED_ANSWER + 2;
-    }
-    if room.len() < LONGEST_REPLY {
-        return REFUSED_ANSWER + 3;
-    }
+    let plate = match admitted(image, memory, room) {
+        Ok(plate) => plate,
+        Err(refusal) => return refusal.answer(),
+    };
     if !is_open(&image[CORE..LENGTH]) {
         return answer_number(NO_FRAME_OPEN, 0);
     }

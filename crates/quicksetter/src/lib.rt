@@ -4,5 +4,6 @@
 mod events;
 mod given;
 mod notes;
+mod refusals;
 mod replies;
 mod starts;

@@ -1,5 +1,4 @@
-// What a host tells besides characters and the time: a measured position, a fault code and power-on (01, "Faults"). Each writes what it changes. R1's
-// three tests stand in every entry: as a function of their own they are called and not inlined, 20 instructions more.
+// What a host tells besides characters and the time: a measured position, a fault code and power-on (01, "Faults"). Each writes what it changes.
 ghost use Rattle.std.specs.Prelude.{List, ℕ};
 ghost use Rattle.meaning.specs.Run as run;
 ghost use Rattle.state.specs.Queue.{no_faults};
@@ -8,8 +7,7 @@ ghost use Rattle.image.specs.Image.{state_in};
 ghost use Rattle.image.specs.Writes.{faults_set, HoldsState, PutsBoard};
 ghost use Rattle.quicksetter.specs.Calls.{Called};
 
-use crate::events::{is_possible, is_sound};
-use crate::given::REFUSED;
+use crate::refusals::sound_plate;
 use image::{CORE, LENGTH};
 use line::OpenFrame;
 use state::Faults;
@@ -27,15 +25,8 @@ fn power_on(core: &mut [u8])
 pub extern "C" fn qs_measured(image: &mut [u8], position: u32) -> usize
     ensures { (m w : List ℕ) → Called image.old m w (run.measured position) result image.new m w }
 {
-    if !image::is_ours(image) {
-        return REFUSED + 1;
-    }
-    let plate = image::plate_in(image);
-    if !is_possible(&image[CORE..LENGTH], plate) {
-        return REFUSED + 1;
-    }
-    if !is_sound(&image[CORE..LENGTH]) {
-        return REFUSED + 1;
+    if let Err(refusal) = sound_plate(image) {
+        return refusal.number();
     }
     image::put_measured(position, &mut image[CORE..LENGTH]);
     0
@@ -45,15 +36,8 @@ pub extern "C" fn qs_measured(image: &mut [u8], position: u32) -> usize
 pub extern "C" fn qs_fault(image: &mut [u8], code: u8) -> usize
     ensures { (m w : List ℕ) → Called image.old m w (run.fault code) result image.new m w }
 {
-    if !image::is_ours(image) {
-        return REFUSED + 1;
-    }
-    let plate = image::plate_in(image);
-    if !is_possible(&image[CORE..LENGTH], plate) {
-        return REFUSED + 1;
-    }
-    if !is_sound(&image[CORE..LENGTH]) {
-        return REFUSED + 1;
+    if let Err(refusal) = sound_plate(image) {
+        return refusal.number();
     }
     image::note(code, &mut image[CORE..LENGTH]);
     0
@@ -63,15 +47,8 @@ pub extern "C" fn qs_fault(image: &mut [u8], code: u8) -> usize
 pub extern "C" fn qs_power_on(image: &mut [u8]) -> usize
     ensures { (m w : List ℕ) → Called image.old m w run.power_on result image.new m w }
 {
-    if !image::is_ours(image) {
-        return REFUSED + 1;
-    }
-    let plate = image::plate_in(image);
-    if !is_possible(&image[CORE..LENGTH], plate) {
-        return REFUSED + 1;
-    }
-    if !is_sound(&image[CORE..LENGTH]) {
-        return REFUSED + 1;
+    if let Err(refusal) = sound_plate(image) {
+        return refusal.number();
     }
     power_on(&mut image[CORE..LENGTH]);
     0

@@ -1,49 +1,22 @@
--- What is left to show of `quicksetter::notes::qs_power_on`: R1's three tests, and then the call on the core that the image lends.
-use Rattle.std.proofs.Common.{sym, ◌∙◌, arith}
-use Rattle.image.specs.Image.{label_in}
-use Rattle.quicksetter.proofs.Heads.{ours-length, ours-label, not_ours, called-whole}
-use Rattle.quicksetter.proofs.Refusing.{lends-power_on, impossible, unsound, free-core}
-use Rattle.quicksetter.proofs.Wholes.{some-refusal, alone-whole}
+-- What is left to show of `quicksetter::notes::qs_power_on`: R1, and then the call on the core that the image lends.
+use Rattle.std.proofs.Common.{refl, arith}
+use Rattle.quicksetter.proofs.Heads.{ours-length, called-whole}
+use Rattle.quicksetter.proofs.Refusing.{lends-power_on}
+use Rattle.quicksetter.proofs.Admitting.{some_number, image_unrefused, lent-free, alone_so}
 use Rattle.quicksetter.proofs.Noting.{state_held_lem, power_on_in}
 use Rattle.quicksetter.proofs.notes.qs_power_on.Goals as goal
 
-pub returns-then-not-is_ours : goal.returns-then-not-is_ours
-returns-then-not-is_ours c = λ m w. not_ours _ _ _ _ (sym c.is_ours.ensures ∙ c.if-not-is_ours.true)
-
-pub plate_in-plate-requires : goal.plate_in-plate-requires
-plate_in-plate-requires c = omega (arith, ours-length _ (sym c.is_ours.ensures ∙ c.if-not-is_ours.false))
-
-pub slice_bounds-is_possible-end : goal.slice_bounds-is_possible-end
-slice_bounds-is_possible-end c = omega (arith, ours-length _ (sym c.is_ours.ensures ∙ c.if-not-is_ours.false))
-
-pub returns-then-not-is_possible : goal.returns-then-not-is_possible
-returns-then-not-is_possible c =
-    let ours = sym c.is_ours.ensures ∙ c.if-not-is_ours.false in
-    λ m w. alone-whole c.args.image.now m w ours c.plate_in-plate.ensures _ lends-power_on
-    (impossible _ _ _ _ (sym (c.is_possible.ensures _ (ours-label _ ours)) ∙ c.if-not-is_possible.true)) some-refusal
-
-pub slice_bounds-is_sound-end : goal.slice_bounds-is_sound-end
-slice_bounds-is_sound-end c = omega (arith, ours-length _ (sym c.is_ours.ensures ∙ c.if-not-is_ours.false))
-
-pub returns-then-not-is_sound : goal.returns-then-not-is_sound
-returns-then-not-is_sound c =
-    let ours = sym c.is_ours.ensures ∙ c.if-not-is_ours.false in
-    λ m w. alone-whole c.args.image.now m w ours c.plate_in-plate.ensures _ lends-power_on
-    (unsound _ _ _ _ (sym (c.is_possible.ensures _ (ours-label _ ours)) ∙ c.if-not-is_possible.false) (sym c.is_sound.ensures ∙ c.if-not-is_sound.true))
-    some-refusal
+pub returns-in-Err : goal.returns-in-Err
+returns-in-Err c = λ m w. rw c.number.ensures (alone_so _ m w _ (some_number _) lends-power_on c.in-Err.ensures.refusal)
 
 pub slice_bounds-power_on-end : goal.slice_bounds-power_on-end
-slice_bounds-power_on-end c = omega (arith, ours-length _ (sym c.is_ours.ensures ∙ c.if-not-is_ours.false))
+slice_bounds-power_on-end c = omega (arith, ours-length _ (image_unrefused _ _ _ c.in_default.ensures.refusal).ours)
 
 pub power_on-requires : goal.power_on-requires
-power_on-requires c =
-    let ours = sym c.is_ours.ensures ∙ c.if-not-is_ours.false in
-    let possible = sym (c.is_possible.ensures (label_in c.args.image.now) (ours-label _ ours)) ∙ c.if-not-is_possible.false in
-    state_held_lem _ _ (free-core _ _ possible (sym c.is_sound.ensures ∙ c.if-not-is_sound.false))
+power_on-requires c = state_held_lem _ _ (lent-free _ c.in_default.ensures.refusal)
 
 pub returns : goal.returns
 returns c =
-    let ours = sym c.is_ours.ensures ∙ c.if-not-is_ours.false in
-    let possible = sym (c.is_possible.ensures (label_in c.args.image.now) (ours-label _ ours)) ∙ c.if-not-is_possible.false in
-    let free = free-core _ _ possible (sym c.is_sound.ensures ∙ c.if-not-is_sound.false) in
-    λ m w. called-whole c.args.image.now m w _ ours c.plate_in-plate.ensures (power_on_in _ _ free m w c.power_on.ensures)
+    let free = lent-free _ c.in_default.ensures.refusal in
+    let ours = (image_unrefused _ _ _ c.in_default.ensures.refusal).ours in
+    λ m w. called-whole c.args.image.now m w _ ours refl (power_on_in _ _ free m w c.power_on.ensures)
