@@ -2,34 +2,30 @@
 use Prim.Native.Nat.{ℕ, ◌≤◌, max}
 use mathlib.Core.Path.{◌≡◌, refl, ap, ◌∙◌}
 use mathlib.Core.Bool.{Bool, true, false}
-use mathlib.Core.List.{List, [], ◌∷◌}
+use mathlib.Core.List.{List, []}
 use native.Mathlib.Omega.{arith}
 use lib.Dec.{ltb}
 use lib.ListN.{length, take, drop, length-append}
 use lib.Seq.{take-append_seam}
 use borrow.Author.Tests.{eqb-false}
-use types.Run.{OneOf, miss}
-use denote.Enum.Declared.{tag_of}
 use Rattle.meaning.specs.Bytes.{both, put}
 use Rattle.meaning.specs.Commands.{command_of}
 use Rattle.meaning.specs.Bench as meaning
 use Rattle.meaning.specs.Bench.{address_ok, address_for, allowed, request, writes, judge, refusal, done, failed}
 use Rattle.meaning.specs.Demands.{contents}
 use Rattle.meaning.proofs.Puts.{put_front}
-use Rattle.std.specs.Prelude.{Some, Ok, Err}
+use Rattle.std.specs.Prelude.{Ok, Err}
 use Rattle.std.specs.Result.{result_unwrap_or}
 use Rattle.bench.specs.Outcomes.{Written, written_of, without_data}
-use Rattle.bench.specs.declared.request.Unwritten.{Unwritten}
 use Rattle.bench.specs.declared.request.Unwritten.TheVariants.{R4, R5}
 use Rattle.programmer.specs.Wishes.{Wish}
 use Rattle.programmer.specs.Steps.{due, onto, on_verdict, bytes_due, after_reply, still_there}
-use Rattle.programmer.specs.Running.{asked_of, asks, hears}
+use Rattle.programmer.specs.Running.{hears}
 use Rattle.programmer.specs.declared.step.Step.{Step}
 use Rattle.programmer.specs.declared.step.Why.TheVariants.{Judgement, Error}
 use Rattle.programmer.specs.declared.step.Standing.{Standing}
 use Rattle.programmer.specs.declared.step.Standing.TheVariants.{At, Done, Failed}
 use Rattle.programmer.specs.declared.run.Programmer.{Programmer}
-use Rattle.programmer.specs.contracts.step.Standing.{the_type}
 
 -- the verdicts apart
 kind : meaning.Verdict → ℕ
@@ -61,34 +57,11 @@ module _ (l : Wish) (st : Step) where
   verdict-unfit n m (done w d) e h = absurd (eqb-false 0 1 refl (ap kind e))
   verdict-unfit n m (failed w x) e h = absurd (eqb-false 0 2 refl (ap kind e))
 
--- a run that is over
-module _ (n : ℕ) (l : Wish) where
-  pub asks-over : (x : Standing) (buffer : List ℕ) → OneOf (1 ∷ 2 ∷ []) (tag_of the_type x) → ◌≡◌ {A = meaning.Written} (record { refusal = 6; count = 0; buffer = buffer }) (asks n l x buffer)
-  unfolding asks
-  asks-over (At st) buffer k = absurd (miss (1 ∷ 2 ∷ []) 0 tt k)
-  asks-over Done buffer k = refl
-  asks-over (Failed st w) buffer k = refl
-
-  pub heard-over : (x : Standing) (r : List ℕ) → OneOf (1 ∷ 2 ∷ []) (tag_of the_type x) → after_reply n l x r ≡ x
-  unfolding after_reply
-  heard-over (At st) r k = absurd (miss (1 ∷ 2 ∷ []) 0 tt k)
-  heard-over Done r k = refl
-  heard-over (Failed st w) r k = refl
-
-  module _ (x : Standing) (st : Step) (at : x ≡ At st) (buffer buffer' : List ℕ) where
-    pub asks-length : (k : ℕ) → written_of (Ok k) buffer' ≡ writes n (due l st).command (due l st).body buffer → asked_of (Ok (Some k)) buffer' ≡ asks n l x buffer
-    unfolding asks
-    asks-length k h = rw at h
-
-    pub asks-unwritten : (u : Unwritten) → written_of (Err u) buffer' ≡ writes n (due l st).command (due l st).body buffer → asked_of (Err u) buffer' ≡ asks n l x buffer
-    unfolding asks
-    asks-unwritten R4 h = rw at h
-    asks-unwritten R5 h = rw at h
-
-  module _ (x : Standing) (st : Step) (at : x ≡ At st) where
-    pub heard-at : (q r : List ℕ) (y : Standing) → q ≡ bytes_due n l (At st) → y ≡ on_verdict l st (judge q r) → y ≡ after_reply n l x r
-    unfolding after_reply
-    heard-at q r y e h = rw at (h ∙ ap (λ (z : List ℕ). on_verdict l st (judge z r)) e)
+-- where the request is due that was judged
+pub heard-at : (n : ℕ) (l : Wish) (x : Standing) (st : Step) → x ≡ At st
+    → (q r : List ℕ) (y : Standing) → q ≡ bytes_due n l (At st) → y ≡ on_verdict l st (judge q r) → y ≡ after_reply n l x r
+unfolding after_reply
+heard-at n l x st at q r y e h = rw at (h ∙ ap (λ (z : List ℕ). on_verdict l st (judge z r)) e)
 
 -- what is written is what is sent
 abbrev pub length_written : Written → ℕ
@@ -148,18 +121,6 @@ module _ (n : ℕ) (l : Wish) (st : Step) (w : Written) (buffer buffer' : List �
 
 -- the programmer after a reply
 module _ (l : Wish) (x : Programmer) (r : List ℕ) where
-  pub hears-over : OneOf (1 ∷ 2 ∷ []) (tag_of the_type x.standing) → x ≡ hears l x r
-  unfolding hears after_reply
-  hears-over k = go x.standing refl k
-    where
-      same_present : max x.present 0 ≡ x.present
-      same_present = omega arith
-
-      go : (y : Standing) → x.standing ≡ y → OneOf (1 ∷ 2 ∷ []) (tag_of the_type y) → x ≡ hears l x r
-      go (At st) q k = absurd (miss (1 ∷ 2 ∷ []) 0 tt k)
-      go Done q k = rw (q, same_present)
-      go (Failed st w) q k = rw (q, same_present)
-
   pub hears_ended : ((st : Step) → x.standing ≡ At st → ⊥) → x ≡ hears l x r
   unfolding hears after_reply
   hears_ended n = go x.standing refl

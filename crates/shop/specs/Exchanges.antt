@@ -9,10 +9,9 @@ use Rattle.board.specs.Board.{state_of}
 use Rattle.board.specs.declared.limits.Board.{Board}
 use Rattle.exchange.specs.Passing.{heard, ended_of, reached, answer_to, Passes}
 use Rattle.exchange.specs.declared.asking.Exchanged.{Exchanged}
-use Rattle.programmer.specs.Wishes.{Wish, checked_tape, wish_of}
+use Rattle.programmer.specs.Wishes.{Wish, good, checked_tape, wish_of}
 use Rattle.programmer.specs.Steps.{due, in_all}
 use Rattle.programmer.specs.Running.{at_first, hears}
-use Rattle.programmer.specs.declared.wish.Checked.TheVariants.{Good}
 use Rattle.programmer.specs.declared.run.Programmer.{Programmer}
 use Rattle.programmer.specs.declared.step.Step.{Step}
 use Rattle.programmer.specs.declared.step.Standing.{Standing}
@@ -46,6 +45,6 @@ abbrev pub ProgramsByExchange : Type 0
 ProgramsByExchange = (p : board.Plate) (n : ℕ) (t : List ℕ) (s : board.State) (m : List ℕ) (k : ℕ)
     → T (plate_ok p) → T (address_ok n) → s.address ≤ last_address → T (reached s (address_for n))
     → length m ≡ memory_length p.total → T (sound p.total (table p.total m))
-    → checked_tape t ≡ Good → blocks_of (wish_of t).fields ≤ p.total → s.codes ≡ (wish_of t).codes
+    → checked_tape t ≡ good → blocks_of (wish_of t).fields ≤ p.total → s.codes ≡ (wish_of t).codes
     → in_all (wish_of t) (field_count (table p.total m)) ≤ k
     → Programmed p.total (wish_of t) (talk_of (exchanged_on p n (wish_of t) k (record { programmer = at_first n; state = s; memory = m })))
