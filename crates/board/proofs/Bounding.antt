@@ -5,7 +5,7 @@ use mathlib.Core.Path.{◌≡◌, refl, sym, ap}
 use mathlib.Core.Bool.{Bool, true, false, not}
 use mathlib.Core.List.{List}
 use Rattle.std.proofs.Common.{Result, Ok, Err}
-use borrow.Author.Tests.{le-leb, lt-leb, eq-eqb, ne_eqb, leb-true, eqb-true, eqb-false, ltb-false}
+use borrow.Author.Tests.{lt-ltb, le-ltb, le-leb, lt-leb, eq-eqb, ne_eqb, leb-true, eqb-true, eqb-false, ltb-false}
 use lib.Dec.{eqb, leb, ltb}
 use lib.ListN.{length, take, length-take}
 use Rattle.meaning.specs.Bytes.{pick, both, either}
@@ -28,17 +28,17 @@ unfolding lends
 lends-poll t = refl
 
 -- 02, Req 01: the label bytes are 41
-pub bad-label : (p : Plate) → (length p.label ≡ 41 → ⊥) → plate_ok p ≡ false
+pub bad_label : (p : Plate) → (length p.label ≡ 41 → ⊥) → plate_ok p ≡ false
 unfolding plate_ok
-bad-label p n = simp (ne_eqb (length p.label) 41 n, both_false)
+bad_label p n = simp (ne_eqb (length p.label) 41 n, both_false)
 
 few-taken : (n : ℕ) (kept : List ℕ) → length kept ≡ 135 → length (take n kept) ≤ 135
 few-taken n kept all = simp length-take (omega arith)
 
 module _ (p : Plate) (b : Board) (kept : List ℕ) where
-  pub bad-plate : plate_ok p ≡ false → false ≡ within p b kept
+  pub bad_plate : plate_ok p ≡ false → false ≡ within p b kept
   unfolding within
-  bad-plate e = rw e (sym (both_false (leb b.frame.len 135)))
+  bad_plate e = rw e (sym (both_false (leb b.frame.len 135)))
 
   pub too_many : 135 < b.frame.len → false ≡ within p b kept
   unfolding within
@@ -85,27 +85,30 @@ module _ (p : Plate) (b : Board) (k m : List ℕ) (r : ℕ) (g : Call) where
         rw (eq-eqb (length k) 135 all, and_both (leb b.frame.len 135) true, both_true (leb b.frame.len 135))
         (within_told (leb b.frame.len 135) (plate_ok p) (state_ok p (state_of b k)) _)
 
-    pub told-r1 : {A : Type 0} (x : A) {e : Refusal} → Err e ≡ taken_if (within p b k) x → Err e ≡ refused_as (refusal_on p b k m r g) x
+    pub told_r1 : {A : Type 0} (x : A) {e : Refusal} → Err e ≡ taken_if (within p b k) x → Err e ≡ refused_as (refusal_on p b k m r g) x
     unfolding refused_as
-    told-r1 x h = let t = r1-told x (within p b k) h in rw (by_limits, t.1, t.0)
+    told_r1 x h = let t = r1-told x (within p b k) h in rw (by_limits, t.1, t.0)
 
     -- of a call that lends nothing: R1 alone
     pub alone_by : lends g ≡ false → refusal_on p b k m r g ≡ pick (within p b k) 0 1
     alone_by l = rw (by_limits, l)
 
     -- of one that lends: R1 to R3 in that order
-    module _ (fine : Ok tt ≡ taken_if (within p b k) (tt {0})) (l : lends g ≡ true) where
-      pub told-size : (length m ≡ memory_length p.total → ⊥) → Err R2 ≡ refused_as (refusal_on p b k m r g) (tt {0})
-      unfolding refused_as
-      told-size h = rw (by_limits, none-told (tt {0}) (within p b k) fine, l, ne_eqb (length m) (memory_length p.total) h)
+    module _ (fine : Ok (tt {0}) ≡ taken_if (within p b k) (tt {0})) (l : lends g ≡ true) where
+      rest : refusal_on p b k m r g ≡ pick (not (eqb (length m) (memory_length p.total))) 2 (pick (ltb r 134) 3 0)
+      rest = rw (by_limits, none-told (tt {0}) (within p b k) fine, l)
 
-      pub told-rest : length m ≡ memory_length p.total → {t : Bool} → ltb r 134 ≡ t → pick t (Err R3) (Ok (tt {0})) ≡ refused_as (refusal_on p b k m r g) (tt {0})
+      pub told_r2 : (length m ≡ memory_length p.total → ⊥) → Err R2 ≡ refused_as (refusal_on p b k m r g) (tt {0})
       unfolding refused_as
-      told-rest h {t} e = rw (by_limits, none-told (tt {0}) (within p b k) fine, l, eq-eqb (length m) (memory_length p.total) h, e) (go t)
-        where
-          go : (t : Bool) → pick t (Err R3) (Ok (tt {0})) ≡ refused_as (pick t 3 0) (tt {0})
-          go true = refl
-          go false = refl
+      told_r2 h = rw (rest, ne_eqb (length m) (memory_length p.total) h)
+
+      pub told_r3 : length m ≡ memory_length p.total → r < 134 → Err R3 ≡ refused_as (refusal_on p b k m r g) (tt {0})
+      unfolding refused_as
+      told_r3 h i = rw (rest, eq-eqb (length m) (memory_length p.total) h, lt-ltb r 134 i)
+
+      pub told_none : length m ≡ memory_length p.total → 134 ≤ r → Ok (tt {0}) ≡ refused_as (refusal_on p b k m r g) (tt {0})
+      unfolding refused_as
+      told_none h i = rw (rest, eq-eqb (length m) (memory_length p.total) h, le-ltb r 134 i)
 
 -- R1 to R3 have no higher number
 pub refusal-few : (p : Plate) (b : Board) (kept m : List ℕ) (r : ℕ) (g : Call) → refusal_on p b kept m r g ≤ 3

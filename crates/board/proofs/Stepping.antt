@@ -33,7 +33,7 @@ use Rattle.board.specs.declared.calls.Stepped.{Stepped}
 use Rattle.board.specs.declared.closing.Closed.{Closed}
 use Rattle.board.specs.Board.{state_of, fits_in, within, taken_if, refusal_on, refused_as, called_on, outcome_of, told_of, carried_by, board_after, unheard, Steps}
 use Rattle.board.specs.Work.{Closes}
-use Rattle.board.proofs.Bounding.{lends-poll, alone_by, told-r1, none-told, few-kept, facts, refused-alike, none-refused, some-refused}
+use Rattle.board.proofs.Bounding.{lends-poll, alone_by, told_r1, none-told, few-kept, facts, refused-alike, none-refused, some-refused}
 use Rattle.std.proofs.Common.{Option, Some, None, Result, Ok, Err, IsOk}
 
 -- bytes put where they stand already
@@ -110,8 +110,8 @@ module _ (p : Plate) (b : Board) (k m w : List ℕ) (g : Call) where
 
 -- the calls that lend nothing, by the test of their limits
 module _ (p : Plate) (b : Board) (k m w : List ℕ) (g : Call) (all : length k ≡ 135) (l : lends g ≡ false) where
-  pub alone-refused : {r : Result Board Refusal} {e : Refusal} → r ≡ Err e → Err e ≡ taken_if (within p b k) (tt {0}) → Steps p b k m w g (unheard r) k m w
-  alone-refused q h = refused p b k m w g (tt {0}) (rw q) (told-r1 p b k m (length w) g all (tt {0}) h)
+  pub alone_refused : {r : Result Board Refusal} {e : Refusal} → r ≡ Err e → Err e ≡ taken_if (within p b k) (tt {0}) → Steps p b k m w g (unheard r) k m w
+  alone_refused q h = refused p b k m w g (tt {0}) (rw q) (told_r1 p b k m (length w) g all (tt {0}) h)
 
   pub alone : (next : Board) → Ok (tt {0}) ≡ taken_if (within p b k) (tt {0}) → closes p (state_of b k) g ≡ false
       → state_of next k ≡ (step p (state_of b k) m g).state → still (step p (state_of b k) m g).state m ≡ step p (state_of b k) m g → (b.frame.len ≤ 135 → next.frame.len ≤ 135)
@@ -257,8 +257,8 @@ same_len a b h =
     omega (arith, ap length (h (zeros n)), length-take a.frame.len (zeros n), length-take b.frame.len (zeros n), length-replicate {A = ℕ} n 0)
 
 -- a noted code leaves the open frame
-pub noted-few : (b next : Board) (c : ℕ) → ((kept : List ℕ) → state_of next kept ≡ meaning.noted (state_of b kept) c) → b.frame.len ≤ 135 → next.frame.len ≤ 135
-noted-few b next c e h =
+pub noted_few : (b next : Board) (c : ℕ) → ((kept : List ℕ) → state_of next kept ≡ meaning.noted (state_of b kept) c) → b.frame.len ≤ 135 → next.frame.len ≤ 135
+noted_few b next c e h =
     rw (same_len next b (λ kept. ap (λ (s : meaning.State). s.line.kept) (e kept) ∙ ap (λ (l : meaning.Line). l.kept) (noted-line (state_of b kept) c))) h
 
 -- power-on leaves none

@@ -31,6 +31,7 @@ pub struct Stepped {
 
 // 01, "Fresh state", with the plate's address, whatever the label bytes are. Any other number of the plate that is beyond its limits is told by the
 // first call.
+#[tactic(auto, using(crate::proofs::Stepping::no_line))]
 pub fn fresh(plate: Plate) -> Board
     requires { plate.address ≤ last_address }
     ensures { (kept l : List ℕ) → state_of result kept ≡ meaning.fresh (plate_of plate l) }

@@ -32,6 +32,7 @@ pub(crate) fn within_limits(plate: Plate, label: usize, board: Board) -> Result<
 }
 
 // The first refusal that applies; the sizes are those of the label bytes, of the lent places, of memory and of the reply room.
+#[tactic(auto, using(crate::proofs::Bounding::too_few_places, crate::proofs::Bounding::told_r1, crate::proofs::Bounding::told_r2, crate::proofs::Bounding::told_r3, crate::proofs::Bounding::told_none))]
 pub fn refusal(
     plate: Plate,
     label: usize,

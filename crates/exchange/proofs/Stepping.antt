@@ -10,7 +10,9 @@ use Rattle.meaning.specs.State.{Plate}
 use Rattle.meaning.specs.Fields.{memory_length}
 use Rattle.meaning.specs.Run.{Call, Held, step, lends}
 use Rattle.board.specs.declared.limits.Board.{Board}
-use Rattle.board.specs.declared.limits.Stepped.{Stepped}
+use Rattle.board.specs.declared.calls.Refusal.{Refusal}
+use Rattle.board.specs.declared.calls.Stepped.{Stepped}
+use Rattle.std.specs.Prelude.{Result}
 use Rattle.board.specs.Board.{state_of, refusal_on, Steps}
 use Rattle.board.specs.Promises.{Within}
 use Rattle.board.proofs.Bounding.{facts}
@@ -32,7 +34,7 @@ module _ (p : Plate) (b : Board) (kept m : List ℕ) (r : ℕ) (g : Call) (l : l
   wide = ltb-false r 134 (facts p b kept m r g l e).wide
 
 -- of the lent places those that the open frame keeps are written
-pub kept-bytes : (p : Plate) (b : Board) (kept m w : List ℕ) (g : Call) {r : Stepped} {kept' m' w' : List ℕ} → Within p b kept m → 134 ≤ length w
+pub kept-bytes : (p : Plate) (b : Board) (kept m w : List ℕ) (g : Call) {r : Result Stepped Refusal} {kept' m' w' : List ℕ} → Within p b kept m → 134 ≤ length w
     → Steps p b kept m w g r kept' m' w' → kept' ≡ put kept 0 (step p (state_of b kept) m g).state.line.kept
 kept-bytes p b kept m w g h room s =
     s.bytes ∙ ap (λ (x : Held). put kept 0 x.state.line.kept) (held_on p b kept m w g (unrefused p b kept m (length w) g h room))

@@ -1,5 +1,5 @@
 -- The loop of `send`: one character more is taken in. Assumes nothing.
-use Prim.Native.Nat.{ℕ, suc, ◌+◌, ◌-◌, ◌^◌, ◌<◌, ◌≤◌}
+use Prim.Native.Nat.{ℕ, suc, ◌+◌, ◌^◌, ◌<◌, ◌≤◌}
 use mathlib.Core.Path.{◌≡◌, refl, sym, ap, ap₂, ◌∙◌}
 use mathlib.Core.Bool.{false}
 use mathlib.Core.List.{List, []}
@@ -13,10 +13,12 @@ use Rattle.meaning.specs.Frames.{Outcome, still}
 use Rattle.meaning.specs.Run.{Call, character, step, run_from}
 use Rattle.meaning.proofs.Puts.{put-nothing, drop-put-low, put_front}
 use Rattle.board.specs.declared.limits.Board.{Board}
-use Rattle.board.specs.declared.limits.Stepped.{Stepped}
-use Rattle.board.specs.Board.{state_of, Steps}
-use Rattle.board.proofs.Promises.{does_step, unrefused, stays_within}
-use Rattle.exchange.specs.Calls.{stamp_of, sending, Clear, Taken, SendsRequest}
+use Rattle.board.specs.declared.calls.Refusal.{Refusal}
+use Rattle.board.specs.declared.calls.Stepped.{Stepped}
+use Rattle.std.proofs.Common.{Result, Ok, IsOk}
+use Rattle.board.specs.Board.{state_of, board_after, Steps}
+use Rattle.board.proofs.Promises.{does_step, is_answered, unrefused, stays_within}
+use Rattle.exchange.specs.Calls.{stamp_of, sending, Clear, Taken}
 use Rattle.exchange.proofs.Running.{kept-begun, Runs, runs, begun_then, character-waits}
 use Rattle.exchange.proofs.Stepping.{kept-bytes}
 
@@ -32,6 +34,14 @@ module _ (p : Plate) (b : Board) (tick spacing : ℕ) (q kept m w : List ℕ) (c
 
   abbrev after : ℕ → Outcome
   after i = run_from p (state_of b kept) m (sending tick spacing q i)
+
+  -- a board within its limits refuses no character
+  pub character-answered : {i t v : ℕ} {b' : Board} {kept' m' w' : List ℕ} {r : Result Stepped Refusal} {kept'' m'' w'' : List ℕ}
+      → Taken p b tick spacing q kept m w i b' kept' m' w' → Steps p b' kept' m' w' (character t v false) r kept'' m'' w'' → IsOk r
+  character-answered {t = t} {v = v} {b' = b'} {kept' = kept'} {m' = m'} {w' = w'} x s =
+      let g : Call = character t v false in
+      let room : 134 ≤ length w' = rw x.room clear.wide in
+      is_answered p b' kept' m' w' g (unrefused p b' kept' m' (length w') g x.within room) s
 
   module _ (low : tick < 2 ^ 32) where
     all_runs : (i : ℕ) → i ≤ length q → Runs p (state_of b kept) m tick spacing q i
@@ -55,10 +65,10 @@ module _ (p : Plate) (b : Board) (tick spacing : ℕ) (q kept m w : List ℕ) (c
         kept-begun (after (suc i)).state (take (suc i) q)
         (begun_then p (state_of b kept) m tick spacing q clear.idle low clear.close clear.short i h) (all_runs (suc i) h).kept
 
-    pub taken_more : (i : ℕ) → i < length q → {b' : Board} {kept' m' w' : List ℕ} {r : Stepped} {kept'' m'' w'' : List ℕ}
+    taken_more : (i : ℕ) → i < length q → {b' : Board} {kept' m' w' : List ℕ} {r : Result Stepped Refusal} {kept'' m'' w'' : List ℕ}
         → Taken p b tick spacing q kept m w i b' kept' m' w'
         → Steps p b' kept' m' w' (character (stamp_of tick spacing i) (arg q i) false) r kept'' m'' w''
-        → Taken p b tick spacing q kept m w (suc i) r.board kept'' m'' w''
+        → Taken p b tick spacing q kept m w (suc i) (board_after b' r) kept'' m'' w''
     taken_more i h {b'} {kept'} {m'} {w'} {r} {kept''} {m''} {w''} t s =
         let g : Call = character (stamp_of tick spacing i) (arg q i) false in
         let room : 134 ≤ length w' = rw t.room clear.wide in
@@ -80,16 +90,9 @@ module _ (p : Plate) (b : Board) (tick spacing : ℕ) (q kept m w : List ℕ) (c
         }
 
     -- .. as the loop says it
-    pub taken_next : (i : ℕ) → i < length q → {t : ℕ} {b' : Board} {kept' m' w' : List ℕ} {r : Stepped} {kept'' m'' w'' : List ℕ} → t ≡ stamp_of tick spacing i
-        → Taken p b tick spacing q kept m w i b' kept' m' w' → Steps p b' kept' m' w' (character t (arg q i) false) r kept'' m'' w''
-        → Taken p b tick spacing q kept m w (i + 1) r.board kept'' m'' w''
-    taken_next i h {t} {b'} {kept'} {m'} {w'} {r} {kept''} {m''} {w''} e x s =
-        let y : Steps p b' kept' m' w' (character (stamp_of tick spacing i) (arg q i) false) r kept'' m'' w'' = rw e at s in
-        rw add-one (taken_more i h x y)
-
-pub all-sent : (p : Plate) (b : Board) (tick spacing : ℕ) (q kept m w : List ℕ) (i : ℕ) {b' : Board} {last : ℕ} {kept' m' w' : List ℕ} → i ≤ length q
-    → length q ≤ i → last ≡ stamp_of tick spacing (i - 1) → Taken p b tick spacing q kept m w i b' kept' m' w'
-    → SendsRequest p b tick spacing q kept m w (record { board = b'; last = last }) kept' m' w'
-all-sent p b tick spacing q kept m w i h k e t =
-    let n : i ≡ length q = omega arith in
-    record { taken = rw n at t; last = rw n at e }
+    pub taken_next : (i : ℕ) → i < length q → {t : ℕ} {b' : Board} {kept' m' w' : List ℕ} {r : Result Stepped Refusal} {y : Stepped} {kept'' m'' w'' : List ℕ}
+        → t ≡ stamp_of tick spacing i → Taken p b tick spacing q kept m w i b' kept' m' w'
+        → Steps p b' kept' m' w' (character t (arg q i) false) r kept'' m'' w'' → r ≡ Ok y → Taken p b tick spacing q kept m w (i + 1) y.board kept'' m'' w''
+    taken_next i h {t} {b'} {kept'} {m'} {w'} {r} {y} {kept''} {m''} {w''} e x s k =
+        let z : Steps p b' kept' m' w' (character (stamp_of tick spacing i) (arg q i) false) (Ok y) kept'' m'' w'' = rw (e, k) at s in
+        rw add-one (taken_more i h x z)

@@ -1,5 +1,5 @@
 -- What passes between bench and board: refusals, reply and verdict of one request (01, "The bench", "Named refusals"). Assumes nothing.
-use Rattle.std.specs.Prelude.{ℕ, ◌≡◌, Bool, not, List, [], T, eqb, leb, length, take}
+use Rattle.std.specs.Prelude.{ℕ, ◌≡◌, Bool, not, List, [], T, eqb, leb, length, take, Result, Ok, Err}
 use Rattle.meaning.specs.Bytes.{pick, either, part, put}
 use Rattle.meaning.specs.State.{Plate, State, own_byte}
 use Rattle.meaning.specs.Characters.{full_pause}
@@ -10,21 +10,24 @@ use Rattle.meaning.specs.Bench.{Verdict, refusal, address_ok, address_for, allow
 use Rattle.meaning.specs.Demands.{meant, concluded}
 use Rattle.board.specs.declared.limits.Board.{Board}
 use Rattle.board.specs.Board.{state_of, KeepsFew, refusal_on}
+use Rattle.board.specs.declared.calls.Refusal.TheVariants.{R1, R2, R3}
+use Rattle.bench.specs.declared.request.Unwritten.TheVariants.{R4, R5}
 use Rattle.bench.specs.Outcomes.{verdict_of, without_data}
 use Rattle.exchange.specs.declared.asking.Refusal.{Refusal}
-use Rattle.exchange.specs.declared.asking.Refusal.TheVariants.{R1, R2, R3, FrameOpen, TooSlow, R4, R5}
-use Rattle.exchange.specs.declared.asking.Ended as code
-use Rattle.exchange.specs.declared.asking.Ended.TheVariants.{Heard}
-use Rattle.exchange.specs.declared.asking.Ended.TheVariants as ended
-use Rattle.exchange.specs.declared.asking.Exchanged.{Exchanged}
+use Rattle.exchange.specs.declared.asking.Refusal.TheVariants as unsent
+use Rattle.exchange.specs.declared.asking.Refusal.TheVariants.{FrameOpen, TooSlow}
+use Rattle.exchange.specs.declared.asking.Heard.{Heard}
+
+abbrev pub Answer : Type 0
+Answer = Result Heard Refusal
 
 -- 01, "Named refusals", by their numbers; 6 and 7 for the two that the paper does not number
 abbrev pub unsent_number : Refusal → ℕ
-unsent_number R1 = 1
-unsent_number R2 = 2
-unsent_number R3 = 3
-unsent_number R4 = 4
-unsent_number R5 = 5
+unsent_number (unsent.Board R1) = 1
+unsent_number (unsent.Board R2) = 2
+unsent_number (unsent.Board R3) = 3
+unsent_number (unsent.Bench R4) = 4
+unsent_number (unsent.Bench R5) = 5
 unsent_number FrameOpen = 6
 unsent_number TooSlow = 7
 
@@ -33,18 +36,23 @@ pub data Ended : Type 0 where
   refused : ℕ → Ended
   heard : ℕ → ℕ → Verdict → Ended
 
-abbrev pub ended_of : code.Ended → Ended
-ended_of (ended.Refused x) = refused (unsent_number x)
-ended_of (Heard n k v) = heard n k (verdict_of v)
+abbrev pub ended_of : Answer → Ended
+ended_of (Ok h) = heard h.request h.reply (verdict_of h.verdict)
+ended_of (Err x) = refused (unsent_number x)
+
+-- the board afterwards: a refused exchange leaves it as it was
+abbrev pub board_after : Board → Answer → Board
+board_after b (Ok h) = h.board
+board_after b (Err x) = b
 
 -- 01, "handed back as a piece of the reply itself": of the request and the reply that stand at the fronts of q and w; its bytes, and its place in w
-abbrev pub data_heard : code.Ended → List ℕ → List ℕ → List ℕ
-data_heard (ended.Refused x) q w = []
-data_heard (Heard n k v) q w = part (take k w) (handed (take n q) (take k w)).from (handed (take n q) (take k w)).count
+abbrev pub data_heard : Answer → List ℕ → List ℕ → List ℕ
+data_heard (Ok h) q w = part (take h.reply w) (handed (take h.request q) (take h.reply w)).from (handed (take h.request q) (take h.reply w)).count
+data_heard (Err x) q w = []
 
-abbrev pub place_heard : code.Ended → List ℕ → List ℕ → ℕ
-place_heard (ended.Refused x) q w = 0
-place_heard (Heard n k v) q w = (handed (take n q) (take k w)).from
+abbrev pub place_heard : Answer → List ℕ → List ℕ → ℕ
+place_heard (Ok h) q w = (handed (take h.request q) (take h.reply w)).from
+place_heard (Err x) q w = 0
 
 -- R1, R2, R3; a frame open already; a spacing not below the pause; R4, R5. 0 where none applies
 unfoldable pub refusal_for : Plate → Board → ℕ → ℕ → List ℕ → ℕ → List ℕ → List ℕ → List ℕ → List ℕ → ℕ
@@ -73,8 +81,8 @@ pub record Asks (n c : ℕ) (d q : List ℕ) : Type 0 where
   pub bytes : q ≡ request (address_for n) c d
 
 -- a request on a clear line: what comes back, and what board, kept bytes, memory and room are then
-pub record Converses (p : Plate) (b : Board) (n c : ℕ) (d kept m w : List ℕ) (r : Exchanged) (kept' m' w' : List ℕ) : Type 0 where
-  pub ended : ended_of r.ended
+pub record Converses (p : Plate) (b : Board) (n c : ℕ) (d kept m w : List ℕ) (r : Heard) (kept' m' w' : List ℕ) : Type 0 where
+  pub ended : ended_of (Ok r)
       ≡ heard (length (request (address_for n) c d)) (length (answer_to p (resting (state_of b kept)) m (address_for n) c d).reply)
       (without_data (verdict_on p (resting (state_of b kept)) m (address_for n) c d))
   pub state : state_of r.board kept' ≡ (answer_to p (resting (state_of b kept)) m (address_for n) c d).state
@@ -111,12 +119,11 @@ passed p b n c d spacing q kept m w =
     })
     (record { ended = refused k; state = state_of b kept; request = q; kept = kept; memory = m; room = w })
 
-pub record Passes (p : Plate) (b : Board) (n c : ℕ) (d : List ℕ) (spacing : ℕ) (q kept m w : List ℕ) (r : Exchanged) (q' kept' m' w' : List ℕ) : Type 0 where
-  pub ended : ended_of r.ended ≡ (passed p b n c d spacing q kept m w).ended
-  pub state : state_of r.board kept' ≡ (passed p b n c d spacing q kept m w).state
+pub record Passes (p : Plate) (b : Board) (n c : ℕ) (d : List ℕ) (spacing : ℕ) (q kept m w : List ℕ) (r : Answer) (q' kept' m' w' : List ℕ) : Type 0 where
+  pub ended : ended_of r ≡ (passed p b n c d spacing q kept m w).ended
+  pub state : state_of (board_after b r) kept' ≡ (passed p b n c d spacing q kept m w).state
   pub written : q' ≡ (passed p b n c d spacing q kept m w).request
   pub bytes : kept' ≡ (passed p b n c d spacing q kept m w).kept
   pub memory : m' ≡ (passed p b n c d spacing q kept m w).memory
   pub room : w' ≡ (passed p b n c d spacing q kept m w).room
-  pub few : refusal_for p b n c d spacing q kept m w ≡ 0 → KeepsFew r.board
-  pub untouched : (refusal_for p b n c d spacing q kept m w ≡ 0 → ⊥) → r.board ≡ b
+  pub few : refusal_for p b n c d spacing q kept m w ≡ 0 → KeepsFew (board_after b r)

@@ -5,47 +5,68 @@ ghost use Rattle.exchange.specs.Calls.{Clear};
 ghost use Rattle.exchange.specs.Passing.{Asks, Converses, Passes};
 
 use crate::sending::send;
-use bench::{Verdict, Written};
-use board::{Board, Outcome};
+use bench::{Unwritten, Verdict};
+use board::Board;
 use line::Plate;
+use std::fmt;
 
 // Why nothing was sent, in the order of the tests: R1 to R3 of the board; a frame is open already; the spacing is not below the pause, so
 // that it would close the frame; R4 and R5 of the bench, last because the request is then written.
-#[derive(Clone, Copy)]
+#[derive(Clone, Copy, PartialEq, Eq, Debug)]
 pub enum Refusal {
-    R1,
-    R2,
-    R3,
+    Board(board::Refusal),
     FrameOpen,
     TooSlow,
-    R4,
-    R5,
+    Bench(Unwritten),
 }
 
-// Refused, and nothing is changed; or heard: the lengths of request and reply, which stand at the fronts of their buffers, and the verdict.
-#[derive(Clone, Copy)]
-pub enum Ended {
-    Refused(Refusal),
-    Heard {
-        request: usize,
-        reply: usize,
-        verdict: Verdict,
-    },
-}
+impl From<board::Refusal> for Refusal {
+    ghost use Rattle.std.specs.Prelude.{◌≡◌};
+    ghost use Rattle.exchange.specs.declared.asking.Refusal.TheVariants as refusal;
 
-#[derive(Clone, Copy)]
-pub struct Exchanged {
-    pub board: Board,
-    pub ended: Ended,
-}
+    ghost from_gives = { λ why e. e ≡ refusal.Board why };
 
-fn unsent(board: Board, why: Refusal) -> Exchanged
-    ensures { result ≡ record { board = board; ended = Ended.Refused why } }
-{
-    Exchanged {
-        board,
-        ended: Ended::Refused(why),
+    fn from(why: board::Refusal) -> Refusal {
+        Refusal::Board(why)
     }
+}
+
+impl From<Unwritten> for Refusal {
+    ghost use Rattle.std.specs.Prelude.{◌≡◌};
+    ghost use Rattle.exchange.specs.declared.asking.Refusal.TheVariants as refusal;
+
+    ghost from_gives = { λ why e. e ≡ refusal.Bench why };
+
+    fn from(why: Unwritten) -> Refusal {
+        Refusal::Bench(why)
+    }
+}
+
+impl fmt::Display for Refusal {
+    ghost use Rattle.std.specs.Prelude.{Some};
+    ghost use Rattle.exchange.specs.Words.{unsent_text};
+
+    ghost output = { λ why. Some (unsent_text why) };
+
+    fn fmt<W: fmt::Write>(&self, f: &mut fmt::Formatter<W>) -> fmt::Result {
+        match *self {
+            Refusal::Board(board::Refusal::R1) => f.write_str("R1"),
+            Refusal::Board(board::Refusal::R2) => f.write_str("R2"),
+            Refusal::Board(board::Refusal::R3) => f.write_str("R3"),
+            Refusal::FrameOpen => f.write_str("a frame is open"),
+            Refusal::TooSlow => f.write_str("too slow"),
+            Refusal::Bench(why) => write!(f, "{why}"),
+        }
+    }
+}
+
+// The board afterwards; the lengths of request and reply, which stand at the fronts of their buffers; and what the bench makes of the reply.
+#[derive(Clone, Copy)]
+pub struct Heard {
+    pub board: Board,
+    pub request: usize,
+    pub reply: usize,
+    pub verdict: Result<Verdict, bench::Refusal>,
 }
 
 // On a clear line: the characters, a poll one pause after the last, and the bench's verdict on what came back.
@@ -59,30 +80,26 @@ fn converse(
     kept: &mut [u8],
     memory: &mut [u8],
     room: &mut [u8],
-) -> Exchanged
+) -> Heard
     requires { Clear (plate_of plate label.now) board apart asked.now kept.old memory.old room.old }
     ensures { (n c : ℕ) (d : List ℕ) → Asks n c d asked.now → Converses (plate_of plate label.now) board n c d kept.old memory.old room.old result kept.new memory.new room.new }
 {
     let sent = send(plate, label, board, tick, apart, asked, kept, memory, room);
     let over = line::stamp_after(sent.last, plate.full_pause() as u32);
-    let waiting = sent.board;
-    let closed = board::poll(plate, label, waiting, over, kept, memory, room);
-    let next = closed.board;
-    let outcome = closed.outcome;
-    let reply = outcome.reply_length();
+    let closed = board::poll(plate, label, sent.board, over, kept, memory, room).unwrap();
+    let reply = closed.reply.unwrap_or(0);
     let verdict = bench::judge(asked, &room[..reply]);
-    Exchanged {
-        board: next,
-        ended: Ended::Heard {
-            request: asked.len(),
-            reply,
-            verdict,
-        },
+    Heard {
+        board: closed.board,
+        request: asked.len(),
+        reply,
+        verdict,
     }
 }
 
 // The request for `address` (0 to 31, or 255 for broadcast) is written into `request`, sent from `tick` on with its characters `apart` ticks
 // from one another, and closed by a poll after the pause. `kept`, `memory` and `room` are the board's. For another board's address silence follows, B1.
+// Refused, nothing is changed.
 pub fn exchange(
     plate: Plate,
     label: &[u8],
@@ -96,28 +113,24 @@ pub fn exchange(
     kept: &mut [u8],
     memory: &mut [u8],
     room: &mut [u8],
-) -> Exchanged
+) -> Result<Heard, Refusal>
     ensures { Passes (plate_of plate label.now) board address command body.now apart request.old kept.old memory.old room.old result request.new kept.new memory.new room.new }
 {
-    let places = kept.len();
-    match board::refusal(plate, label.len(), board, places, memory.len(), room.len()) {
-        Outcome::R1 => return unsent(board, Refusal::R1),
-        Outcome::R2 => return unsent(board, Refusal::R2),
-        Outcome::R3 => return unsent(board, Refusal::R3),
-        _ => {}
-    }
+    board::refusal(
+        plate,
+        label.len(),
+        board,
+        kept.len(),
+        memory.len(),
+        room.len(),
+    )?;
     if board.is_open() {
-        return unsent(board, Refusal::FrameOpen);
+        return Err(Refusal::FrameOpen);
     }
-    if plate.full_pause() <= apart as u64 {
-        return unsent(board, Refusal::TooSlow);
+    if plate.full_pause() <= u64::from(apart) {
+        return Err(Refusal::TooSlow);
     }
-    match bench::write_request(address, command, body, request) {
-        Written::R4 => unsent(board, Refusal::R4),
-        Written::R5 => unsent(board, Refusal::R5),
-        Written::Request { len } => {
-            let asked = &request[..len];
-            converse(plate, label, board, tick, apart, asked, kept, memory, room)
-        }
-    }
+    let len = bench::write_request(address, command, body, request)?;
+    let asked = &request[..len];
+    Ok(converse(plate, label, board, tick, apart, asked, kept, memory, room))
 }

@@ -2,20 +2,18 @@
 ghost use Rattle.std.specs.Prelude.{◌≡◌, ◌+◌};
 ghost use Rattle.exchange.specs.Passing.{data_heard, place_heard};
 
-use crate::asking::Ended;
+use crate::asking::{Heard, Refusal};
 
 // A piece of the reply itself, by the bench; where nothing was sent, the empty piece. The request's buffer and the room are those that the exchange left.
-pub fn data_heard<'a>(ended: Ended, request: &[u8], room: &'a [u8]) -> &'a [u8]
+pub fn data_heard<'a>(ended: Result<Heard, Refusal>, request: &[u8], room: &'a [u8]) -> &'a [u8]
     ensures value { result.now ≡ data_heard ended request.now room.now }
     ensures place { result.ref_ptr ≡ (room.entry.ref_ptr.0, place_heard ended request.now room.now + room.entry.ref_ptr.1) }
 {
-    let Ended::Heard {
-        request: asked,
-        reply,
-        verdict: _,
-    } = ended
-    else {
+    let Ok(heard) = ended else {
         return &room[..0];
     };
-    bench::data_of(wire::front(request, asked), wire::front(room, reply))
+    bench::data_of(
+        wire::front(request, heard.request),
+        wire::front(room, heard.reply),
+    )
 }

@@ -5,5 +5,5 @@ mod asking;
 mod hearing;
 mod sending;
 
-pub use asking::{Ended, Exchanged, Refusal, exchange};
+pub use asking::{Heard, Refusal, exchange};
 pub use hearing::data_heard;

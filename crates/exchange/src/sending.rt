@@ -12,7 +12,7 @@ pub(crate) struct Sent {
     pub last: u32,
 }
 
-// The first character ends at `tick`, each further one `apart` ticks after the last.
+// The first character ends at `tick`, each further one `apart` ticks after the last. On a clear line the board refuses none.
 pub(crate) fn send(
     plate: Plate,
     label: &[u8],
@@ -27,18 +27,18 @@ pub(crate) fn send(
     requires { Clear (plate_of plate label.now) board apart asked.now kept.old memory.old room.old }
     ensures { SendsRequest (plate_of plate label.now) board tick apart asked.now kept.old memory.old room.old result kept.new memory.new room.new }
 {
-    let mut taken = board;
-    let mut last = tick;
+    let mut sent = Sent { board, last: tick };
     let mut stamp = tick;
-    let mut i = 0;
-    while i < asked.len() {
-        last = stamp;
+    for &byte in asked {
         let stepped = board::character(
-            plate, label, taken, stamp, asked[i], false, kept, memory, room,
-        );
-        taken = stepped.board;
+            plate, label, sent.board, stamp, byte, false, kept, memory, room,
+        )
+        .unwrap();
+        sent = Sent {
+            board: stepped.board,
+            last: stamp,
+        };
         stamp = line::stamp_after(stamp, apart);
-        i += 1;
     }
-    Sent { board: taken, last }
+    sent
 }

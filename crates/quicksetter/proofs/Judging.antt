@@ -6,27 +6,26 @@ use mathlib.Core.List.{List}
 use lib.ListN.{length}
 use Rattle.meaning.specs.Bench as meaning
 use Rattle.meaning.specs.Bench.{judge}
-use Rattle.bench.specs.declared.request.Written.{Written}
-use Rattle.bench.specs.declared.request.Written.TheVariants.{Request, R4, R5}
+use Rattle.std.specs.Prelude.{Ok, Err}
+use Rattle.bench.specs.declared.request.Unwritten.TheVariants.{R4, R5}
 use Rattle.bench.specs.declared.reply.Piece.{Piece}
-use Rattle.bench.specs.declared.reply.Verdict.{Verdict}
-use Rattle.bench.specs.declared.reply.Verdict.TheVariants.{Done, DoneWithWarning, Error, ErrorWithWarning, Refused}
+use Rattle.bench.specs.declared.reply.Verdict.TheVariants.{Done, DoneWithWarning, Error, ErrorWithWarning}
 use Rattle.bench.proofs.Lengths.{piece_fits}
-use Rattle.bench.specs.Outcomes.{written_of, verdict_of, without_data, piece_from, piece_by}
+use Rattle.bench.specs.Outcomes.{Written, Judged, written_of, verdict_of, without_data, piece_from, piece_by}
 use Rattle.bench.proofs.Verdicts.{handed_by}
 use Rattle.quicksetter.specs.Verdicts.{request_number, written_number, verdict_number, verdict_code, piece_number, Writes}
 
 -- the code's number is the meaning's
 written_is : (w : Written) (buffer : List ℕ) → request_number (written_of w buffer) ≡ written_number w
 unfolding request_number
-written_is (Request n) buffer = refl
-written_is R4 buffer = refl
-written_is R5 buffer = refl
+written_is (Ok n) buffer = refl
+written_is (Err R4) buffer = refl
+written_is (Err R5) buffer = refl
 
 written-buffer : (w : Written) (buffer : List ℕ) → (written_of w buffer).buffer ≡ buffer
-written-buffer (Request n) buffer = refl
-written-buffer R4 buffer = refl
-written-buffer R5 buffer = refl
+written-buffer (Ok n) buffer = refl
+written-buffer (Err R4) buffer = refl
+written-buffer (Err R5) buffer = refl
 
 pub writes : {w : meaning.Written} (x : Written) {r : ℕ} {buffer' : List ℕ} → written_of x buffer' ≡ w → r ≡ written_number x → Writes w r buffer'
 writes x {r} {buffer'} e q =
@@ -35,13 +34,13 @@ writes x {r} {buffer'} e q =
       buffer = sym (written-buffer x buffer') ∙ ap (λ (y : meaning.Written). y.buffer) e;
     }
 
-verdict-is : (v : Verdict) → verdict_number (verdict_of v) ≡ verdict_code v
+verdict-is : (v : Judged) → verdict_number (verdict_of v) ≡ verdict_code v
 unfolding verdict_number
-verdict-is Done = refl
-verdict-is DoneWithWarning = refl
-verdict-is (Error e) = refl
-verdict-is (ErrorWithWarning e) = refl
-verdict-is (Refused b) = refl
+verdict-is (Ok Done) = refl
+verdict-is (Ok DoneWithWarning) = refl
+verdict-is (Ok (Error e)) = refl
+verdict-is (Ok (ErrorWithWarning e)) = refl
+verdict-is (Err b) = refl
 
 -- the number says nothing of the data
 without_data_lem : (v : meaning.Verdict) → verdict_number (without_data v) ≡ verdict_number v
@@ -52,11 +51,11 @@ without_data_lem (meaning.done false d) = refl
 without_data_lem (meaning.failed true e) = refl
 without_data_lem (meaning.failed false e) = refl
 
-pub judged : (v : meaning.Verdict) (x : Verdict) {r : ℕ} → verdict_of x ≡ without_data v → r ≡ verdict_code x → r ≡ verdict_number v
+pub judged : (v : meaning.Verdict) (x : Judged) {r : ℕ} → verdict_of x ≡ without_data v → r ≡ verdict_code x → r ≡ verdict_number v
 judged v x e q = q ∙ sym (verdict-is x) ∙ ap verdict_number e ∙ without_data_lem v
 
 -- the data part's place and length, from the contracts of the judge and of the piece: neither is large
-module _ (q r : List ℕ) (p : Piece) (v : Verdict) (e : verdict_of v ≡ without_data (judge q r)) (h : piece_from p ≡ piece_by (length r) v) where
+module _ (q r : List ℕ) (p : Piece) (v : Judged) (e : verdict_of v ≡ without_data (judge q r)) (h : piece_from p ≡ piece_by (length r) v) where
   piece_handed : piece_from p ≡ meaning.handed q r
   piece_handed = h ∙ sym (handed_by q r v e)
 

@@ -7,9 +7,8 @@ use lib.ListN.{length}
 use Rattle.meaning.specs.Bench.{judge}
 use Rattle.meaning.specs.Bench as meaning
 use Rattle.meaning.specs.Demands.{accepts}
-use Rattle.bench.specs.declared.length.Expected.{Expected}
-use Rattle.bench.specs.declared.length.Expected.TheVariants.{Unknown, Bytes, Refused}
-use Rattle.bench.specs.Lengths.{expected_length}
+use Rattle.std.specs.Prelude.{Some, None, Ok, Err}
+use Rattle.bench.specs.Lengths.{Expected, expected_length}
 use Rattle.bench.proofs.Lengths.{length_told, length-within, taken-fits, piece_fits}
 use Rattle.quicksetter.specs.Verdicts.{verdict_number, expected_number, piece_number, PieceParts, QsLengthTold, QsLengthWithin, QsNoneBeginsSo}
 
@@ -46,6 +45,6 @@ pub qs_length-within : QsLengthWithin
 qs_length-within q s t e some few = go (expected_length q s) refl e
   where
     go : (x : Expected) → expected_length q s ≡ x → t ≡ expected_number x → (3 ≤ t) × (t ≤ 134)
-    go Unknown k e = (omega arith, omega arith)
-    go (Bytes n) k e = subst (λ (i : ℕ). (3 ≤ i) × (i ≤ 134)) (sym e) (length-within q s n k)
-    go (Refused b) k e = (omega arith, omega arith)
+    go (Ok None) k e = (omega arith, omega arith)
+    go (Ok (Some n)) k e = subst (λ (i : ℕ). (3 ≤ i) × (i ≤ 134)) (sym e) (length-within q s n k)
+    go (Err b) k e = (omega arith, omega arith)

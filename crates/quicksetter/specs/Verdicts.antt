@@ -1,16 +1,11 @@
 -- The bench's answers as the numbers that C sees (01, "Named refusals"). Assumes nothing.
-use Rattle.std.specs.Prelude.{ℕ, ◌+◌, ◌*◌, ◌/◌, ◌%◌, ◌≤◌, ◌<◌, ◌≡◌, true, false, List, eqb, length, take}
+use Rattle.std.specs.Prelude.{ℕ, ◌+◌, ◌*◌, ◌/◌, ◌%◌, ◌≤◌, ◌<◌, ◌≡◌, true, false, List, eqb, length, take, Some, None, Ok, Err}
 use Rattle.meaning.specs.Bytes.{pick, longest_reply}
 use Rattle.meaning.specs.Bench as meaning
-use Rattle.bench.specs.declared.request.Written.{Written}
-use Rattle.bench.specs.declared.request.Written.TheVariants.{Request, R4, R5}
-use Rattle.bench.specs.declared.reply.Verdict.{Verdict}
-use Rattle.bench.specs.declared.reply.Verdict.TheVariants.{Done, DoneWithWarning, Error, ErrorWithWarning, Refused}
-use Rattle.bench.specs.Outcomes.{check_number}
-use Rattle.bench.specs.declared.length.Expected.{Expected}
-use Rattle.bench.specs.declared.length.Expected.TheVariants as expected
-use Rattle.bench.specs.declared.length.Expected.TheVariants.{Unknown, Bytes}
-use Rattle.bench.specs.Lengths.{expected_length}
+use Rattle.bench.specs.declared.request.Unwritten.TheVariants.{R4, R5}
+use Rattle.bench.specs.declared.reply.Verdict.TheVariants.{Done, DoneWithWarning, Error, ErrorWithWarning}
+use Rattle.bench.specs.Outcomes.{Written, Judged, check_number}
+use Rattle.bench.specs.Lengths.{Expected, expected_length}
 
 -- a request's length, or 256 + n for Rn
 unfoldable pub request_number : meaning.Written → ℕ
@@ -30,22 +25,22 @@ verdict_number (meaning.failed true e) = 512 + e
 
 -- the same of the code's cases
 abbrev pub written_number : Written → ℕ
-written_number (Request n) = n
-written_number R4 = 260
-written_number R5 = 261
+written_number (Ok n) = n
+written_number (Err R4) = 260
+written_number (Err R5) = 261
 
-abbrev pub verdict_code : Verdict → ℕ
-verdict_code Done = 0
-verdict_code DoneWithWarning = 1
-verdict_code (Error e) = 256 + e
-verdict_code (ErrorWithWarning e) = 512 + e
-verdict_code (Refused b) = 1024 + check_number b
+abbrev pub verdict_code : Judged → ℕ
+verdict_code (Ok Done) = 0
+verdict_code (Ok DoneWithWarning) = 1
+verdict_code (Ok (Error e)) = 256 + e
+verdict_code (Ok (ErrorWithWarning e)) = 512 + e
+verdict_code (Err b) = 1024 + check_number b
 
 -- 0 while a reply's length is not known, then the length; 1024 + n for Bn
 abbrev pub expected_number : Expected → ℕ
-expected_number Unknown = 0
-expected_number (Bytes n) = n
-expected_number (expected.Refused b) = 1024 + check_number b
+expected_number (Ok None) = 0
+expected_number (Ok (Some n)) = n
+expected_number (Err b) = 1024 + check_number b
 
 -- 01, "a piece of the reply itself": where the data part starts in the reply, and its length, as one number
 unfoldable pub piece_number : meaning.Piece → ℕ

@@ -1,20 +1,19 @@
 // The bench: requests written, the length of a reply, replies judged, and the data part of a reply (01, "The bench").
-ghost use Rattle.std.specs.Prelude.{◌≡◌, ◌<◌, length};
+ghost use Rattle.std.specs.Prelude.{◌≡◌};
 ghost use Rattle.meaning.specs.Bench as meaning;
-ghost use Rattle.bench.specs.Outcomes.{check_number};
 ghost use Rattle.bench.specs.Lengths.{expected_length};
 ghost use Rattle.quicksetter.specs.Verdicts.{written_number, verdict_number, verdict_code, expected_number, piece_number, Writes};
 
 use crate::given::REFUSED;
-use bench::{Expected, Refusal, Verdict, Written};
+use bench::{Piece, Refusal, Unwritten, Verdict};
 
-fn written_number(written: Written) -> usize
+fn written_number(written: Result<usize, Unwritten>) -> usize
     ensures { result ≡ written_number written }
 {
     match written {
-        Written::Request { len } => len,
-        Written::R4 => REFUSED + 4,
-        Written::R5 => REFUSED + 5,
+        Ok(len) => len,
+        Err(Unwritten::R4) => REFUSED + 4,
+        Err(Unwritten::R5) => REFUSED + 5,
     }
 }
 
@@ -26,27 +25,15 @@ pub extern "C" fn qs_request(address: u32, command: u8, body: &[u8], buffer: &mu
     written_number(bench::write_request(address, command, body, buffer))
 }
 
-fn wide(b: u8) -> u32
-    ensures { (result ≡ b) × (result < 256) }
+fn verdict_code(judged: Result<Verdict, Refusal>) -> u32
+    ensures { result ≡ verdict_code judged }
 {
-    b as u32
-}
-
-fn refusal_number(refusal: Refusal) -> u32
-    ensures { (result ≡ check_number refusal) × (result < 7) }
-{
-    wide(refusal.number())
-}
-
-fn verdict_code(verdict: Verdict) -> u32
-    ensures { result ≡ verdict_code verdict }
-{
-    match verdict {
-        Verdict::Done => 0,
-        Verdict::DoneWithWarning => 1,
-        Verdict::Error(code) => 256 + wide(code),
-        Verdict::ErrorWithWarning(code) => 512 + wide(code),
-        Verdict::Refused(refusal) => 1024 + refusal_number(refusal),
+    match judged {
+        Ok(Verdict::Done) => 0,
+        Ok(Verdict::DoneWithWarning) => 1,
+        Ok(Verdict::Error(code)) => 256 + u32::from(code),
+        Ok(Verdict::ErrorWithWarning(code)) => 512 + u32::from(code),
+        Err(refusal) => 1024 + u32::from(refusal.number()),
     }
 }
 
@@ -62,20 +49,17 @@ pub extern "C" fn qs_judge(request: &[u8], reply: &[u8]) -> u32
 pub extern "C" fn qs_data_part(request: &[u8], reply: &[u8]) -> u64
     ensures { result ≡ piece_number (meaning.handed request.now reply.now) }
 {
-    let verdict = bench::judge(request, reply);
-    let piece = verdict.piece(reply.len());
-    let place = piece.from as u64;
-    let length = piece.count as u64;
-    place * 0x100000000 + length
+    let piece = Piece::of(bench::judge(request, reply), reply.len());
+    piece.from as u64 * 0x100000000 + piece.count as u64
 }
 
-fn expected_number(expected: Expected) -> u64
+fn expected_number(expected: Result<Option<usize>, Refusal>) -> u64
     ensures { result ≡ expected_number expected }
 {
     match expected {
-        Expected::Unknown => 0,
-        Expected::Bytes(n) => n as u64,
-        Expected::Refused(refusal) => 1024 + refusal_number(refusal) as u64,
+        Ok(None) => 0,
+        Ok(Some(n)) => n as u64,
+        Err(refusal) => 1024 + u64::from(refusal.number()),
     }
 }
 

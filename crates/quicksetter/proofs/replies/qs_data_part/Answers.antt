@@ -3,4 +3,4 @@ use Rattle.quicksetter.proofs.Judging.{piece_number_lem}
 use Rattle.quicksetter.proofs.replies.qs_data_part.Goals as goal
 
 pub returns : goal.returns
-returns c = piece_number_lem c.args.request.now c.args.reply.now c.piece-piece.result c.judge-verdict.result c.judge-verdict.ensures c.piece-piece.ensures
+returns c = piece_number_lem c.args.request.now c.args.reply.now c.of-piece.result c.judge.result c.judge.ensures c.of-piece.ensures
