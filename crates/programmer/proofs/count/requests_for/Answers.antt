@@ -19,7 +19,7 @@ pub returns : goal.returns
 returns c =
     let x = c.args.fields in
     let e : c.sum.result ≡ requests_for (fields_left x) =
-    sum_from_yields_List c.map.result _ c.sum.ensures.ran
+    sum_from_yields_List c.map.result c.sum.result c.sum.ensures.ran
     (YieldsList-from_map _ cost_of (YieldsList-at c.map.ensures.source (YieldsList-from_first field_as fields_left (fields_left c.args.fields) refl)) c.map.ensures.closure (λ y r q k. search (rules, tests)))
     ∙ sym (summed (fields_left x)) in
     (e, omega (arith, e, requests_few (fields_left x), all-few x.left (drop x.at x.tape.now)))
