@@ -58,9 +58,6 @@ module _ (t : List ℕ) (B : (i : ℕ) → get_or t i 0 < 256) where
 -- ---- a run that is handed in
 
 module _ (t : List ℕ) (n : ℕ) where
-  pub given_fault : (f : TapeFault) → checked_tape t ≡ Err f → Err (Tape f) ≡ given_by t n
-  given_fault f e = rw e
-
   module _ (whole : checked_tape t ≡ good) (x : Programmer) (is : x ≡ run_in n) where
     pub given_other : (r : ℕ) → r ≡ run_number x → (r ≡ n → ⊥) → Err R3 ≡ given_by t n
     unfolding is_run
@@ -71,12 +68,6 @@ module _ (t : List ℕ) (n : ℕ) where
     module _ (r : ℕ) (h : r ≡ run_number x) (same : r ≡ n) where
       its_number : eqb (run_number (run_in n)) n ≡ true
       its_number = eq-eqb (run_number (run_in n)) n (sym (h ∙ ap run_number is) ∙ same)
-
-      pub given_impossible : (q : Bool) → q ≡ is_possible (wish_of t) x → q ≡ false → Err R3 ≡ given_by t n
-      unfolding is_run
-      given_impossible q p f =
-          let g : is_possible (wish_of t) (run_in n) ≡ false = ap (is_possible (wish_of t)) (sym is) ∙ sym p ∙ f in
-          rw (whole, its_number, g)
 
       pub given_run : (q : Bool) → q ≡ is_possible (wish_of t) x → q ≡ true → Ok x ≡ given_by t n
       unfolding is_run
@@ -106,26 +97,6 @@ module _ (t : List ℕ) (n : ℕ) where
 
   pub held-run : (v : Given) (x : Programmer) → v ≡ given_by t n → v ≡ Ok x → Held x
   held-run v x e h = rw (sym e ∙ h) at held_by
-
--- ---- qp_next
-
-pub asked_as : (v : Asked) (buffer : List ℕ) → record { number = asked_number v; buffer = buffer } ≡ request_of (asked_of v buffer)
-asked_as (Ok (Some n)) buffer = refl
-asked_as (Ok None) buffer = refl
-asked_as (Err unwritten.R4) buffer = refl
-asked_as (Err unwritten.R5) buffer = refl
-
-module _ (t : List ℕ) (n : ℕ) (v : Given) (e : v ≡ given_by t n) (buffer : List ℕ) where
-  pub next-refused : (k : Refusal) → v ≡ Err k → ◌≡◌ {A = NextAnswer} (record { number = refusal_number k; buffer = buffer }) (next_by (given_by t n) (wish_of t) buffer)
-  next-refused k h = rw (← e, h)
-
-  module _ (x : Programmer) (h : v ≡ Ok x) where
-    pub next-short : length buffer < 135 → ◌≡◌ {A = NextAnswer} (record { number = refused_with 4; buffer = buffer }) (next_by (given_by t n) (wish_of t) buffer)
-    next-short s = rw (← e, h, lt-ltb (length buffer) 135 s)
-
-    pub next-asked : 135 ≤ length buffer → (w : Asked) (buffer' : List ℕ) (r : ℕ) → asked_of w buffer' ≡ asks x.address (wish_of t) x.standing buffer → r ≡ asked_number w
-        → ◌≡◌ {A = NextAnswer} (record { number = r; buffer = buffer' }) (next_by (given_by t n) (wish_of t) buffer)
-    next-asked s w buffer' r k q = rw (← e, h, le-ltb (length buffer) 135 s, ← k, q) (asked_as w buffer')
 
 -- ---- qp_progress
 

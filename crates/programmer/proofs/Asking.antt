@@ -1,25 +1,23 @@
 -- Laws of the wanted fields as the code finds them, and of the requests that it writes. Assumes nothing.
-use Prim.Native.Nat.{ℕ, zero, suc, ◌+◌, ◌-◌, ◌/◌, ◌%◌, ◌≤◌, ◌<◌}
+use Prim.Native.Nat.{ℕ, zero, suc, ◌+◌, ◌/◌, ◌%◌, ◌≤◌, ◌<◌}
 use mathlib.Core.Path.{◌≡◌, refl, sym, ap, ◌∙◌}
 use mathlib.Core.Bool.{true, false}
-use mathlib.Core.List.{List, [], ◌∷◌, ◌++◌, append-nil}
+use mathlib.Core.List.{List, [], ◌∷◌, ◌++◌}
 use native.Mathlib.Omega.{arith}
 use lib.ListN.{length, take, drop, get_or-eq_default}
 use lib.Seq.{take_at}
-use borrow.Author.Tests.{lt-ltb, le-ltb, ne_eqb, eqb-false}
-use Rattle.meaning.specs.Bytes.{arg, put, same}
+use borrow.Author.Tests.{lt-ltb, le-ltb, eqb-false}
+use Rattle.meaning.specs.Bytes.{arg, same}
 use Rattle.meaning.specs.Fields.{code_no, writable, attributes}
 use Rattle.meaning.specs.Bench as meaning
-use Rattle.meaning.proofs.Puts.{put_front}
 use Rattle.records.proofs.Bytes.{part-byte}
 use Rattle.programmer.specs.Wishes.{Field, Wish, no_field, wanted, code_for, wish_of}
-use Rattle.programmer.specs.Steps.{due, enabled, making, clearing, locking, onto}
+use Rattle.programmer.specs.Steps.{due, enabled, making, locking, onto}
 use Rattle.programmer.specs.Reading.{FoundField, Wants}
-use Rattle.programmer.specs.declared.step.Step.TheVariants.{Count, Look, Remove, Create, Store, Read, Lock}
+use Rattle.programmer.specs.declared.step.Step.TheVariants.{Remove, Create, Store, Read, Lock}
 use Rattle.programmer.specs.declared.step.Step.{Step}
 use Rattle.programmer.specs.declared.step.Why.TheVariants.{Differs}
 use Rattle.programmer.specs.declared.wish.Wanted.{Wanted}
-use Rattle.programmer.specs.declared.step.Standing.{Standing}
 use Rattle.programmer.specs.declared.step.Standing.TheVariants.{At, Done, Failed}
 
 pub code_is : (s : List ℕ) (st k : ℕ) → k ≡ code_no st → k < 4 → arg s (4 + k) ≡ code_for (wish_of s) st
@@ -41,14 +39,6 @@ wants_none l i w h z y =
       bytes_are = ap (λ (f : Field). f.bytes) e ∙ y;
       few = rw (← y) (omega arith);
     }
-
-pub enabled_yes : (st : ℕ) → writable st ≡ true → st ≡ enabled st
-unfolding enabled
-enabled_yes st e = rw e
-
-pub enabled_no : (st : ℕ) → writable st ≡ false → st + 64 ≡ enabled st
-unfolding enabled
-enabled_no st e = rw e
 
 -- without bit 6 there is room for it
 pub clear_bit : (st : ℕ) → writable st ≡ false → st / 64 % 2 ≡ 0
@@ -77,29 +67,13 @@ module _ (l : Wish) (i : ℕ) (w : Wanted) (W : Wants l i w) (c : ℕ) (e : c �
   unfolding due
   fetch_body = rw (W.status_is, W.bytes_are, e)
 
-  pub store_body : (d last : List ℕ) → last ≡ put d 0 w.bytes.now → take (4 + n) (i ∷ 0 ∷ n ∷ c ∷ (last ++ [])) ≡ (due l (Store i)).body
+  pub store_body : (last rest : List ℕ) → last ≡ w.bytes.now → take (4 + n) (i ∷ 0 ∷ n ∷ c ∷ (last ++ rest)) ≡ (due l (Store i)).body
   unfolding due
-  store_body d last q =
+  store_body last rest q =
       let z : 4 + n ≡ suc (suc (suc (suc n))) = omega arith in
-      rw (W.status_is, W.bytes_are, z, append-nil, q, put_front d w.bytes.now, take_at w.bytes.now (drop n d) n refl, e)
-
-pub clearing-none : (l : Wish) (n : ℕ) → n ≡ 0 → making l 0 ≡ clearing l n
-unfolding clearing
-clearing-none l n e = rw e
-
-pub clearing-some : (l : Wish) (n : ℕ) → (n ≡ 0 → ⊥) → At (Look (n - 1)) ≡ clearing l n
-unfolding clearing
-clearing-some l n e = rw (ne_eqb n 0 e)
+      rw (W.status_is, W.bytes_are, z, q, take_at w.bytes.now rest n refl, e)
 
 module _ (l : Wish) (i : ℕ) (w : Wanted) (W : Wants l i w) where
-  pub locking-enabled : writable w.status ≡ true → making l (i + 1) ≡ locking l i
-  unfolding locking
-  locking-enabled e = rw (W.status_is, e)
-
-  pub locking-locked : writable w.status ≡ false → At (Lock i) ≡ locking l i
-  unfolding locking
-  locking-locked e = rw (W.status_is, e)
-
   pub read_differs : (d : List ℕ) → same (drop 3 d) w.bytes.now ≡ false → Failed (Read i) Differs ≡ onto l (Read i) d
   unfolding onto
   read_differs d e = rw (W.bytes_are, e)
@@ -124,14 +98,3 @@ create-body l i w o c W p q = rw (W.status_is, p, q)
 pub lock-body : (l : Wish) (i : ℕ) (w : Wanted) (c : ℕ) → Wants l i w → c ≡ code_for l w.status → i ∷ w.status ∷ c ∷ [] ≡ (due l (Lock i)).body
 unfolding due
 lock-body l i w c W q = rw (W.status_is, q)
-
-pub onto_as : (l : Wish) (x st : Step) (d : List ℕ) (y : Standing) → x ≡ st → y ≡ onto l st d → y ≡ onto l x d
-onto_as l x st d y e h = rw e h
-
-pub counted-onto : (l : Wish) (n : ℕ) (d : List ℕ) (y : Standing) → y ≡ clearing l n → n ≡ arg d 1 → y ≡ onto l Count d
-unfolding onto
-counted-onto l n d y e h = e ∙ ap (clearing l) h
-
-pub looked_onto : (l : Wish) (k n : ℕ) (d : List ℕ) → n ≡ arg d 1 → At (Remove k n) ≡ onto l (Look k) d
-unfolding onto
-looked_onto l k n d h = rw h

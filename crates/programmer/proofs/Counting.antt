@@ -9,15 +9,13 @@ use native.Mathlib.Omega.{arith}
 use native.Mathlib.Nat.{not-suc-le-zero, le_of_suc-le-suc}
 use lib.Dec.{T, leb, ltb, leb→le}
 use lib.ListN.{length, get_or, take}
-use borrow.Author.Tests.{lt-ltb, le-ltb, le-leb, lt-leb}
-use types.Run.{OneOf, miss}
-use denote.Enum.Declared.{tag_of}
+use borrow.Author.Tests.{lt-ltb, le-ltb}
 use Rattle.meaning.specs.Bytes.{pick, both}
 use Rattle.meaning.specs.Fields.{writable}
 use Rattle.meaning.specs.Bench.{address_ok}
 use Rattle.meaning.proofs.Steps.{both_0, both_1}
 use Rattle.programmer.specs.Wishes.{Field, Wish, no_field, wanted}
-use Rattle.programmer.specs.Steps.{still_there, requests_for, in_all, answered, answered_at}
+use Rattle.programmer.specs.Steps.{requests_for, in_all, answered, answered_at}
 use Rattle.programmer.specs.Reading.{FoundField}
 use Rattle.programmer.specs.Running.{progress_of, can_stand, is_possible}
 use Rattle.programmer.specs.declared.count.Progress.{Progress}
@@ -27,15 +25,6 @@ use Rattle.programmer.specs.declared.step.Step.{Step}
 use Rattle.programmer.specs.declared.step.Step.TheVariants.{Count, Look, Remove, Create, Store, Read, Lock}
 use Rattle.programmer.specs.declared.step.Standing.{Standing}
 use Rattle.programmer.specs.declared.step.Standing.TheVariants.{At, Done, Failed}
-use Rattle.programmer.specs.contracts.step.Standing.{the_type}
-
--- ---- the requests for one wanted field more
-
-pub cost_open : (st : ℕ) → writable st ≡ true → 3 ≡ 3 + pick (writable st) 0 1
-cost_open st e = rw e
-
-pub cost_locked : (st : ℕ) → writable st ≡ false → 4 ≡ 3 + pick (writable st) 0 1
-cost_locked st e = rw e
 
 pub cost_few : (q : Bool) → 3 + pick q 0 1 ≤ 4
 cost_few true = omega arith
@@ -79,32 +68,11 @@ module _ (l : Wish) (i : ℕ) where
   pub locked_none : length l.fields ≤ i → false ≡ both (ltb i (length l.fields)) (not (writable (wanted l i).status))
   locked_none h = rw (le-ltb i (length l.fields) h)
 
--- ---- what a run can have left
-
-module _ (l : Wish) (x : Programmer) where
-  pub bad-address : address_ok x.address ≡ false → false ≡ is_possible l x
-  unfolding is_possible
-  bad-address e = rw e
-
-  module _ (good : address_ok x.address ≡ true) where
-    pub too_many : 255 < x.present → false ≡ is_possible l x
-    unfolding is_possible
-    too_many h = rw (good, lt-leb x.present 255 h)
-
-    pub stands_as : x.present ≤ 255 → (r : Bool) → r ≡ can_stand l x.present x.standing → r ≡ is_possible l x
-    unfolding is_possible
-    stands_as h r e = rw (good, le-leb x.present 255 h, e)
-
--- and what it can have left has few fields present
+-- what a run can have left has few fields present
 pub few_present : (l : Wish) (x : Programmer) → T (is_possible l x) → x.present ≤ 255
 unfolding is_possible
 few_present l x h =
     leb→le x.present 255 (both_0 (leb x.present 255) (can_stand l x.present x.standing) (both_1 (address_ok x.address) (both (leb x.present 255) (can_stand l x.present x.standing)) h))
-
-pub none-there : (x : Standing) → OneOf (1 ∷ 2 ∷ []) (tag_of the_type x) → 0 ≡ still_there x
-none-there (At st) k = absurd (miss (1 ∷ 2 ∷ []) 0 tt k)
-none-there Done k = refl
-none-there (Failed st w) k = refl
 
 -- ---- how far it has come
 
@@ -118,11 +86,6 @@ module _ (l : Wish) (p : ℕ) where
   stood_as st a r e h = rw (e, h)
 
 module _ (l : Wish) (x : Programmer) where
-  pub progress-at : (y : Standing) (st : Step) (r : Progress) → x.standing ≡ y → answered_at l x.present y ≡ answered l x.present st
-      → r ≡ record { answered = answered l x.present st; all = in_all l x.present } → r ≡ progress_of l x
-  unfolding progress_of
-  progress-at y st r e h k = rw (e, h) k
-
   pub progress-done : x.standing ≡ Done → (r : ℕ) → r ≡ in_all l x.present → ◌≡◌ {A = Progress} (record { answered = r; all = r }) (progress_of l x)
   unfolding progress_of
   progress-done e r h = rw (e, h)

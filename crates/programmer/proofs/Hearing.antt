@@ -1,94 +1,73 @@
 -- Laws of the programmer's entry points: what is asked, and what a verdict leads to. Assumes nothing.
 use Prim.Native.Nat.{ℕ, ◌≤◌, max}
 use mathlib.Core.Path.{◌≡◌, refl, ap, ◌∙◌}
+use mathlib.Core.Logic.{◌⊎◌, inl, inr}
 use mathlib.Core.Bool.{Bool, true, false}
-use mathlib.Core.List.{List, [], ◌∷◌}
+use mathlib.Core.List.{List, []}
 use native.Mathlib.Omega.{arith}
 use lib.Dec.{ltb}
 use lib.ListN.{length, take, drop, length-append}
 use lib.Seq.{take-append_seam}
-use borrow.Author.Tests.{eqb-false}
-use types.Run.{OneOf, miss}
-use denote.Enum.Declared.{tag_of}
 use Rattle.meaning.specs.Bytes.{both, put}
 use Rattle.meaning.specs.Commands.{command_of}
 use Rattle.meaning.specs.Bench as meaning
 use Rattle.meaning.specs.Bench.{address_ok, address_for, allowed, request, writes, judge, refusal, done, failed}
 use Rattle.meaning.specs.Demands.{contents}
 use Rattle.meaning.proofs.Puts.{put_front}
-use Rattle.std.specs.Prelude.{Some, Ok, Err}
+use Rattle.std.specs.Prelude.{Ok, Err}
 use Rattle.std.specs.Result.{result_unwrap_or}
-use Rattle.bench.specs.Outcomes.{Written, written_of, without_data}
-use Rattle.bench.specs.declared.request.Unwritten.{Unwritten}
+use Rattle.bench.specs.Outcomes.{Written, Judged, written_of, verdict_of, check_number, without_data}
+use Rattle.bench.specs.declared.reply.Refusal.{Refusal}
+use Rattle.bench.specs.declared.reply.Verdict.{Verdict}
+use Rattle.bench.specs.declared.reply.Verdict.TheVariants.{Done, DoneWithWarning, ErrorWithWarning}
+use Rattle.bench.specs.declared.reply.Verdict.TheVariants as bench
 use Rattle.bench.specs.declared.request.Unwritten.TheVariants.{R4, R5}
 use Rattle.programmer.specs.Wishes.{Wish}
 use Rattle.programmer.specs.Steps.{due, onto, on_verdict, bytes_due, after_reply, still_there}
-use Rattle.programmer.specs.Running.{asked_of, asks, hears}
+use Rattle.programmer.specs.Running.{hears}
 use Rattle.programmer.specs.declared.step.Step.{Step}
 use Rattle.programmer.specs.declared.step.Why.TheVariants.{Judgement, Error}
 use Rattle.programmer.specs.declared.step.Standing.{Standing}
-use Rattle.programmer.specs.declared.step.Standing.TheVariants.{At, Done, Failed}
+use Rattle.programmer.specs.declared.step.Standing.TheVariants.{At, Failed}
+use Rattle.programmer.specs.declared.step.Standing.TheVariants as standing
 use Rattle.programmer.specs.declared.run.Programmer.{Programmer}
-use Rattle.programmer.specs.contracts.step.Standing.{the_type}
 
--- the verdicts apart
-kind : meaning.Verdict → ℕ
-kind (refusal n) = 0
-kind (done w d) = 1
-kind (failed w e) = 2
-
-number : meaning.Verdict → ℕ
-number (refusal n) = n
-number (done w d) = 0
-number (failed w e) = e
-
+-- what was judged, without its data, and the verdict
 module _ (l : Wish) (st : Step) where
-  pub verdict-good : (w : Bool) (a : List ℕ) (v : meaning.Verdict) (y : Standing) → done w [] ≡ without_data v → a ≡ contents v → y ≡ onto l st a → y ≡ on_verdict l st v
-  unfolding on_verdict contents kind
-  verdict-good w a (refusal n) y e h k = absurd (eqb-false 1 0 refl (ap kind e))
-  verdict-good w a (done w' d) y e h k = k ∙ ap (onto l st) h
-  verdict-good w a (failed w' x) y e h k = absurd (eqb-false 1 2 refl (ap kind e))
+  good : (w : Bool) (a : List ℕ) (v : meaning.Verdict) (y : Standing) → done w [] ≡ without_data v → a ≡ contents v → y ≡ onto l st a → y ≡ on_verdict l st v
+  unfolding on_verdict contents
+  good w a (refusal n) y e h k = absurd cc
+  good w a (done w' d) y e h k = k ∙ ap (onto l st) h
+  good w a (failed w' x) y e h k = absurd cc
 
-  pub verdict_code_lem : (w : Bool) (x : ℕ) (v : meaning.Verdict) → failed w x ≡ without_data v → Failed st (Error x) ≡ on_verdict l st v
-  unfolding on_verdict kind number
-  verdict_code_lem w x (refusal n) e = absurd (eqb-false 2 0 refl (ap kind e))
-  verdict_code_lem w x (done w' d) e = absurd (eqb-false 2 1 refl (ap kind e))
-  verdict_code_lem w x (failed w' y) e = ap (λ (z : ℕ). Failed st (Error z)) (ap number e)
+  pub verdict_good : (j : Judged) (x : Verdict) → j ≡ Ok x → (x ≡ Done) ⊎ (x ≡ DoneWithWarning)
+      → (a : List ℕ) (v : meaning.Verdict) (y : Standing) → verdict_of j ≡ without_data v → a ≡ contents v → y ≡ onto l st a → y ≡ on_verdict l st v
+  verdict_good j x p (inl h) a v y e = good false a v y (rw (p, h) at e)
+  verdict_good j x p (inr h) a v y e = good true a v y (rw (p, h) at e)
 
-  pub verdict-unfit : (n m : ℕ) (v : meaning.Verdict) → refusal n ≡ without_data v → m ≡ n → Failed st (Judgement m) ≡ on_verdict l st v
-  unfolding on_verdict kind number
-  verdict-unfit n m (refusal k) e h = ap (λ (z : ℕ). Failed st (Judgement z)) (h ∙ ap number e)
-  verdict-unfit n m (done w d) e h = absurd (eqb-false 0 1 refl (ap kind e))
-  verdict-unfit n m (failed w x) e h = absurd (eqb-false 0 2 refl (ap kind e))
+  coded : (w : Bool) (x : ℕ) (v : meaning.Verdict) → failed w x ≡ without_data v → Failed st (Error x) ≡ on_verdict l st v
+  unfolding on_verdict
+  coded w x (refusal n) e = absurd cc
+  coded w x (done w' d) e = absurd cc
+  coded w x (failed w' y) e = let z : x ≡ y = cc in rw z
 
--- a run that is over
-module _ (n : ℕ) (l : Wish) where
-  pub asks-over : (x : Standing) (buffer : List ℕ) → OneOf (1 ∷ 2 ∷ []) (tag_of the_type x) → ◌≡◌ {A = meaning.Written} (record { refusal = 6; count = 0; buffer = buffer }) (asks n l x buffer)
-  unfolding asks
-  asks-over (At st) buffer k = absurd (miss (1 ∷ 2 ∷ []) 0 tt k)
-  asks-over Done buffer k = refl
-  asks-over (Failed st w) buffer k = refl
+  pub verdict_code : (j : Judged) (x : Verdict) (n : ℕ) → j ≡ Ok x → (x ≡ bench.Error n) ⊎ (x ≡ ErrorWithWarning n)
+      → (v : meaning.Verdict) → verdict_of j ≡ without_data v → Failed st (Error n) ≡ on_verdict l st v
+  verdict_code j x n p (inl h) v e = coded false n v (rw (p, h) at e)
+  verdict_code j x n p (inr h) v e = coded true n v (rw (p, h) at e)
 
-  pub heard-over : (x : Standing) (r : List ℕ) → OneOf (1 ∷ 2 ∷ []) (tag_of the_type x) → after_reply n l x r ≡ x
-  unfolding after_reply
-  heard-over (At st) r k = absurd (miss (1 ∷ 2 ∷ []) 0 tt k)
-  heard-over Done r k = refl
-  heard-over (Failed st w) r k = refl
+  pub verdict_unfit : (j : Judged) (b : Refusal) (m : ℕ) → j ≡ Err b → m ≡ check_number b
+      → (v : meaning.Verdict) → verdict_of j ≡ without_data v → Failed st (Judgement m) ≡ on_verdict l st v
+  unfolding on_verdict
+  verdict_unfit j b m p h (refusal k) e = let z : m ≡ k = h ∙ (let q : refusal (check_number b) ≡ refusal k = rw p at e in cc) in rw z
+  verdict_unfit j b m p h (done w d) e = let q : refusal (check_number b) ≡ done w [] = rw p at e in absurd cc
+  verdict_unfit j b m p h (failed w x) e = let q : refusal (check_number b) ≡ failed w x = rw p at e in absurd cc
 
-  module _ (x : Standing) (st : Step) (at : x ≡ At st) (buffer buffer' : List ℕ) where
-    pub asks-length : (k : ℕ) → written_of (Ok k) buffer' ≡ writes n (due l st).command (due l st).body buffer → asked_of (Ok (Some k)) buffer' ≡ asks n l x buffer
-    unfolding asks
-    asks-length k h = rw at h
-
-    pub asks-unwritten : (u : Unwritten) → written_of (Err u) buffer' ≡ writes n (due l st).command (due l st).body buffer → asked_of (Err u) buffer' ≡ asks n l x buffer
-    unfolding asks
-    asks-unwritten R4 h = rw at h
-    asks-unwritten R5 h = rw at h
-
-  module _ (x : Standing) (st : Step) (at : x ≡ At st) where
-    pub heard-at : (q r : List ℕ) (y : Standing) → q ≡ bytes_due n l (At st) → y ≡ on_verdict l st (judge q r) → y ≡ after_reply n l x r
-    unfolding after_reply
-    heard-at q r y e h = rw at (h ∙ ap (λ (z : List ℕ). on_verdict l st (judge z r)) e)
+-- where the request is due that was judged
+pub heard-at : (n : ℕ) (l : Wish) (x : Standing) (st : Step) → x ≡ At st
+    → (q r : List ℕ) (y : Standing) → q ≡ bytes_due n l (At st) → y ≡ on_verdict l st (judge q r) → y ≡ after_reply n l x r
+unfolding after_reply
+heard-at n l x st at q r y e h = rw at (h ∙ ap (λ (z : List ℕ). on_verdict l st (judge z r)) e)
 
 -- what is written is what is sent
 abbrev pub length_written : Written → ℕ
@@ -148,18 +127,6 @@ module _ (n : ℕ) (l : Wish) (st : Step) (w : Written) (buffer buffer' : List �
 
 -- the programmer after a reply
 module _ (l : Wish) (x : Programmer) (r : List ℕ) where
-  pub hears-over : OneOf (1 ∷ 2 ∷ []) (tag_of the_type x.standing) → x ≡ hears l x r
-  unfolding hears after_reply
-  hears-over k = go x.standing refl k
-    where
-      same_present : max x.present 0 ≡ x.present
-      same_present = omega arith
-
-      go : (y : Standing) → x.standing ≡ y → OneOf (1 ∷ 2 ∷ []) (tag_of the_type y) → x ≡ hears l x r
-      go (At st) q k = absurd (miss (1 ∷ 2 ∷ []) 0 tt k)
-      go Done q k = rw (q, same_present)
-      go (Failed st w) q k = rw (q, same_present)
-
   pub hears_ended : ((st : Step) → x.standing ≡ At st → ⊥) → x ≡ hears l x r
   unfolding hears after_reply
   hears_ended n = go x.standing refl
@@ -169,7 +136,7 @@ module _ (l : Wish) (x : Programmer) (r : List ℕ) where
 
       go : (y : Standing) → x.standing ≡ y → x ≡ hears l x r
       go (At st) q = absurd (n st q)
-      go Done q = rw (q, same_present)
+      go standing.Done q = rw (q, same_present)
       go (Failed st w) q = rw (q, same_present)
 
   pub hears_as : (k : ℕ) (y : Standing) → y ≡ after_reply x.address l x.standing r → k ≡ max x.present (still_there y)

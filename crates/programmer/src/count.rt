@@ -10,7 +10,7 @@ ghost use Rattle.programmer.specs.Running.{progress_of};
 
 use crate::run::Programmer;
 use crate::step::{Standing, Step};
-use crate::wish::{Fields, first_fields};
+use crate::wish::{Fields, MOST_FIELDS, first_fields};
 
 // The requests answered, and all.
 #[derive(Clone, Copy, PartialEq, Eq, Debug)]
@@ -45,7 +45,7 @@ fn count(tape: &[u8], i: usize) -> Counts
 {
     Counts {
         before: requests_for(first_fields(tape, i)),
-        all: requests_for(first_fields(tape, 256)),
+        all: requests_for(first_fields(tape, MOST_FIELDS)),
     }
 }
 

@@ -21,10 +21,7 @@ fn is_wanted(tape: &[u8], field: u8) -> bool
 fn is_read_only(tape: &[u8], field: u8) -> bool
     ensures { result ≡ both (ltb field (length (wish_of tape.now).fields)) (not (writable (wishes.wanted (wish_of tape.now) field).status)) }
 {
-    match find(tape, usize::from(field)) {
-        Some(wanted) => !wire::is_writable(wanted.status),
-        None => false,
-    }
+    find(tape, usize::from(field)).is_some_and(|wanted| !wire::is_writable(wanted.status))
 }
 
 fn is_reachable(tape: &[u8], present: u32, step: Step) -> bool

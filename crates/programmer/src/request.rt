@@ -76,8 +76,8 @@ fn store(address: u32, tape: &[u8], field: u8, buffer: &mut [u8]) -> Result<usiz
     body[0] = field;
     body[2] = count as u8;
     body[3] = code_for(tape, wanted.status);
-    wire::fill(wanted.bytes, &mut body[4..]);
     let len = 4 + count;
+    body[4..len].copy_from_slice(wanted.bytes);
     bench::write_request(address, 0x4B, &body[..len], buffer)
 }
 

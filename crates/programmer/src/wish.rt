@@ -10,7 +10,7 @@ ghost use Rattle.programmer.specs.Reading.{RecordStands, FieldAt, field_as, fiel
 use records::{Cursor, Record};
 
 // A field's number is one byte.
-const MOST_FIELDS: usize = 256;
+pub(crate) const MOST_FIELDS: usize = 256;
 
 // What is wrong with a tape: a bad record; a body that is not of its field's size. The place is that of the record's first byte.
 #[derive(Clone, Copy, PartialEq, Eq, Debug)]

@@ -17,7 +17,7 @@ use Rattle.meaning.proofs.Choices.{told-true}
 use Rattle.meaning.proofs.Plates.{whole-label}
 use Rattle.meaning.proofs.Puts.{put_front}
 use Rattle.board.specs.Board.{state_of}
-use Rattle.exchange.specs.Passing.{Ended, refused, heard, ended_of, refusal_for, reached, answer_to, passed}
+use Rattle.exchange.specs.Passing.{Ended, refused, heard, ended_of, board_after, refusal_for, reached, answer_to, passed}
 use Rattle.programmer.specs.Wishes.{Wish, wish_of}
 use Rattle.programmer.specs.Steps.{due}
 use Rattle.programmer.specs.Running.{at_first, hears}
@@ -110,14 +110,14 @@ exchange_is_one p b n l x st spacing q kept m w r q' kept' m' w' k j v P e = go 
     o = answer_to p (resting (state_of b kept)) m (address_for n) c d
 
     go : (t : Bool) → eqb (refusal_for p b n c d spacing q kept m w) 0 ≡ t
-        → ◌≡◌ {A = Scene} (record { programmer = hears l x (take j w'); state = state_of r.board kept'; memory = m' }) (record { programmer = hears l x o.reply; state = o.state; memory = o.memory })
+        → ◌≡◌ {A = Scene} (record { programmer = hears l x (take j w'); state = state_of (board_after b r) kept'; memory = m' }) (record { programmer = hears l x o.reply; state = o.state; memory = o.memory })
     go true f =
-        let y : reply_bytes (ended_of r.ended) ≡ length o.reply = ap reply_bytes P.ended ∙ rw f in
+        let y : reply_bytes (ended_of r) ≡ length o.reply = ap reply_bytes P.ended ∙ rw f in
         let z : j ≡ length o.reply = ap reply_bytes (sym e) ∙ y in
         let a : take j w' ≡ o.reply = rw (z, P.room, f) (front_again w o.reply) in
         rw (a, P.state, P.memory, f)
     go false f =
-        let y : was_heard (ended_of r.ended) ≡ false = ap was_heard P.ended ∙ rw f in
+        let y : was_heard (ended_of r) ≡ false = ap was_heard P.ended ∙ rw f in
         absurd (false≢true (sym y ∙ ap was_heard e))
 
 rests : (n : ℕ) (l : Wish) (s : board.State) → s.codes ≡ l.codes → s.address ≤ last_address → T (reached s (address_for n)) → Met n l (resting s)

@@ -28,7 +28,8 @@ use Rattle.programmer.specs.declared.step.Step.{Step}
 use Rattle.programmer.specs.declared.step.Step.TheVariants.{Count, Look, Remove, Create, Store, Read, Lock}
 use Rattle.programmer.specs.declared.step.Standing.{Standing}
 use Rattle.programmer.specs.declared.step.Standing.TheVariants.{At, Done}
-use Rattle.programmer.proofs.Allowed.{fits-at, may_store, may_read}
+use Rattle.programmer.proofs.Allowed.{may_store, may_read}
+use Rattle.programmer.proofs.Reading.{fits-at}
 use Rattle.shop.proofs.Laid.{Laid, laid_count, laid_first, laid_sound, laid_of, laid_gone, laid_made, made_low, laid_stored, stored_low, laid_set, relaid_data}
 use Rattle.shop.proofs.Answers.{told-count, told-status, deleted, made, changed, stored, brought, blocks-few}
 use Rattle.shop.proofs.Kept.{statuses, statuses-length, statuses-at, statuses_snoc, enabled-exists, enabled-blocks, enabled-code, enabled-writable, Kept, kept-none, kept_more}

@@ -7,12 +7,10 @@ use Rattle.meaning.specs.Frames.{resting}
 use Rattle.meaning.specs.Bench.{Verdict, address_ok, address_for}
 use Rattle.board.specs.Board.{state_of}
 use Rattle.board.specs.declared.limits.Board.{Board}
-use Rattle.exchange.specs.Passing.{heard, ended_of, reached, answer_to, Passes}
-use Rattle.exchange.specs.declared.asking.Exchanged.{Exchanged}
-use Rattle.programmer.specs.Wishes.{Wish, checked_tape, wish_of}
+use Rattle.exchange.specs.Passing.{Answer, heard, ended_of, board_after, reached, answer_to, Passes}
+use Rattle.programmer.specs.Wishes.{Wish, good, checked_tape, wish_of}
 use Rattle.programmer.specs.Steps.{due, in_all}
 use Rattle.programmer.specs.Running.{at_first, hears}
-use Rattle.programmer.specs.declared.wish.Checked.TheVariants.{Good}
 use Rattle.programmer.specs.declared.run.Programmer.{Programmer}
 use Rattle.programmer.specs.declared.step.Step.{Step}
 use Rattle.programmer.specs.declared.step.Standing.{Standing}
@@ -35,9 +33,9 @@ exchanged_on p n l (suc k) x = exchanged_on p n l k (exchanged_at p n l x.progra
 -- .. and that is what a call of `exchange` leaves, by its contract alone (exchange, `Passes`), where it was not refused: the reply's j bytes stand at the front
 -- of the room, and the board, its kept bytes lent, has the new state
 abbrev pub ExchangeIsOne : Type 0
-ExchangeIsOne = (p : board.Plate) (b : Board) (n : ℕ) (l : Wish) (x : Programmer) (st : Step) (spacing : ℕ) (q kept m w : List ℕ) (r : Exchanged) (q' kept' m' w' : List ℕ) (k j : ℕ) (v : Verdict)
-    → Passes p b n (due l st).command (due l st).body spacing q kept m w r q' kept' m' w' → ended_of r.ended ≡ heard k j v
-    → ◌≡◌ {A = Scene} (record { programmer = hears l x (take j w'); state = state_of r.board kept'; memory = m' })
+ExchangeIsOne = (p : board.Plate) (b : Board) (n : ℕ) (l : Wish) (x : Programmer) (st : Step) (spacing : ℕ) (q kept m w : List ℕ) (r : Answer) (q' kept' m' w' : List ℕ) (k j : ℕ) (v : Verdict)
+    → Passes p b n (due l st).command (due l st).body spacing q kept m w r q' kept' m' w' → ended_of r ≡ heard k j v
+    → ◌≡◌ {A = Scene} (record { programmer = hears l x (take j w'); state = state_of (board_after b r) kept'; memory = m' })
     (exchanged_at p n l (At st) (record { programmer = x; state = state_of b kept; memory = m }))
 
 -- our board, a sound memory, the tape's codes in force, fields that fit, the programmer told the board's address (or broadcast): as many exchanges as `in_all`
@@ -46,6 +44,6 @@ abbrev pub ProgramsByExchange : Type 0
 ProgramsByExchange = (p : board.Plate) (n : ℕ) (t : List ℕ) (s : board.State) (m : List ℕ) (k : ℕ)
     → T (plate_ok p) → T (address_ok n) → s.address ≤ last_address → T (reached s (address_for n))
     → length m ≡ memory_length p.total → T (sound p.total (table p.total m))
-    → checked_tape t ≡ Good → blocks_of (wish_of t).fields ≤ p.total → s.codes ≡ (wish_of t).codes
+    → checked_tape t ≡ good → blocks_of (wish_of t).fields ≤ p.total → s.codes ≡ (wish_of t).codes
     → in_all (wish_of t) (field_count (table p.total m)) ≤ k
     → Programmed p.total (wish_of t) (talk_of (exchanged_on p n (wish_of t) k (record { programmer = at_first n; state = s; memory = m })))

@@ -8,10 +8,9 @@ use Rattle.meaning.specs.Characters.{full_pause}
 use Rattle.meaning.specs.Run.{Call, poll, run_from, closes}
 use Rattle.meaning.specs.Bench.{address_ok, address_for, request}
 use Rattle.meaning.specs.Demands.{Sent, Told}
-use Rattle.programmer.specs.Wishes.{Wish, checked_tape, wish_of}
+use Rattle.programmer.specs.Wishes.{Wish, good, checked_tape, wish_of}
 use Rattle.programmer.specs.Steps.{due, in_all}
 use Rattle.programmer.specs.Running.{at_first, hears}
-use Rattle.programmer.specs.declared.wish.Checked.TheVariants.{Good}
 use Rattle.programmer.specs.declared.run.Programmer.{Programmer}
 use Rattle.programmer.specs.declared.step.Standing.{Standing}
 use Rattle.programmer.specs.declared.step.Standing.TheVariants.{At, Done, Failed}
@@ -58,7 +57,7 @@ AllCarried p n l (e ∷ es) x = Carries p n l e x.programmer.standing x.state x.
 abbrev pub ProgramsByCalls : Type 0
 ProgramsByCalls = (p : board.Plate) (n : ℕ) (t : List ℕ) (s : board.State) (m : List ℕ) (es : List Passage)
     → T (plate_ok p) → T (address_ok n) → length m ≡ memory_length p.total → T (sound p.total (table p.total m))
-    → checked_tape t ≡ Good → blocks_of (wish_of t).fields ≤ p.total → s.codes ≡ (wish_of t).codes
+    → checked_tape t ≡ good → blocks_of (wish_of t).fields ≤ p.total → s.codes ≡ (wish_of t).codes
     → AllCarried p n (wish_of t) es (record { programmer = at_first n; state = s; memory = m })
     → length es ≡ in_all (wish_of t) (field_count (table p.total m))
     → Programmed p.total (wish_of t) (talk_of (after_passages p (wish_of t) es (record { programmer = at_first n; state = s; memory = m })))

@@ -11,16 +11,15 @@ use Rattle.programmer.proofs.count.requests_for.Goals as goal
 
 pub sum-requires-clause-fits : goal.sum-requires-clause-fits
 sum-requires-clause-fits c =
-    let x = c.args.fields in
     fits_from_yields_list c.map.result _
-    (YieldsList-from_map _ cost_of (YieldsList-at c.map.ensures.source (YieldsList-from_first field_as fields_left _ refl)) c.map.ensures.closure (λ y r q k. search (rules, tests)))
-    (omega (arith, summed (fields_left x), requests_few (fields_left x), all-few x.left (drop x.at x.tape.now)))
+    (YieldsList-from_map _ cost_of (YieldsList-at c.map.ensures.source (YieldsList-from_first field_as fields_left (fields_left c.args.fields) refl)) c.map.ensures.closure (λ y r q k. search (rules, tests)))
+    (omega (arith, summed (fields_left c.args.fields), requests_few (fields_left c.args.fields), all-few c.args.fields.left (drop c.args.fields.at c.args.fields.tape.now)))
 
 pub returns : goal.returns
 returns c =
     let x = c.args.fields in
     let e : c.sum.result ≡ requests_for (fields_left x) =
-    sum_from_yields_List c.map.result _ c.sum.ensures.ran
-    (YieldsList-from_map _ cost_of (YieldsList-at c.map.ensures.source (YieldsList-from_first field_as fields_left _ refl)) c.map.ensures.closure (λ y r q k. search (rules, tests)))
+    sum_from_yields_List c.map.result c.sum.result c.sum.ensures.ran
+    (YieldsList-from_map _ cost_of (YieldsList-at c.map.ensures.source (YieldsList-from_first field_as fields_left (fields_left c.args.fields) refl)) c.map.ensures.closure (λ y r q k. search (rules, tests)))
     ∙ sym (summed (fields_left x)) in
     (e, omega (arith, e, requests_few (fields_left x), all-few x.left (drop x.at x.tape.now)))

@@ -8,4 +8,4 @@ pub returns : goal.returns
 returns c =
     c.write_request.ensures
     ∙ ap (λ (d : List ℕ). writes c.args.address 0x4B d c.args.buffer.now)
-    (store_body _ _ _ c.wanted-wanted.ensures _ c.code_for.ensures _ _ c.fill.ensures)
+    (store_body _ _ _ c.wanted-wanted.ensures _ c.code_for.ensures _ _ c.copy_from_slice.ensures.after)
