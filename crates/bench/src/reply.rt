@@ -219,6 +219,7 @@ pub fn judge(request: &[u8], reply: &[u8]) -> Result<Verdict, Refusal>
 }
 
 // 01, "the data part is handed back as a piece of the reply itself, and on refusal as the empty piece at its front".
+#[tactic(auto, using(crate::proofs::Verdicts::handed_by, crate::proofs::Verdicts::cut_out))]
 pub fn data_of<'a>(request: &[u8], reply: &'a [u8]) -> &'a [u8]
     ensures value { result.now ≡ part reply.now (handed request.now reply.now).from (handed request.now reply.now).count }
     ensures place { result.ref_ptr ≡ (reply.entry.ref_ptr.0, (handed request.now reply.now).from + reply.entry.ref_ptr.1) }

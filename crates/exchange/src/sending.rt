@@ -13,6 +13,7 @@ pub(crate) struct Sent {
 }
 
 // The first character ends at `tick`, each further one `apart` ticks after the last. On a clear line the board refuses none.
+// Plate, label and the three lent buffers go singly, as `board`'s calls take them, whose contracts name each.
 pub(crate) fn send(
     plate: Plate,
     label: &[u8],

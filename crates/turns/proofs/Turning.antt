@@ -16,15 +16,16 @@ use Rattle.meaning.proofs.Limits.{replies_fit}
 use Rattle.meaning.proofs.Puts.{length-put, put_front}
 use Rattle.line.specs.declared.plate.Plate.{Plate}
 use Rattle.board.specs.declared.limits.Board.{Board}
-use Rattle.board.specs.declared.limits.Outcome.TheVariants.{Over, Still}
-use Rattle.board.specs.declared.limits.Stepped.{Stepped}
+use Rattle.board.specs.declared.calls.Refusal.{Refusal}
+use Rattle.board.specs.declared.calls.Stepped.{Stepped}
+use Rattle.std.proofs.Common.{Option, Some, None, Result, Ok, Err, IsOk, unwrap_or}
 use Rattle.board.specs.Board as board
-use Rattle.board.specs.Board.{state_of, fits_in, reply_length, refusal_on}
+use Rattle.board.specs.Board.{state_of, fits_in, refusal_on, unheard}
 use Rattle.board.specs.Promises.{DoesStep}
 use Rattle.board.specs.Quick.{TakesIn, ClosesNone}
 use Rattle.board.proofs.Quickening.{quiet_step, taken-quickly, polled-quickly, quick_steps}
 use Rattle.board.proofs.Stepping.{held_on}
-use Rattle.board.proofs.Promises.{does_step, unrefused, stays_within}
+use Rattle.board.proofs.Promises.{does_step, is_answered, unrefused, stays_within}
 use Rattle.tape.specs.declared.kinds.Event.{Event}
 use Rattle.tape.specs.declared.kinds.Event.TheVariants as event
 use Rattle.tape.specs.Kinds.{Said, call}
@@ -110,11 +111,11 @@ printed-line tick [] h = absurd (omega arith)
 printed-line tick (b ∷ l) h = refl
 
 -- a line for a reply, none for silence
-module _ (tick : ℕ) (st : Stepped) (w out : List ℕ) (used n : ℕ) (r : Turned) (same : n ≡ reply_length st.outcome) where
+module _ (tick : ℕ) (st : Stepped) (w out : List ℕ) (used n : ℕ) (r : Turned) (same : n ≡ unwrap_or st.reply 0) where
   pub no_line : r ≡ record { board = st.board; used = used; over = false } → n ≡ 0 → used ≤ length out → Answered tick st w out used r out
   unfolding printed_of
   no_line e z h =
-      let k : take (reply_length st.outcome) w ≡ [] = ap (λ (i : ℕ). take i w) (sym same ∙ z) in
+      let k : take (unwrap_or st.reply 0) w ≡ [] = ap (λ (i : ℕ). take i w) (sym same ∙ z) in
       record {
         board = ap (λ (x : Turned). x.board) e;
         over = ap (λ (x : Turned). x.over) e;
@@ -124,7 +125,7 @@ module _ (tick : ℕ) (st : Stepped) (w out : List ℕ) (used n : ℕ) (r : Turn
   pub a-line : (end : ℕ) (out' : List ℕ) → r ≡ record { board = st.board; used = end; over = false } → (n ≡ 0 → ⊥) → n ≤ length w
       → Printed (text.reply_line tick (take n w)) out used end out' → Answered tick st w out used r out'
   a-line end out' e z h p =
-      let k : printed_of (poll tick) (take (reply_length st.outcome) w) ≡ text.reply_line tick (take n w) = rw (← same) (printed-line tick (take n w) (simp length-take-le (omega arith))) in
+      let k : printed_of (poll tick) (take (unwrap_or st.reply 0) w) ≡ text.reply_line tick (take n w) = rw (← same) (printed-line tick (take n w) (simp length-take-le (omega arith))) in
       record {
         board = ap (λ (x : Turned). x.board) e;
         over = ap (λ (x : Turned). x.over) e;
@@ -132,9 +133,9 @@ module _ (tick : ℕ) (st : Stepped) (w out : List ℕ) (used n : ℕ) (r : Turn
       }
 
 -- a call that brings no reply has no line
-unheard : (p : meaning.Plate) (s : meaning.State) (m : List ℕ) (g : Call) → closes p s g ≡ false → printed_of (poll 0) (step p s m g).reply ≡ printed_of g (step p s m g).reply
+unheard_line : (p : meaning.Plate) (s : meaning.State) (m : List ℕ) (g : Call) → closes p s g ≡ false → printed_of (poll 0) (step p s m g).reply ≡ printed_of g (step p s m g).reply
 unfolding printed_of
-unheard p s m g e = rw (silent-still p s m g e)
+unheard_line p s m g e = rw (silent-still p s m g e)
 
 -- the line of a character is that of a poll at its tick
 as_poll : (tick v : ℕ) (bad : Bool) (l : List ℕ) → printed_of (poll tick) l ≡ printed_of (character tick v bad) l
@@ -144,28 +145,43 @@ as_poll tick v bad (b ∷ l) = refl
 
 -- ---- the board's call for each kind
 
-module _ {p : Plate} {b : Board} {kept m w : List ℕ} {r : Stepped} {kept' m' w' : List ℕ} where
-  pub character-called : (t v : ℕ) (f : Bool) → board.Steps (tape_plate p) b kept m w (character t v f) r kept' m' w'
-      → CallsBoard p b (said_of (event.Character t v f)) kept m w t r kept' m' w'
-  character-called t v f s = record { asked = character t v f; said = refl; stepped = s; line = as_poll t v f _ }
+module _ {p : Plate} {b : Board} {kept m w : List ℕ} {r : Result Stepped Refusal} {kept' m' w' : List ℕ} where
+  -- a sound board refuses no call
+  pub is_called : (g : Call) → Sound p b kept m w → board.Steps (tape_plate p) b kept m w g r kept' m' w' → IsOk r
+  is_called g h s = is_answered (tape_plate p) b kept m w g (unrefused (tape_plate p) b kept m (length w) g h.within h.room) s
 
-  pub poll-called : (t : ℕ) → board.Steps (tape_plate p) b kept m w (poll t) r kept' m' w' → CallsBoard p b (said_of (event.Poll t)) kept m w t r kept' m' w'
-  poll-called t s = record { asked = poll t; said = refl; stepped = s; line = refl }
+  pub character-called : (t v : ℕ) (f : Bool) {a : Stepped} → r ≡ Ok a → board.Steps (tape_plate p) b kept m w (character t v f) r kept' m' w'
+      → CallsBoard p b (said_of (event.Character t v f)) kept m w t a kept' m' w'
+  character-called t v f e s = record { asked = character t v f; said = refl; stepped = rw e at s; line = as_poll t v f _ }
 
-  unasked_called : (g : Call) → closes (tape_plate p) (state_of b kept) g ≡ false → board.Steps (tape_plate p) b kept m w g r kept' m' w' → CallsBoard p b (call g) kept m w 0 r kept' m' w'
-  unasked_called g e s = record { asked = g; said = refl; stepped = s; line = unheard (tape_plate p) (state_of b kept) m g e }
+  pub poll-called : (t : ℕ) {a : Stepped} → r ≡ Ok a → board.Steps (tape_plate p) b kept m w (poll t) r kept' m' w' → CallsBoard p b (said_of (event.Poll t)) kept m w t a kept' m' w'
+  poll-called t e s = record { asked = poll t; said = refl; stepped = rw e at s; line = refl }
 
-  pub measured-called : (n : ℕ) → board.Steps (tape_plate p) b kept m w (measured n) r kept' m' w' → CallsBoard p b (said_of (event.Measured n)) kept m w 0 r kept' m' w'
-  unfolding closes
-  measured-called n s = unasked_called (measured n) refl s
+-- .., of those that lend nothing
+module _ {p : Plate} {b : Board} {kept m w : List ℕ} where
+  pub is_noted : (r : Result Board Refusal) (g : Call) → Sound p b kept m w → board.Steps (tape_plate p) b kept m w g (unheard r) kept m w → IsOk r
+  is_noted r g h s = heard_so r (is_called g h s)
+    where
+      heard_so : (r : Result Board Refusal) → IsOk (unheard r) → IsOk r
+      heard_so (Ok x) e = refl
+      heard_so (Err x) e = e
 
-  pub fault-called : (c : ℕ) → board.Steps (tape_plate p) b kept m w (fault c) r kept' m' w' → CallsBoard p b (said_of (event.Fault c)) kept m w 0 r kept' m' w'
-  unfolding closes
-  fault-called c s = unasked_called (fault c) refl s
+  module _ {r : Result Board Refusal} {a : Board} (e : r ≡ Ok a) where
+    unasked_called : (g : Call) → closes (tape_plate p) (state_of b kept) g ≡ false → board.Steps (tape_plate p) b kept m w g (unheard r) kept m w
+        → CallsBoard p b (call g) kept m w 0 (record { board = a; reply = None; remaining = None }) kept m w
+    unasked_called g i s = record { asked = g; said = refl; stepped = rw e at s; line = unheard_line (tape_plate p) (state_of b kept) m g i }
 
-  pub power_on-called : board.Steps (tape_plate p) b kept m w power_on r kept' m' w' → CallsBoard p b (said_of event.PowerOn) kept m w 0 r kept' m' w'
-  unfolding closes
-  power_on-called s = unasked_called power_on refl s
+    pub measured-called : (n : ℕ) → board.Steps (tape_plate p) b kept m w (measured n) (unheard r) kept m w → CallsBoard p b (said_of (event.Measured n)) kept m w 0 (record { board = a; reply = None; remaining = None }) kept m w
+    unfolding closes
+    measured-called n s = unasked_called (measured n) refl s
+
+    pub fault-called : (c : ℕ) → board.Steps (tape_plate p) b kept m w (fault c) (unheard r) kept m w → CallsBoard p b (said_of (event.Fault c)) kept m w 0 (record { board = a; reply = None; remaining = None }) kept m w
+    unfolding closes
+    fault-called c s = unasked_called (fault c) refl s
+
+    pub power_on-called : board.Steps (tape_plate p) b kept m w power_on (unheard r) kept m w → CallsBoard p b (said_of event.PowerOn) kept m w 0 (record { board = a; reply = None; remaining = None }) kept m w
+    unfolding closes
+    power_on-called s = unasked_called power_on refl s
 
 -- a second plate, or a record that fits nothing
 pub none-called : (e : Event) (kept m w : List ℕ) → ((t v : ℕ) (bad : Bool) → e ≡ event.Character t v bad → ⊥) → ((t : ℕ) → e ≡ event.Poll t → ⊥)
@@ -194,7 +210,7 @@ module _ (p : Plate) (b : Board) (x : Said) (kept m w : List ℕ) (tick : ℕ) (
   willing : refusal_on (tape_plate p) b kept m (length w) g ≡ 0
   willing = unrefused (tape_plate p) b kept m (length w) g sound.within sound.room
 
-  done : DoesStep (tape_plate p) b kept m w g r kept' m' w'
+  done : DoesStep (tape_plate p) b kept m w g (Ok r) kept' m' w'
   done = does_step (tape_plate p) b kept m w g willing steps.stepped
 
   short : length reply ≤ 134
@@ -203,15 +219,18 @@ module _ (p : Plate) (b : Board) (x : Said) (kept m w : List ℕ) (tick : ℕ) (
   same_length : length w' ≡ length w
   same_length = ap length done.room ∙ length-put w 0 reply (omega (arith, short, sound.room))
 
+  told_reply : {x y : Option ℕ} → ◌≡◌ {A = Result (Option ℕ) Refusal} (Ok x) (Ok y) → x ≡ y
+  told_reply e = cc
+
   -- the reply stands at the front of its room
-  front : (c : Bool) → closes (tape_plate p) (state_of b kept) g ≡ c → reply_length (pick c (Over (length reply)) Still) ≡ length reply
+  front : (c : Bool) → closes (tape_plate p) (state_of b kept) g ≡ c → unwrap_or (pick c (Some (length reply)) None) 0 ≡ length reply
   front true e = refl
   front false e = ap length (sym (silent-still (tape_plate p) (state_of b kept) m g e))
 
-  sent_is : reply_length r.outcome ≡ length reply
-  sent_is = ap reply_length done.outcome ∙ front (closes (tape_plate p) (state_of b kept) g) refl
+  sent_is : unwrap_or r.reply 0 ≡ length reply
+  sent_is = ap (λ (x : Option ℕ). unwrap_or x 0) (told_reply done.outcome) ∙ front (closes (tape_plate p) (state_of b kept) g) refl
 
-  heard-reply : take (reply_length r.outcome) w' ≡ reply
+  heard-reply : take (unwrap_or r.reply 0) w' ≡ reply
   heard-reply = ap (λ (n : ℕ). take n w') sent_is ∙ ap (take (length reply)) (done.room ∙ put_front w reply) ∙ take-append_seam reply (drop (length reply) w)
 
   still-sound : Sound p r.board kept' m' w'
@@ -220,7 +239,7 @@ module _ (p : Plate) (b : Board) (x : Said) (kept m w : List ℕ) (tick : ℕ) (
     room = omega (arith, same_length, sound.room);
   }
 
-  pub fitting : (out : List ℕ) (used : ℕ) → used + longest_line ≤ length out → Fitting (reply_length r.outcome) w' out used
+  pub fitting : (out : List ℕ) (used : ℕ) → used + longest_line ≤ length out → Fitting (unwrap_or r.reply 0) w' out used
   fitting out used h = record {
     few = omega (arith, sent_is, short);
     room = omega (arith, sent_is, short, same_length, sound.room);

@@ -1,14 +1,15 @@
 -- One record of a running board. Assumes nothing.
-use Rattle.std.specs.Prelude.{ℕ, ◌+◌, ◌≤◌, ◌≡◌, Bool, true, false, not, List, [], length, take}
+use Rattle.std.specs.Prelude.{ℕ, ◌+◌, ◌≤◌, ◌≡◌, Bool, true, false, not, List, [], Option, Some, None, Ok, length, take}
+use Rattle.std.specs.Option.{unwrap_or}
 use Rattle.meaning.specs.Bytes.{put, longest_reply}
 use Rattle.meaning.specs.State as meaning
 use Rattle.meaning.specs.Characters.{over}
 use Rattle.meaning.specs.Run.{Call, character, poll, measured, fault, power_on, step}
 use Rattle.line.specs.declared.plate.Plate.{Plate}
 use Rattle.board.specs.declared.limits.Board.{Board}
-use Rattle.board.specs.declared.limits.Stepped.{Stepped}
+use Rattle.board.specs.declared.calls.Stepped.{Stepped}
 use Rattle.board.specs.Board as board
-use Rattle.board.specs.Board.{state_of, fits_in, reply_length}
+use Rattle.board.specs.Board.{state_of, fits_in}
 use Rattle.board.specs.Promises.{Within}
 use Rattle.tape.specs.Kinds.{Said, plate, call, unfit}
 use Rattle.tape.specs.Answers as answers
@@ -84,7 +85,7 @@ pub record Turns (p : Plate) (v : Stage) (place : ℕ) (x : Said) (kept w out : 
 pub record CallsBoard (p : Plate) (b : Board) (x : Said) (kept m w : List ℕ) (tick : ℕ) (r : Stepped) (kept' m' w' : List ℕ) : Type 0 where
   pub asked : Call
   pub said : x ≡ call asked
-  pub stepped : board.Steps (tape_plate p) b kept m w asked r kept' m' w'
+  pub stepped : board.Steps (tape_plate p) b kept m w asked (Ok r) kept' m' w'
   pub line : printed_of (poll tick) (step (tape_plate p) (state_of b kept) m asked).reply ≡ printed_of asked (step (tape_plate p) (state_of b kept) m asked).reply
 
 -- no call: the record is bad
@@ -95,12 +96,9 @@ pub record NotCalled (x : Said) (kept m w kept' m' w' : List ℕ) : Type 0 where
   pub memory : m' ≡ m
   pub room : w' ≡ w
 
-abbrev pub CallsBy : Bool → Plate → Board → Said → List ℕ → List ℕ → List ℕ → Called → List ℕ → List ℕ → List ℕ → Type 0
-CallsBy true p b x kept m w r kept' m' w' = NotCalled x kept m w kept' m' w'
-CallsBy false p b x kept m w r kept' m' w' = CallsBoard p b x kept m w r.tick r.stepped kept' m' w'
-
-abbrev pub Calls : Plate → Board → Said → List ℕ → List ℕ → List ℕ → Called → List ℕ → List ℕ → List ℕ → Type 0
-Calls p b x kept m w r kept' m' w' = CallsBy r.bad p b x kept m w r kept' m' w'
+abbrev pub Calls : Plate → Board → Said → List ℕ → List ℕ → List ℕ → Option Called → List ℕ → List ℕ → List ℕ → Type 0
+Calls p b x kept m w None kept' m' w' = NotCalled x kept m w kept' m' w'
+Calls p b x kept m w (Some r) kept' m' w' = CallsBoard p b x kept m w r.tick r.stepped kept' m' w'
 
 -- a reply of n bytes, at the front of its room, has space as a line
 pub record Fitting (n : ℕ) (w out : List ℕ) (used : ℕ) : Type 0 where
@@ -112,4 +110,4 @@ pub record Fitting (n : ℕ) (w out : List ℕ) (used : ℕ) : Type 0 where
 pub record Answered (tick : ℕ) (stepped : Stepped) (w out : List ℕ) (used : ℕ) (r : Turned) (out' : List ℕ) : Type 0 where
   pub board : r.board ≡ stepped.board
   pub over : r.over ≡ false
-  pub printed : Printed (printed_of (poll tick) (take (reply_length stepped.outcome) w)) out used r.used out'
+  pub printed : Printed (printed_of (poll tick) (take (unwrap_or stepped.reply 0) w)) out used r.used out'

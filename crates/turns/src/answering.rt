@@ -1,14 +1,15 @@
 // One record of a running board: what the board answers, what is printed.
-ghost use Rattle.std.specs.Prelude.{◌≡◌, true, false, List, ℕ, ◌+◌, ◌≤◌, length};
+ghost use Rattle.std.specs.Prelude.{◌≡◌, List, ℕ, ◌+◌, ◌≤◌, Some, None, length};
+ghost use Rattle.std.specs.Option.{unwrap_or};
 ghost use Rattle.meaning.specs.Characters.{over};
-ghost use Rattle.board.specs.Board.{state_of, reply_length};
+ghost use Rattle.board.specs.Board.{state_of};
 ghost use Rattle.tape.specs.Answers.{running};
 ghost use Rattle.tape.specs.Reader.{said_of};
 ghost use Rattle.tape.specs.Passes.{longest_line};
 ghost use Rattle.turns.specs.Openings.{tape_plate};
 ghost use Rattle.turns.specs.Turns.{Sound, quickly, Calls, Turns, Fitting, Answered};
 
-use board::{Board, Carried, Outcome, Stepped};
+use board::{Board, Stepped};
 use line::Plate;
 use tape::{Event, NO_LABEL};
 
@@ -20,19 +21,17 @@ pub struct Turned {
     pub over: bool,
 }
 
-// What the board's call brought, and the tick that its line begins with; or the record was bad and nothing was called.
+// What the board's call brought, and the tick that its line begins with.
 #[derive(Clone, Copy)]
 struct Called {
     stepped: Stepped,
     tick: u32,
-    bad: bool,
 }
 
 fn closes(plate: Plate, board: Board, tick: u32) -> bool
     ensures { (kept : List ℕ) → result ≡ over (tape_plate plate) (state_of board kept) tick }
 {
-    let left = board.remaining(plate, tick);
-    left.is_over()
+    line::is_over(board.remaining(plate, tick))
 }
 
 // Most records are characters inside a frame, or polls: what closes no frame need not be turned here, since it prints nothing.
@@ -58,12 +57,11 @@ fn after(board: Board, used: usize, over: bool) -> Turned
 
 // 01, "per reply": a line for a reply, none for silence.
 fn answered(tick: u32, stepped: Stepped, reply: &[u8], out: &mut [u8], used: usize) -> Turned
-    requires { Fitting (reply_length stepped.outcome) reply.now out.old used }
+    requires { Fitting (unwrap_or stepped.reply 0) reply.now out.old used }
     ensures { Answered tick stepped reply.now out.old used result out.new }
 {
     let board = stepped.board;
-    let outcome = stepped.outcome;
-    let n = outcome.reply_length();
+    let n = stepped.reply.unwrap_or(0);
     if n == 0 {
         return after(board, used, false);
     }
@@ -71,32 +69,20 @@ fn answered(tick: u32, stepped: Stepped, reply: &[u8], out: &mut [u8], used: usi
     after(board, end, false)
 }
 
-fn brought(stepped: Stepped, tick: u32) -> Called
-    ensures { result ≡ record { stepped = stepped; tick = tick; bad = false } }
-{
-    Called {
-        stepped,
-        tick,
-        bad: false,
-    }
-}
-
-fn not_called(board: Board) -> Called
-    ensures { result.bad ≡ true }
+// A call that closes no frame brings no reply, and its line has no tick.
+fn noted(board: Board) -> Option<Called>
+    ensures { result ≡ Some (record { stepped = record { board = board; reply = None; remaining = None }; tick = 0 }) }
 {
     let stepped = Stepped {
         board,
-        outcome: Outcome::Still,
-        sleep: Carried::Nothing,
+        reply: None,
+        remaining: None,
     };
-    Called {
-        stepped,
-        tick: 0,
-        bad: true,
-    }
+    Some(Called { stepped, tick: 0 })
 }
 
-// The board's call for what a record says; a second plate and an unfit record are none. Only a character and a poll bring a line.
+// The board's call for what a record says, which a sound board does not refuse; a second plate and an unfit record are none. Only a character and a
+// poll bring a line.
 fn ask(
     plate: Plate,
     board: Board,
@@ -104,7 +90,7 @@ fn ask(
     kept: &mut [u8],
     memory: &mut [u8],
     reply: &mut [u8],
-) -> Called
+) -> Option<Called>
     requires { Sound plate board kept.old memory.old reply.old }
     ensures { Calls plate board (said_of event) kept.old memory.old reply.old result kept.new memory.new reply.new }
 {
@@ -115,18 +101,24 @@ fn ask(
             tick,
             value,
             parity,
-        } => brought(
-            board::character(plate, none, board, tick, value, parity, kept, memory, reply),
-            tick,
-        ),
-        Event::Poll { tick } => brought(
-            board::poll(plate, none, board, tick, kept, memory, reply),
-            tick,
-        ),
-        Event::Measured { position } => brought(board::measured(plate, none, board, position), 0),
-        Event::Fault { code } => brought(board::fault(plate, none, board, code), 0),
-        Event::PowerOn => brought(board::power_on(plate, none, board), 0),
-        _ => not_called(board),
+        } => {
+            let called = board::character(
+                plate, none, board, tick, value, parity, kept, memory, reply,
+            );
+            let stepped = called.unwrap();
+            Some(Called { stepped, tick })
+        }
+        Event::Poll { tick } => {
+            let called = board::poll(plate, none, board, tick, kept, memory, reply);
+            let stepped = called.unwrap();
+            Some(Called { stepped, tick })
+        }
+        Event::Measured { position } => {
+            noted(board::measured(plate, none, board, position).unwrap())
+        }
+        Event::Fault { code } => noted(board::fault(plate, none, board, code).unwrap()),
+        Event::PowerOn => noted(board::power_on(plate, none, board).unwrap()),
+        _ => None,
     }
 }
 
@@ -146,10 +138,9 @@ pub fn turn(
     requires line_fits { used + longest_line ≤ length out.old }
     ensures { Turns plate (running (tape_plate plate) (state_of board kept.old) memory.old) place (said_of event) kept.old reply.old out.old used result kept.new memory.new reply.new out.new }
 {
-    let call = ask(plate, board, event, kept, memory, reply);
-    if call.bad {
+    let Some(call) = ask(plate, board, event, kept, memory, reply) else {
         let end = tape::bad_line(place, out, used);
         return after(board, end, true);
-    }
+    };
     answered(call.tick, call.stepped, reply, out, used)
 }

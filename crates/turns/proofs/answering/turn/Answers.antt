@@ -2,14 +2,14 @@
 use Rattle.turns.proofs.Turning.{fitting, turns_answered, turns_bad}
 use Rattle.turns.proofs.answering.turn.Goals as goal
 
-pub returns-then-call : goal.returns-then-call
-returns-then-call c =
-    turns_bad _ _ _ _ _ _ _ _ _ _ _ _ _ _ _ c.requires.within_limits (rw c.if-call.true at c.ask-call.ensures) c.bad_line-end.ensures c.after.ensures
+pub returns-in_default : goal.returns-in_default
+returns-in_default c =
+    turns_bad _ _ _ _ _ _ _ _ _ _ _ _ _ _ _ c.requires.within_limits (rw c.in_default.is at c.ask.ensures) c.bad_line-end.ensures c.after.ensures
 
 pub answered-requires : goal.answered-requires
 answered-requires c =
-    fitting _ _ _ _ _ _ _ _ _ _ _ c.requires.within_limits (rw c.if-call.false at c.ask-call.ensures) _ _ c.requires.line_fits
+    fitting _ _ _ _ _ _ _ _ _ _ _ c.requires.within_limits (rw c.in-Some.is at c.ask.ensures) _ _ c.requires.line_fits
 
 pub returns : goal.returns
 returns c =
-    turns_answered _ _ _ _ _ _ _ _ _ _ _ c.requires.within_limits (rw c.if-call.false at c.ask-call.ensures) _ c.answered.ensures
+    turns_answered _ _ _ _ _ _ _ _ _ _ _ c.requires.within_limits (rw c.in-Some.is at c.ask.ensures) _ c.answered.ensures
