@@ -1,19 +1,18 @@
 -- What is handed in with a tape, and what comes back of it. Assumes nothing.
-use Prim.Native.Nat.{ℕ, ◌≤◌, ◌<◌}
+use Prim.Native.Nat.{ℕ, ◌<◌}
 use mathlib.Core.Path.{◌≡◌, refl, sym, ap, ◌∙◌}
 use mathlib.Core.Bool.{Bool, true, false}
 use mathlib.Core.List.{List}
 use native.Mathlib.Omega.{arith}
 use lib.Dec.{T, eqb}
-use lib.ListN.{length, get_or}
-use borrow.Author.Tests.{eq-eqb, ne_eqb, lt-ltb, le-ltb}
+use lib.ListN.{get_or}
+use borrow.Author.Tests.{eq-eqb, ne_eqb}
 use Rattle.meaning.specs.Bytes.{pick, both}
 use Rattle.meaning.specs.Bench.{address_ok}
 use Rattle.meaning.proofs.Choices.{both_right, true-told}
-use Rattle.std.specs.Prelude.{Some, None, Ok, Err}
-use Rattle.bench.specs.declared.request.Unwritten.TheVariants as unwritten
+use Rattle.std.specs.Prelude.{Ok, Err}
 use Rattle.programmer.specs.Wishes.{Checked, good, checked_tape, wish_of}
-use Rattle.programmer.specs.Running.{Asked, at_first, started_by, asked_of, asks, progress_of, is_possible}
+use Rattle.programmer.specs.Running.{at_first, started_by, progress_of, is_possible}
 use Rattle.programmer.specs.declared.run.Programmer.{Programmer}
 use Rattle.programmer.specs.declared.run.StartRefusal.TheVariants as start
 use Rattle.programmer.specs.declared.wish.TapeFault.{TapeFault}
@@ -22,7 +21,7 @@ use Rattle.programmer.specs.declared.count.Progress.{Progress}
 use Rattle.programmer.proofs.Whole.{good-is-whole, place_in, low-place}
 use Rattle.programmer.proofs.Counting.{few_present, progress-few}
 use Rattle.handheld.specs.Numbers.{run_number, run_in, is_run}
-use Rattle.handheld.specs.Entries.{Given, refused_with, refusal_number, place_of, NextAnswer, asked_number, request_of, given_with, given_by, next_by}
+use Rattle.handheld.specs.Entries.{Given, place_of, given_with, given_by}
 use Rattle.handheld.specs.declared.given.Refusal.{Refusal}
 use Rattle.handheld.specs.declared.given.Refusal.TheVariants.{Tape, R3}
 
@@ -100,9 +99,9 @@ module _ (t : List ℕ) (n : ℕ) where
 
 -- ---- qp_progress
 
-pub progress-low : (t : List ℕ) (n : ℕ) (v : Given) (x : Programmer) (g : Progress) → v ≡ given_by t n → v ≡ Ok x → g ≡ progress_of (wish_of t) x
+pub progress_low : (t : List ℕ) (n : ℕ) (v : Given) (x : Programmer) (g : Progress) → v ≡ given_by t n → v ≡ Ok x → g ≡ progress_of (wish_of t) x
     → (g.answered < 0x80000000) × (g.all < 0x80000000)
-progress-low t n v x g e h k =
+progress_low t n v x g e h k =
     let H = held-run t n v x e h in
     let f = progress-few (wish_of t) x (good-is-whole t H.whole).few (few_present (wish_of t) x H.could) in
     rw k (omega (arith, f.0), omega (arith, f.1))

@@ -17,6 +17,7 @@ pub extern "C" fn qp_check(tape: &[u8]) -> u64
 }
 
 #[unsafe(no_mangle)]
+#[tactic(auto, using(crate::proofs::Taking::started_low))]
 pub extern "C" fn qp_start(address: u32, tape: &[u8]) -> u64
     ensures { result ≡ start_number address (checked_tape tape.now) }
 {
@@ -40,6 +41,7 @@ fn request_number(asked: Result<Option<usize>, Unwritten>) -> u64
 
 // R4 whether a request is due or not.
 #[unsafe(no_mangle)]
+#[tactic(auto, using(crate::proofs::Taking::given_low))]
 pub extern "C" fn qp_next(run: u64, tape: &[u8], buffer: &mut [u8]) -> u64
     ensures { record { number = result; buffer = buffer.new } ≡ next_by (given_by tape.now run) (wish_of tape.now) buffer.old }
 {
@@ -55,6 +57,7 @@ pub extern "C" fn qp_next(run: u64, tape: &[u8], buffer: &mut [u8]) -> u64
 }
 
 #[unsafe(no_mangle)]
+#[tactic(auto, using(crate::proofs::Taking::given_low))]
 pub extern "C" fn qp_heard(run: u64, tape: &[u8], reply: &[u8]) -> u64
     ensures { result ≡ heard_by (given_by tape.now run) (wish_of tape.now) reply.now }
 {
@@ -73,6 +76,7 @@ fn progress_number(progress: Progress) -> u64
 }
 
 #[unsafe(no_mangle)]
+#[tactic(auto, using(crate::proofs::Taking::given_low, crate::proofs::Taking::progress_low))]
 pub extern "C" fn qp_progress(run: u64, tape: &[u8]) -> u64
     ensures { result ≡ progress_by (given_by tape.now run) (wish_of tape.now) }
 {

@@ -43,6 +43,7 @@ impl Refusal {
     }
 }
 
+#[tactic(auto, using(crate::proofs::Taking::placed_low))]
 pub(crate) fn tape_number(tape: &[u8]) -> u64
     ensures { result ≡ tape_number (checked_tape tape.now) }
 {
@@ -53,6 +54,7 @@ pub(crate) fn tape_number(tape: &[u8]) -> u64
 }
 
 // A run of this tape: the tape's faults come first, then whether this tape has such a run.
+#[tactic(auto, using(crate::proofs::Taking::given_other, crate::proofs::Taking::given_run))]
 pub(crate) fn taken(run: u64, tape: &[u8]) -> Result<Programmer, Refusal>
     ensures { result ≡ given_by tape.now run }
 {

@@ -1,4 +1,5 @@
 // A run as one number, and back: stage, field, status, why, its number, fields present, address, a byte each, the low one first.
+// A host keeps that number between calls (`QpRuns`), so stages and reasons have numbers here.
 ghost use Rattle.std.specs.Prelude.{◌≡◌, ◌∷◌, [], ◌%◌};
 ghost use Rattle.handheld.specs.Numbers.{stage_part, field_part, status_part, why_of, number_part, standing_bytes, run_number, step_in, why_in, standing_in, run_in};
 
@@ -53,7 +54,7 @@ fn low_byte(n: u32) -> u8
     (n % 256) as u8
 }
 
-#[tactic(auto, unfolding(crate::specs::Numbers::run_number))]
+#[tactic(auto, using(crate::proofs::Numbers::number_of))]
 pub(crate) fn run_number(run: Programmer) -> u64
     ensures { result ≡ run_number run }
 {

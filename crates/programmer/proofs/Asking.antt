@@ -8,14 +8,12 @@ use lib.ListN.{length, take, drop, get_or-eq_default}
 use lib.Seq.{take_at}
 use borrow.Author.Tests.{lt-ltb, le-ltb, eqb-false}
 use Rattle.meaning.specs.Bytes.{arg, same}
-use Rattle.meaning.specs.Fields.{code_no, writable, attributes}
-use Rattle.meaning.specs.Bench as meaning
+use Rattle.meaning.specs.Fields.{code_no, writable}
 use Rattle.records.proofs.Bytes.{part-byte}
 use Rattle.programmer.specs.Wishes.{Field, Wish, no_field, wanted, code_for, wish_of}
-use Rattle.programmer.specs.Steps.{due, enabled, making, locking, onto}
+use Rattle.programmer.specs.Steps.{due, making, locking, onto}
 use Rattle.programmer.specs.Reading.{FoundField, Wants}
-use Rattle.programmer.specs.declared.step.Step.TheVariants.{Remove, Create, Store, Read, Lock}
-use Rattle.programmer.specs.declared.step.Step.{Step}
+use Rattle.programmer.specs.declared.step.Step.TheVariants.{Create, Store, Read}
 use Rattle.programmer.specs.declared.step.Why.TheVariants.{Differs}
 use Rattle.programmer.specs.declared.wish.Wanted.{Wanted}
 use Rattle.programmer.specs.declared.step.Standing.TheVariants.{At, Done, Failed}
@@ -63,10 +61,6 @@ module _ (l : Wish) (i : ℕ) (w : Wanted) (W : Wants l i w) (c : ℕ) (e : c �
   abbrev n : ℕ
   n = length w.bytes.now
 
-  pub fetch_body : i ∷ 0 ∷ n ∷ c ∷ [] ≡ (due l (Read i)).body
-  unfolding due
-  fetch_body = rw (W.status_is, W.bytes_are, e)
-
   pub store_body : (last rest : List ℕ) → last ≡ w.bytes.now → take (4 + n) (i ∷ 0 ∷ n ∷ c ∷ (last ++ rest)) ≡ (due l (Store i)).body
   unfolding due
   store_body last rest q =
@@ -81,20 +75,3 @@ module _ (l : Wish) (i : ℕ) (w : Wanted) (W : Wants l i w) where
   pub read_agrees : (d : List ℕ) → same (drop 3 d) w.bytes.now ≡ true → locking l i ≡ onto l (Read i) d
   unfolding onto
   read_agrees d e = rw (W.bytes_are, e)
-
--- a request that is written as due
-pub writes-due : (n : ℕ) (l : Wish) (x st : Step) (c : ℕ) (d buffer : List ℕ) (w : meaning.Written) → x ≡ st → w ≡ meaning.writes n c d buffer
-    → c ≡ (due l st).command → d ≡ (due l st).body → w ≡ meaning.writes n (due l x).command (due l x).body buffer
-writes-due n l x st c d buffer w e h p q = rw e (h ∙ rw (p, q))
-
-pub remove_body : (l : Wish) (k st a c : ℕ) → a ≡ attributes st → c ≡ code_for l st → k ∷ a ∷ c ∷ [] ≡ (due l (Remove k st)).body
-unfolding due
-remove_body l k st a c h e = rw (h, e)
-
-pub create-body : (l : Wish) (i : ℕ) (w : Wanted) (o c : ℕ) → Wants l i w → o ≡ enabled w.status → c ≡ code_for l w.status → i ∷ o ∷ c ∷ [] ≡ (due l (Create i)).body
-unfolding due
-create-body l i w o c W p q = rw (W.status_is, p, q)
-
-pub lock-body : (l : Wish) (i : ℕ) (w : Wanted) (c : ℕ) → Wants l i w → c ≡ code_for l w.status → i ∷ w.status ∷ c ∷ [] ≡ (due l (Lock i)).body
-unfolding due
-lock-body l i w c W q = rw (W.status_is, q)

@@ -1,6 +1,6 @@
 -- Laws of counting the requests, and of what a run can have left. Assumes nothing.
 use Prim.Native.Nat.{ℕ, zero, suc, ◌+◌, ◌*◌, ◌≤◌, ◌<◌}
-use mathlib.Core.Path.{◌≡◌, refl, sym, ◌∙◌}
+use mathlib.Core.Path.{◌≡◌, refl, sym}
 use mathlib.Core.Bool.{Bool, true, false, not}
 use mathlib.Core.List.{List, [], ◌∷◌, map}
 use Rattle.std.specs.List.{sum}
@@ -18,7 +18,6 @@ use Rattle.programmer.specs.Wishes.{Field, Wish, no_field, wanted}
 use Rattle.programmer.specs.Steps.{requests_for, in_all, answered, answered_at}
 use Rattle.programmer.specs.Reading.{FoundField}
 use Rattle.programmer.specs.Running.{progress_of, can_stand, is_possible}
-use Rattle.programmer.specs.declared.count.Progress.{Progress}
 use Rattle.programmer.specs.declared.wish.Wanted.{Wanted}
 use Rattle.programmer.specs.declared.run.Programmer.{Programmer}
 use Rattle.programmer.specs.declared.step.Step.{Step}
@@ -75,20 +74,6 @@ few_present l x h =
     leb→le x.present 255 (both_0 (leb x.present 255) (can_stand l x.present x.standing) (both_1 (address_ok x.address) (both (leb x.present 255) (can_stand l x.present x.standing)) h))
 
 -- ---- how far it has come
-
-module _ (l : Wish) (p : ℕ) where
-  pub all_as : (c r : ℕ) → c ≡ requests_for l.fields → r ≡ 1 + (2 * p + c) → r ≡ in_all l p
-  unfolding in_all
-  all_as c r e h = h ∙ rw e
-
-  pub stood_as : (st : Step) (a r : ℕ) → a ≡ answered l p st → r ≡ in_all l p
-      → ◌≡◌ {A = Progress} (record { answered = a; all = r }) (record { answered = answered l p st; all = in_all l p })
-  stood_as st a r e h = rw (e, h)
-
-module _ (l : Wish) (x : Programmer) where
-  pub progress-done : x.standing ≡ Done → (r : ℕ) → r ≡ in_all l x.present → ◌≡◌ {A = Progress} (record { answered = r; all = r }) (progress_of l x)
-  unfolding progress_of
-  progress-done e r h = rw (e, h)
 
 -- at most four requests for a field
 pub requests_few : (fs : List Field) → requests_for fs ≤ 4 * length fs

@@ -40,10 +40,10 @@ module _ (l : Wish) (st : Step) where
   good w a (done w' d) y e h k = k ∙ ap (onto l st) h
   good w a (failed w' x) y e h k = absurd cc
 
-  pub verdict_good : (j : Judged) (x : Verdict) → j ≡ Ok x → (x ≡ Done) ⊎ (x ≡ DoneWithWarning)
+  pub verdict-good : (j : Judged) (x : Verdict) → j ≡ Ok x → (x ≡ Done) ⊎ (x ≡ DoneWithWarning)
       → (a : List ℕ) (v : meaning.Verdict) (y : Standing) → verdict_of j ≡ without_data v → a ≡ contents v → y ≡ onto l st a → y ≡ on_verdict l st v
-  verdict_good j x p (inl h) a v y e = good false a v y (rw (p, h) at e)
-  verdict_good j x p (inr h) a v y e = good true a v y (rw (p, h) at e)
+  verdict-good j x p (inl h) a v y e = good false a v y (rw (p, h) at e)
+  verdict-good j x p (inr h) a v y e = good true a v y (rw (p, h) at e)
 
   coded : (w : Bool) (x : ℕ) (v : meaning.Verdict) → failed w x ≡ without_data v → Failed st (Error x) ≡ on_verdict l st v
   unfolding on_verdict
@@ -51,17 +51,17 @@ module _ (l : Wish) (st : Step) where
   coded w x (done w' d) e = absurd cc
   coded w x (failed w' y) e = let z : x ≡ y = cc in rw z
 
-  pub verdict_code : (j : Judged) (x : Verdict) (n : ℕ) → j ≡ Ok x → (x ≡ bench.Error n) ⊎ (x ≡ ErrorWithWarning n)
+  pub verdict_code_lem : (j : Judged) (x : Verdict) (n : ℕ) → j ≡ Ok x → (x ≡ bench.Error n) ⊎ (x ≡ ErrorWithWarning n)
       → (v : meaning.Verdict) → verdict_of j ≡ without_data v → Failed st (Error n) ≡ on_verdict l st v
-  verdict_code j x n p (inl h) v e = coded false n v (rw (p, h) at e)
-  verdict_code j x n p (inr h) v e = coded true n v (rw (p, h) at e)
+  verdict_code_lem j x n p (inl h) v e = coded false n v (rw (p, h) at e)
+  verdict_code_lem j x n p (inr h) v e = coded true n v (rw (p, h) at e)
 
-  pub verdict_unfit : (j : Judged) (b : Refusal) (m : ℕ) → j ≡ Err b → m ≡ check_number b
+  pub verdict-unfit : (j : Judged) (b : Refusal) (m : ℕ) → j ≡ Err b → m ≡ check_number b
       → (v : meaning.Verdict) → verdict_of j ≡ without_data v → Failed st (Judgement m) ≡ on_verdict l st v
   unfolding on_verdict
-  verdict_unfit j b m p h (refusal k) e = let z : m ≡ k = h ∙ (let q : refusal (check_number b) ≡ refusal k = rw p at e in cc) in rw z
-  verdict_unfit j b m p h (done w d) e = let q : refusal (check_number b) ≡ done w [] = rw p at e in absurd cc
-  verdict_unfit j b m p h (failed w x) e = let q : refusal (check_number b) ≡ failed w x = rw p at e in absurd cc
+  verdict-unfit j b m p h (refusal k) e = let z : m ≡ k = h ∙ (let q : refusal (check_number b) ≡ refusal k = rw p at e in cc) in rw z
+  verdict-unfit j b m p h (done w d) e = let q : refusal (check_number b) ≡ done w [] = rw p at e in absurd cc
+  verdict-unfit j b m p h (failed w x) e = let q : refusal (check_number b) ≡ failed w x = rw p at e in absurd cc
 
 -- where the request is due that was judged
 pub heard-at : (n : ℕ) (l : Wish) (x : Standing) (st : Step) → x ≡ At st

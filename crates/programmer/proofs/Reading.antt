@@ -1,6 +1,6 @@
 -- Laws of the label tape's readers. Assumes nothing.
 use Prim.Native.Nat.{ℕ, zero, suc, ◌+◌, ◌-◌, ◌*◌, ◌≤◌, ◌<◌, min}
-use mathlib.Core.Path.{◌≡◌, refl, sym, ◌∙◌}
+use mathlib.Core.Path.{◌≡◌, refl, sym, ap, ◌∙◌}
 use mathlib.Core.Bool.{Bool, true, false, false≢true}
 use mathlib.Core.List.{List, [], ◌∷◌}
 use native.Mathlib.Omega.{arith}
@@ -69,10 +69,10 @@ module _ (s : List ℕ) (at : ℕ) where
   stands B (Err u) q = stands-cut B u q
 
 -- a field's record by its test, or none
-module _ (s : List ℕ) (at : ℕ) (e : Record) (h : RecordLies s at e) where
+module _ (s : List ℕ) (at : ℕ) (e : Record) (r : RecordLies s at e) where
   field_is : is_field (record_at (drop at s)) ≡ both (eqb e.kind 0x21) (exists (arg e.body.now 0))
   unfolding is_field
-  field_is = rw h.record_is
+  field_is = rw r.record_is
 
   pub other_kind : (e.kind ≡ 0x21 → ⊥) → is_field (record_at (drop at s)) ≡ false
   other_kind k = field_is ∙ rw (ne_eqb e.kind 0x21 k)
@@ -81,9 +81,9 @@ module _ (s : List ℕ) (at : ℕ) (e : Record) (h : RecordLies s at e) where
     pub no_bit : exists (arg e.body.now 0) ≡ false → is_field (record_at (drop at s)) ≡ false
     no_bit x = field_is ∙ rw (k, x)
 
-    pub lies_field : exists (arg e.body.now 0) ≡ true → FieldLies s at e
+    pub lies_field : (b : ℕ) → b ≡ arg e.body.now 0 → exists b ≡ true → FieldLies s at e
     unfolding body_of
-    lies_field x = record { is = field_is ∙ rw (k, x); body = rw h.record_is; past = h.past }
+    lies_field b h x = record { is = field_is ∙ rw (k, ← h, x); body = rw r.record_is; past = r.past }
 
 pub cut_field : (s : List ℕ) (at : ℕ) → record_at (drop at s) ≡ cut → is_field (record_at (drop at s)) ≡ false
 unfolding is_field
@@ -115,11 +115,12 @@ module _ (s : List ℕ) (at : ℕ) (w : Checked) where
           ≡ pick (is_field (record_at (drop at s))) (checked_from rest (first_wrong w (of_its_size (body_of (record_at (drop at s)))) at) (at + whole_length (drop at s)) (drop (whole_length (drop at s)) (drop at s))) (Err (BadRecord at))
       opened = rw one (opens rest (drop at s) refl (rw (length-drop at s) (omega arith)))
 
-      pub bad_here : is_field (record_at (drop at s)) ≡ false → Err (BadRecord at) ≡ checked_from left w at (drop at s)
-      bad_here e = sym (opened ∙ rw e)
-
       pub fault_more : (e : Record) → FieldLies s at e → checked_from rest (first_wrong w (of_its_size e.body.now) at) e.next.at (drop e.next.at s) ≡ checked_from left w at (drop at s)
       fault_more e h = sym (opened ∙ rw (h.is, h.body, drop-drop (whole_length (drop at s)) at s, ← h.past))
+
+    pub bad_here : (left : ℕ) → 0 < left → is_field (record_at (drop at s)) ≡ false → Err (BadRecord at) ≡ checked_from left w at (drop at s)
+    bad_here zero h e = absurd (omega arith)
+    bad_here (suc k) h e = sym (opened (suc k) k refl ∙ rw e)
 
 -- one wanted field more, or none
 pub none_allowed : (t : List ℕ) (left : ℕ) → left ≡ 0 → fields_from left t ≡ []
@@ -151,6 +152,9 @@ module _ (s : List ℕ) (at left : ℕ) where
         go : (k : ℕ) → (k ≡ 0 → ⊥) → fields_from k (drop at s) ≡ field_in e.body.now ∷ fields_from (k - 1) (drop e.next.at s)
         go zero z = absurd (z refl)
         go (suc k) z = let y : suc k - 1 ≡ k = omega arith in rw (h.is, h.body, f, drop-drop (whole_length (drop at s)) at s, ← h.past, y)
+
+    pub field_fewer : of_its_size e.body.now ≡ true → (left ≡ 0 → ⊥) → length (fields_from (left - 1) (drop e.next.at s)) < length (fields_from left (drop at s))
+    field_fewer f z = omega (arith, ap length (field_more f z))
 
 pub some_body : (b : List ℕ) → of_its_size b ≡ true → 1 ≤ length b
 unfolding of_its_size

@@ -1,11 +1,9 @@
 -- What the tape's readers answer, by the definitions of the label tape. Assumes nothing.
-use Rattle.std.specs.Prelude.{ℕ, ◌+◌, ◌≤◌, ◌<◌, ◌≡◌, true, false, List, length, take, drop, Option, Some, None}
+use Rattle.std.specs.Prelude.{ℕ, ◌+◌, ◌≤◌, ◌<◌, ◌≡◌, true, false, List, length, drop, Option, Some, None}
 use Rattle.meaning.specs.Bytes.{most_count}
 use Rattle.records.specs.Records.{whole, cut, record_at, whole_length}
 use Rattle.records.specs.declared.record.Record.{Record}
 use Rattle.programmer.specs.Wishes.{Field, Wish, wanted, body_of, is_field, fields_from}
-use Rattle.programmer.specs.Steps.{requests_for}
-use Rattle.programmer.specs.declared.count.Counts.{Counts}
 use Rattle.programmer.specs.declared.step.Step.{Step}
 use Rattle.programmer.specs.declared.step.Step.TheVariants.{Count, Look, Remove, Create, Store, Read, Lock}
 use Rattle.programmer.specs.declared.wish.Fields.{Fields}
@@ -63,10 +61,3 @@ field_of (Create i) = i
 field_of (Store i) = i
 field_of (Read i) = i
 field_of (Lock i) = i
-
--- the requests for the first i wanted fields, and for all: at most four for each of 256
-pub record RequestsCounted (l : Wish) (i : ℕ) (r : Counts) : Type 0 where
-  pub before : r.before ≡ requests_for (take i l.fields)
-  pub all : r.all ≡ requests_for l.fields
-  pub few_before : r.before ≤ 1024
-  pub few : r.all ≤ 1024

@@ -5,7 +5,7 @@ ghost use Rattle.meaning.specs.Fields.{writable};
 ghost use Rattle.programmer.specs.Wishes.{Wish, wish_of};
 ghost use Rattle.programmer.specs.Steps.{in_all};
 ghost use Rattle.programmer.specs.Steps as steps;
-ghost use Rattle.programmer.specs.Reading.{field_of, fields_left, RequestsCounted};
+ghost use Rattle.programmer.specs.Reading.{field_of, fields_left};
 ghost use Rattle.programmer.specs.Running.{progress_of};
 
 use crate::run::Programmer;
@@ -16,13 +16,6 @@ use crate::wish::{Fields, MOST_FIELDS, first_fields};
 #[derive(Clone, Copy, PartialEq, Eq, Debug)]
 pub struct Progress {
     pub answered: usize,
-    pub all: usize,
-}
-
-// The requests for the first wanted fields, and for all of them.
-#[derive(Clone, Copy)]
-pub struct Counts {
-    pub before: usize,
     pub all: usize,
 }
 
@@ -38,15 +31,6 @@ fn requests_for(fields: Fields) -> usize
     ensures { (result ≡ steps.requests_for (fields_left fields.entry)) × (result ≤ 1024) }
 {
     fields.map(|field| cost(field.status)).sum()
-}
-
-fn count(tape: &[u8], i: usize) -> Counts
-    ensures { RequestsCounted (wish_of tape.now) i result }
-{
-    Counts {
-        before: requests_for(first_fields(tape, i)),
-        all: requests_for(first_fields(tape, MOST_FIELDS)),
-    }
 }
 
 // Two requests for each field that was present and is there no more; `field` is the last that is.
@@ -73,20 +57,20 @@ fn answered(present: u32, step: Step, before: usize) -> usize
     }
 }
 
-fn in_all(present: u32, wanted: usize) -> usize
-    requires { wanted ≤ 1024 }
-    ensures { result ≡ 1 + (2 * present + wanted) }
+#[tactic(auto, using(crate::proofs::Reading::all_of), unfolding(crate::specs::Steps::in_all))]
+fn in_all(tape: &[u8], present: u32) -> usize
+    ensures { result ≡ in_all (wish_of tape.now) present }
 {
-    1 + 2 * (present as usize) + wanted
+    1 + 2 * (present as usize) + requests_for(first_fields(tape, MOST_FIELDS))
 }
 
 fn stood(tape: &[u8], present: u32, step: Step) -> Progress
     ensures { result ≡ record { answered = steps.answered (wish_of tape.now) present step; all = in_all (wish_of tape.now) present } }
 {
-    let counts = count(tape, step.wanted_field());
+    let before = requests_for(first_fields(tape, step.wanted_field()));
     Progress {
-        answered: answered(present, step, counts.before),
-        all: in_all(present, counts.all),
+        answered: answered(present, step, before),
+        all: in_all(tape, present),
     }
 }
 
@@ -98,8 +82,7 @@ impl Programmer {
         match self.standing {
             Standing::At(step) | Standing::Failed(step, _) => stood(tape, self.present, step),
             Standing::Done => {
-                let counts = count(tape, 0);
-                let all = in_all(self.present, counts.all);
+                let all = in_all(tape, self.present);
                 Progress { answered: all, all }
             }
         }

@@ -1,4 +1,4 @@
-// The request that is due at a step (02, Req 04).
+// The request that is due at a step (02, Req 04). Address and buffer go by themselves: they are the bench's own arguments, and a struct of both would be taken apart at each call.
 ghost use Rattle.std.specs.Prelude.{◌≡◌, ◌∷◌, []};
 ghost use Rattle.meaning.specs.Bench.{writes};
 ghost use Rattle.bench.specs.Outcomes.{written_of};
@@ -67,6 +67,7 @@ fn look(address: u32, field: u8, buffer: &mut [u8]) -> Result<usize, Unwritten>
 }
 
 // 4Bh of a whole field.
+#[tactic(auto, using(crate::proofs::Asking::store_body))]
 fn store(address: u32, tape: &[u8], field: u8, buffer: &mut [u8]) -> Result<usize, Unwritten>
     ensures { written_of result buffer.new ≡ writes address 0x4B (due (wish_of tape.now) (Step.Store field)).body buffer.old }
 {
@@ -82,6 +83,7 @@ fn store(address: u32, tape: &[u8], field: u8, buffer: &mut [u8]) -> Result<usiz
 }
 
 // 4Ah of a whole field.
+#[tactic(auto, unfolding(crate::specs::Steps::due))]
 fn fetch(address: u32, tape: &[u8], field: u8, buffer: &mut [u8]) -> Result<usize, Unwritten>
     ensures { written_of result buffer.new ≡ writes address 0x4A (due (wish_of tape.now) (Step.Read field)).body buffer.old }
 {
@@ -92,6 +94,7 @@ fn fetch(address: u32, tape: &[u8], field: u8, buffer: &mut [u8]) -> Result<usiz
 }
 
 // R4 before R5, as the bench has them.
+#[tactic(auto, unfolding(crate::specs::Steps::due))]
 pub fn ask(address: u32, tape: &[u8], step: Step, buffer: &mut [u8]) -> Result<usize, Unwritten>
     ensures { written_of result buffer.new ≡ writes address (due (wish_of tape.now) step).command (due (wish_of tape.now) step).body buffer.old }
 {

@@ -35,6 +35,7 @@ pub struct Fields<'a> {
 }
 
 // A record may be as long as its length's two bytes can say.
+#[tactic(auto, using(crate::proofs::Reading::stands))]
 fn record_at(tape: &[u8], at: usize) -> Option<Record<'_>>
     ensures { RecordStands tape.now at result }
 {
@@ -42,6 +43,7 @@ fn record_at(tape: &[u8], at: usize) -> Option<Record<'_>>
 }
 
 // "first and once kind 20h with the four access codes".
+#[tactic(auto, unfolding(crate::specs::Wishes::is_codes))]
 fn has_codes(tape: &[u8]) -> bool
     ensures { result ≡ is_codes (record_at tape.now) }
 {
@@ -52,7 +54,7 @@ fn has_codes(tape: &[u8]) -> bool
 }
 
 // "kind 21h for each field (status with bit 7 set, ..".
-#[tactic(auto, using(crate::proofs::Reading::cut_field, crate::proofs::Reading::other_kind, crate::proofs::Reading::no_bit, crate::proofs::Reading::lies_field))]
+#[tactic(auto, using(crate::proofs::Reading::cut_field, crate::proofs::Reading::other_kind, crate::proofs::Reading::no_bit))]
 fn field_here(tape: &[u8], at: usize) -> Option<Record<'_>>
     ensures { FieldAt tape.now at result }
 {
@@ -127,6 +129,7 @@ impl<'a> Iterator for Fields<'a> {
 
     ghost remaining = { item_count fields_left };
 
+    #[tactic(auto, using(crate::proofs::Reading::none_allowed, crate::proofs::Reading::none_here, crate::proofs::Reading::unsized_here, crate::proofs::Reading::field_more, crate::proofs::Reading::field_fewer, crate::proofs::Reading::some_body, crate::proofs::Reading::body_rest))]
     fn next(&mut self) -> Option<Wanted<'a>> {
         if self.left == 0 {
             return None;
@@ -145,6 +148,7 @@ impl<'a> Iterator for Fields<'a> {
 }
 
 // The first wanted fields, so many at most.
+#[tactic(auto, using(crate::proofs::Reading::first_of))]
 pub fn first_fields(tape: &[u8], most: usize) -> Fields<'_>
     ensures fields { fields_left result ≡ take most (wish_of tape.now).fields }
     ensures few { result.left ≤ 256 }
