@@ -1,6 +1,6 @@
 -- The bench's answers as numbers. Assumes nothing.
-use Prim.Native.Nat.{ℕ, ◌+◌, ◌*◌, ◌≤◌}
-use mathlib.Core.Path.{◌≡◌, refl, sym, ap, subst, ◌∙◌}
+use Prim.Native.Nat.{ℕ, ◌+◌, ◌*◌}
+use mathlib.Core.Path.{◌≡◌, refl, sym, ap, ◌∙◌}
 use mathlib.Core.Bool.{true, false}
 use mathlib.Core.List.{List}
 use lib.ListN.{length}
@@ -11,7 +11,6 @@ use Rattle.bench.specs.declared.request.Written.TheVariants.{Request, R4, R5}
 use Rattle.bench.specs.declared.reply.Piece.{Piece}
 use Rattle.bench.specs.declared.reply.Verdict.{Verdict}
 use Rattle.bench.specs.declared.reply.Verdict.TheVariants.{Done, DoneWithWarning, Error, ErrorWithWarning, Refused}
-use Rattle.bench.proofs.Lengths.{piece_fits}
 use Rattle.bench.specs.Outcomes.{written_of, verdict_of, without_data, piece_from, piece_by}
 use Rattle.bench.proofs.Verdicts.{handed_by}
 use Rattle.quicksetter.specs.Verdicts.{request_number, written_number, verdict_number, verdict_code, piece_number, Writes}
@@ -59,9 +58,6 @@ judged v x e q = q ∙ sym (verdict-is x) ∙ ap verdict_number e ∙ without_da
 module _ (q r : List ℕ) (p : Piece) (v : Verdict) (e : verdict_of v ≡ without_data (judge q r)) (h : piece_from p ≡ piece_by (length r) v) where
   piece_handed : piece_from p ≡ meaning.handed q r
   piece_handed = h ∙ sym (handed_by q r v e)
-
-  pub piece_small : (p.from ≤ 2) × (p.count ≤ 131)
-  piece_small = subst (λ (x : meaning.Piece). (x.from ≤ 2) × (x.count ≤ 131)) (sym piece_handed) (piece_fits q r)
 
   pub piece_number_lem : p.from * 0x100000000 + p.count ≡ piece_number (meaning.handed q r)
   unfolding piece_number

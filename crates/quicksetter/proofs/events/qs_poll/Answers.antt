@@ -37,7 +37,7 @@ pub returns-then-is_over : goal.returns-then-is_over
 returns-then-is_over c =
     let u = image_unrefused _ _ _ c.in-Ok.ensures.refusal in
     let ours = u.ours in
-    let full = pause_so _ c.args.memory.now c.args.room.now ours c.in-Ok.ensures.plate c.full_pause.ensures in
+    let full = pause_so _ c.in-Ok.ensures.plate c.full_pause.ensures in
     let left = remaining_so _ _ ours (c.remaining-left.ensures _ full) in
     let over = over-told _ _ _ left ∙ sym c.is_over.ensures ∙ c.if-is_over.true in
     rw c.answer_number-then-is_over.ensures
@@ -48,7 +48,7 @@ unfolding sleep_number
 answer_number-requires-in-TicksLeft c =
     let u = image_unrefused _ _ _ c.in-Ok.ensures.refusal in
     let ours = u.ours in
-    let full = pause_so _ c.args.memory.now c.args.room.now ours c.in-Ok.ensures.plate c.full_pause.ensures in
+    let full = pause_so _ c.in-Ok.ensures.plate c.full_pause.ensures in
     let left = remaining_so _ _ ours (c.remaining-left.ensures _ full) in
     low-sleep _ _ _ u.core.plate (sym (ap remaining_of c.in-TicksLeft.is) ∙ left)
 
@@ -57,7 +57,7 @@ unfolding sleep_number
 returns-in-NoFrameOpen c =
     let u = image_unrefused _ _ _ c.in-Ok.ensures.refusal in
     let ours = u.ours in
-    let full = pause_so _ c.args.memory.now c.args.room.now ours c.in-Ok.ensures.plate c.full_pause.ensures in
+    let full = pause_so _ c.in-Ok.ensures.plate c.full_pause.ensures in
     let left = remaining_so _ _ ours (c.remaining-left.ensures _ full) in
     let bytes : (i : ℕ) → arg c.args.image.now i < 256 = λ i. search rules in
     rw c.answer_number-in-NoFrameOpen.ensures (early _ _ _ u _ bytes (sym (ap remaining_of c.in-NoFrameOpen.is) ∙ left) refl)
@@ -67,7 +67,7 @@ unfolding sleep_number
 returns-in-TicksLeft c =
     let u = image_unrefused _ _ _ c.in-Ok.ensures.refusal in
     let ours = u.ours in
-    let full = pause_so _ c.args.memory.now c.args.room.now ours c.in-Ok.ensures.plate c.full_pause.ensures in
+    let full = pause_so _ c.in-Ok.ensures.plate c.full_pause.ensures in
     let left = remaining_so _ _ ours (c.remaining-left.ensures _ full) in
     let bytes : (i : ℕ) → arg c.args.image.now i < 256 = λ i. search rules in
     let told = sym (ap remaining_of c.in-TicksLeft.is) in
