@@ -9,7 +9,7 @@ use Rattle.quicksetter.proofs.starts.has_place.Goals as goal
 
 pub returns-then-image-ne-LENGTH : goal.returns-then-image-ne-LENGTH
 returns-then-image-ne-LENGTH c = elim c.then-image-ne-LENGTH.branch [
-  another w ↦ rw (ne_eqb _ _ w.if-image-ne-LENGTH.true) (sym (both_false _))
+  | another w ↦ rw (ne_eqb _ _ w.if-image-ne-LENGTH.true) (sym (both_false _))
   | unlabelled w ↦ rw (no_label (plate_of c.args.plate c.args.label.now) w.if-label-ne-LABEL_LENGTH.true)
 ]
 

@@ -9,7 +9,7 @@ use Rattle.quicksetter.proofs.starts.qs_restart.Goals as goal
 
 pub returns-then-lasting-ne-LASTING_LENGTH : goal.returns-then-lasting-ne-LASTING_LENGTH
 returns-then-lasting-ne-LASTING_LENGTH c = rw c.number.ensures (elim c.then-lasting-ne-LASTING_LENGTH.branch [
-  another w ↦ no_lasting _ _ _ w.if-lasting-ne-LASTING_LENGTH.true
+  | another w ↦ no_lasting _ _ _ w.if-lasting-ne-LASTING_LENGTH.true
   | placeless w ↦ restarts _ _ _ w.if-lasting-ne-LASTING_LENGTH.false (no_place _ _ _ (sym w.has_place.ensures ∙ w.if-not-has_place.true))
 ])
 
