@@ -1,4 +1,6 @@
 // The board as the 212 bytes that a host lends: a head, which tells the plate, and a core, which holds the state (01, "written in C and calls on numbers and byte slices").
+// A core goes as a slice, and no type holds what is asked of it: C lends bytes, a longer slice is answered too, and each function asks for something else,
+// for twelve bytes, for all of a core, or that its lock is a flag.
 #![tactic(auto)]
 
 mod head;

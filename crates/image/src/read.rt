@@ -1,5 +1,5 @@
 // What a core holds: its state and its open frame's numbers. The kept bytes stay where they are and are lent on.
-ghost use Rattle.std.specs.Prelude.{◌≡◌, ◌≤◌, eqb, leb, length};
+ghost use Rattle.std.specs.Prelude.{◌≡◌, ◌≤◌, leb, length};
 ghost use Rattle.meaning.specs.Bytes.{arg};
 ghost use Rattle.meaning.specs.State.{last_address};
 ghost use Rattle.image.specs.Image.{core_length, lasting_length, count_at, state_in, rested_in, frame_in, is_core, flags_ok};
@@ -92,7 +92,12 @@ pub fn lasting_in(lasting: &[u8]) -> State
     ensures { result ≡ rested_in lasting.now }
 {
     State {
-        codes: [lasting[0], lasting[1], lasting[2], lasting[3]],
+        codes: [
+            lasting[CODES],
+            lasting[CODES + 1],
+            lasting[CODES + 2],
+            lasting[CODES + 3],
+        ],
         counter: counter_in(lasting),
         address: lasting[ADDRESS],
         offset: wire::number_at(lasting, OFFSET),

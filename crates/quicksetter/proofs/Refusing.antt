@@ -5,7 +5,7 @@ use native.Mathlib.Decide.{ℕ_discrete}
 use mathlib.Core.Path.{◌≡◌, refl, sym, ap, ◌∙◌}
 use mathlib.Core.Bool.{Bool, true, false, not, false≢true}
 use mathlib.Core.List.{List, [], ◌∷◌}
-use borrow.Author.Tests.{eq-eqb, ne_eqb, lt-ltb, le-ltb, eqb-true, ltb-false}
+use borrow.Author.Tests.{eq-eqb, ne_eqb, le-ltb, eqb-true, ltb-false}
 use lib.Dec.{eqb, leb, ltb}
 use lib.ListN.{length, take, length-take}
 use Rattle.meaning.specs.Bytes.{arg, among, pick, both, either}
@@ -181,18 +181,9 @@ module _ (p : Plate) (core : List ℕ) (m w : ℕ) where
           let o : offset_fits p core ≡ true = both_right (plate_ok p) _ rest in
           sym (state-told p core a-core) ∙ rw (c, b, o, a)
 
-      pub other_size : (m ≡ memory_length p.total → ⊥) → 2 ≡ refusal_in p core m w
+      pub none_applies : m ≡ memory_length p.total → 134 ≤ w → 0 ≡ refusal_in p core m w
       unfolding refusal_in
-      other_size n = let z : eqb m (memory_length p.total) ≡ false = ne_eqb _ _ n in rw (a-core, good-plate, good-state, z)
-
-      module _ (size : m ≡ memory_length p.total) where
-        pub too_narrow : w < 134 → 3 ≡ refusal_in p core m w
-        unfolding refusal_in
-        too_narrow n = let z : eqb m (memory_length p.total) ≡ true = eq-eqb _ _ size in rw (a-core, good-plate, good-state, z, lt-ltb w 134 n)
-
-        pub none_applies : 134 ≤ w → 0 ≡ refusal_in p core m w
-        unfolding refusal_in
-        none_applies n = let z : eqb m (memory_length p.total) ≡ true = eq-eqb _ _ size in rw (a-core, good-plate, good-state, z, le-ltb w 134 n)
+      none_applies size n = let z : eqb m (memory_length p.total) ≡ true = eq-eqb _ _ size in rw (a-core, good-plate, good-state, z, le-ltb w 134 n)
 
 -- a call that is refused by its number does nothing
 module _ (p : Plate) (core m w : List ℕ) (g : Call) where
@@ -239,7 +230,3 @@ unrefused p core m w e = go (is_core core) (plate_ok p) (state_ok p (held_in cor
     go true true false d f i j k l n z = absurd (omega (arith, z))
     go true false c d f i j k l n z = absurd (omega (arith, z))
     go false b c d f i j k l n z = absurd (omega (arith, z))
-
--- by the tests of a call that lends nothing
-pub free-core : (p : Plate) (core : List ℕ) → possible p core ≡ true → apart (queue_of (state_in core).faults) ≡ true → Unrefused p core (memory_length p.total) 134
-free-core p core h a = unrefused p core (memory_length p.total) 134 (none_applies p core (memory_length p.total) 134 h a refl (omega arith))

@@ -2,18 +2,18 @@
 use Prim.Native.Nat.{ℕ, ◌≤◌}
 use native.Mathlib.Omega.{arith}
 use mathlib.Core.Path.{◌≡◌, refl, sym, ap, ◌∙◌}
-use mathlib.Core.Bool.{true, false}
+use mathlib.Core.Bool.{Bool, true, false}
 use mathlib.Core.List.{List, ◌++◌}
-use borrow.Author.Tests.{eq-eqb, ne_eqb}
+use borrow.Author.Tests.{eq-eqb, ne_eqb, eqb-true}
 use lib.Dec.{eqb}
 use lib.ListN.{length, take, drop, length-replicate}
 use lib.Seq.{take_at, drop_at, length-take-le}
-use Rattle.meaning.specs.Bytes.{part, put, zeros, little}
+use Rattle.meaning.specs.Bytes.{both, part, put, zeros, little}
 use Rattle.meaning.specs.State as meaning
 use Rattle.meaning.specs.State.{Plate, none, plate_ok, state_ok, fresh}
 use Rattle.meaning.proofs.Puts.{put-nothing, length-put, part-put}
 use Rattle.meaning.proofs.Limits.{to_lim, fresh-within}
-use Rattle.meaning.proofs.Choices.{both_false, told-true, true-told}
+use Rattle.meaning.proofs.Choices.{both_left, both_right, both_false, told-true, true-told}
 use Rattle.line.specs.declared.characters.OpenFrame.{OpenFrame}
 use Rattle.line.specs.Line.{plate_of, line_of, no_frame, Fits}
 use Rattle.meaning.proofs.Plates.{whole-label}
@@ -72,19 +72,27 @@ made p s img {mid} {core'} ok all a b =
     let head : take 47 mid ≡ head_of p = ap (take 47) a ∙ part-put img 0 (head_of p) 47 (omega arith) n in
     core-back mid core' long ∙ rw (head, b)
 
+-- a possible plate, and an image's bytes for it
+module _ (p : Plate) (img : List ℕ) (h : both (plate_ok p) (eqb (length img) 212) ≡ true) where
+  pub plate_there : plate_ok p ≡ true
+  plate_there = both_left (plate_ok p) _ h
+
+  pub image_there : length img ≡ 212
+  image_there = eqb-true (length img) 212 (both_right (plate_ok p) _ h)
+
 module _ (p : Plate) (s : meaning.State) (img : List ℕ) where
   refused-start : start_ok p s img ≡ false → Makes p s img 257 img
   refused-start e = record { answer = rw e; image = rw e }
 
-  pub no_length : (length img ≡ 212 → ⊥) → Makes p s img 257 img
+  lost : (a b c : Bool) → both a b ≡ false → both a (both b c) ≡ false
+  lost true b c e = rw e
+  lost false b c e = refl
+
+  pub no_place : both (plate_ok p) (eqb (length img) 212) ≡ false → Makes p s img 257 img
   unfolding start_ok
-  no_length n = let z : eqb (length img) 212 ≡ false = ne_eqb _ _ n in refused-start (rw z (both_false (plate_ok p)))
+  no_place e = refused-start (lost (plate_ok p) (eqb (length img) 212) (state_ok p s) e)
 
   module _ (all : length img ≡ 212) where
-    pub no_plate_lem : plate_ok p ≡ false → Makes p s img 257 img
-    unfolding start_ok
-    no_plate_lem e = record { answer = rw e; image = rw e }
-
     module _ (e : plate_ok p ≡ true) where
       pub no_state : state_ok p s ≡ false → Makes p s img 257 img
       unfolding start_ok

@@ -1,31 +1,24 @@
 -- A character and a poll of an image: refused, or worked on its core. Assumes nothing.
-use Prim.Native.Nat.{ℕ, suc, ◌+◌, ◌<◌, ◌≤◌}
-use native.Mathlib.Omega.{arith}
+use Prim.Native.Nat.{ℕ, ◌<◌}
 use mathlib.Core.Path.{◌≡◌, sym, ap, ◌∙◌}
 use mathlib.Core.Bool.{Bool, true, false}
 use mathlib.Core.List.{List, ◌++◌}
 use lib.ListN.{length, take, drop, length-append, take-append-drop}
 use lib.Seq.{take_at}
 use Rattle.meaning.specs.Bytes.{pick, arg}
-use Rattle.meaning.specs.State.{none, apart}
+use Rattle.meaning.specs.State.{none}
 use Rattle.meaning.specs.Characters as characters
 use Rattle.meaning.specs.Characters.{full_pause, remaining, over, more}
-use Rattle.meaning.specs.Fields.{memory_length}
-use Rattle.meaning.specs.Run.{Call, character, poll, lends}
+use Rattle.meaning.specs.Run.{character, poll}
 use Rattle.line.specs.declared.plate.Plate as line
 use Rattle.line.specs.Line.{plate_of, line_of}
-use Rattle.state.specs.Queue.{queue_of}
-use Rattle.image.specs.Image.{is_ours, is_core, state_in, head_in, core_in, plate_of_head, label_in, frame_in, kept_in, held_in}
+use Rattle.image.specs.Image.{is_ours, is_core, head_in, core_in, plate_of_head, label_in, frame_in, kept_in, held_in}
 use Rattle.image.specs.Writes.{Takes}
 use Rattle.image.proofs.Round.{good}
 use Rattle.quicksetter.specs.Calls.{plate_held, state_held, Called}
-use Rattle.quicksetter.specs.Cores.{possible, refusal_in, ImageUnrefused, ImageShuts, ImagePolls}
-use Rattle.quicksetter.proofs.Heads.{ours-length, ours-label, head_length_lem, lent-core, core-back, core-small, called_of}
-use Rattle.quicksetter.proofs.Refusing.{refused_as_lem, refused-alone, unrefused, none_applies}
+use Rattle.quicksetter.specs.Cores.{ImageUnrefused, ImageShuts, ImagePolls}
+use Rattle.quicksetter.proofs.Heads.{ours-length, head_length_lem, lent-core, core-back, core-small, called_of}
 use Rattle.quicksetter.proofs.Closing.{nothing-over, core_again, then_taken}
-
-pub some-refusal : {n : ℕ} → suc n ≡ 0 → ⊥
-some-refusal e = omega (arith, e)
 
 pub joined : (img : List ℕ) → img ≡ head_in img ++ core_in img
 joined img = sym (take-append-drop 47 img)
@@ -39,37 +32,9 @@ remaining_so img tick e r = rw (lent-core img (ours-length img e)) at r
 pub open_so : (img : List ℕ) {r : Bool} → is_ours img ≡ true → r ≡ (held_in (take 165 (drop 47 img))).line.begun → r ≡ (state_held img).line.begun
 open_so img e r = rw (lent-core img (ours-length img e)) at r
 
--- of an image with our head, whose plate was read and whose core was lent
-module _ (img m w : List ℕ) (e : is_ours img ≡ true) {p : line.Plate} (q : p ≡ plate_of_head img) where
-  all : length img ≡ 212
-  all = ours-length img e
-
-  pub refused-whole : (g : Call) → lends g ≡ true → {n : ℕ} → n ≡ refusal_in (plate_of p (label_in img)) (take 165 (drop 47 img)) (length m) (length w) → (n ≡ 0 → ⊥)
-      → Called img m w g (256 + n) img m w
-  refused-whole g l {n} r some =
-      let k : n ≡ refusal_in (plate_held img) (core_in img) (length m) (length w) = rw (q, lent-core img all) at r in
-      called_of img m w g e (refused_as_lem (plate_held img) (core_in img) m w g l k some) (joined img)
-
-  pub alone-whole : (g : Call) → lends g ≡ false → {n : ℕ} → n ≡ refusal_in (plate_of p (label_in img)) (take 165 (drop 47 img)) (memory_length p.total) 134 → (n ≡ 0 → ⊥)
-      → Called img m w g (256 + n) img m w
-  alone-whole g l {n} r some =
-      let k : n ≡ refusal_in (plate_held img) (core_in img) (memory_length (plate_held img).total) 134 = rw (q, lent-core img all) at r in
-      called_of img m w g e (refused-alone (plate_held img) (core_in img) m w g l k some) (joined img)
-
-  pub workable : 0 ≡ refusal_in (plate_of p (label_in img)) (take 165 (drop 47 img)) (length m) (length w) → ImageUnrefused img (length m) (length w)
-  workable r =
-      let k : 0 ≡ refusal_in (plate_held img) (core_in img) (length m) (length w) = rw (q, lent-core img all) at r in
-      record { ours = e; core = unrefused (plate_held img) (core_in img) (length m) (length w) k }
-
-  -- R1 to R3 do not apply, by the tests in their order
-  pub passed : {t s : Bool} {n : ℕ} → ((l : List ℕ) → length l ≡ 41 → t ≡ possible (plate_of p l) (take 165 (drop 47 img))) → t ≡ true
-      → s ≡ apart (queue_of (state_in (take 165 (drop 47 img))).faults) → s ≡ true → length m ≡ n → n ≡ memory_length p.total → 134 ≤ length w
-      → ImageUnrefused img (length m) (length w)
-  passed can fine waits sound size by enough =
-      workable (none_applies _ _ _ _ (sym (can (label_in img) (ours-label img e)) ∙ fine) (sym waits ∙ sound) (size ∙ by) enough)
-
-  pub pause_so : {n : ℕ} → ((l : List ℕ) → n ≡ full_pause (plate_of p l)) → n ≡ full_pause (plate_held img)
-  pause_so r = r (label_in img) ∙ ap (λ (x : line.Plate). full_pause (plate_of x (label_in img))) q
+-- the full pause of the plate that was read
+pub pause_so : (img : List ℕ) {p : line.Plate} → p ≡ plate_of_head img → {n : ℕ} → ((l : List ℕ) → n ≡ full_pause (plate_of p l)) → n ≡ full_pause (plate_held img)
+pause_so img q r = r (label_in img) ∙ ap (λ (x : line.Plate). full_pause (plate_of x (label_in img))) q
 
 -- of an image that is not refused
 module _ (img m w : List ℕ) (u : ImageUnrefused img (length m) (length w)) (tick : ℕ) where

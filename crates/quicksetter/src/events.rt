@@ -61,8 +61,7 @@ fn is_open(core: &[u8]) -> bool
     requires { core_length ≤ length core.now }
     ensures { result ≡ (held_in core.now).line.begun }
 {
-    let frame = image::frame_in(core);
-    frame.begun
+    image::frame_in(core).begun
 }
 
 // How much of the pause of the core's open frame remains at that tick, None where no frame is open.

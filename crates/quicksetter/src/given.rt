@@ -1,8 +1,5 @@
-// What goes between C and the board as numbers: a plate, a refusal, a reply's length with how long the host may sleep.
+// What goes from the board to C as numbers: a refusal, a reply's length with how long the host may sleep.
 ghost use Rattle.std.specs.Prelude.{◌≡◌, ◌+◌, ◌*◌, ◌<◌};
-ghost use Rattle.quicksetter.specs.Calls.{plate_from};
-
-use line::Plate;
 
 // A refusal's number is counted from here.
 pub const REFUSED: usize = 0x100;
@@ -10,18 +7,6 @@ pub const REFUSED: usize = 0x100;
 pub const REFUSED_ANSWER: u64 = 0xFFFFFFFE00000100;
 // 02, Req 03: the sleep while no frame is open.
 pub const NO_FRAME_OPEN: u64 = 0xFFFFFFFF;
-
-pub(crate) fn plate_from(total: u32, bits: u32, address: u32, ticks: u32, pause: u32) -> Plate
-    ensures { result ≡ plate_from total bits address ticks pause }
-{
-    Plate {
-        total,
-        bits,
-        address,
-        ticks,
-        pause,
-    }
-}
 
 // The number of a character and of a poll: the sleep in its high 32 bits, the reply's length in its low ones.
 pub(crate) fn answer_number(sleep: u64, reply: u8) -> u64

@@ -1,13 +1,13 @@
 // The image of a fresh board, and that of a board that was off (01, "Fresh state", "Power-on").
-ghost use Rattle.std.specs.Prelude.{◌≡◌, ◌≤◌, length, true};
-ghost use Rattle.meaning.specs.Bytes.{longest_request, zeros};
+ghost use Rattle.std.specs.Prelude.{◌≡◌, ◌≤◌, length, true, eqb};
+ghost use Rattle.meaning.specs.Bytes.{both, longest_request, zeros};
 ghost use Rattle.meaning.specs.State.{last_count, none, plate_ok};
 ghost use Rattle.line.specs.Line.{plate_of};
 ghost use Rattle.state.specs.State.{state_with};
 ghost use Rattle.image.specs.Image.{image_length, core_length, core_of};
 ghost use Rattle.quicksetter.specs.Calls.{plate_from, image_of, Freshens, Restarts};
 
-use crate::given::{REFUSED, plate_from};
+use crate::refusals::Refusal;
 use image::{CORE, CORE_LENGTH, KEPT, LASTING_LENGTH, LENGTH};
 use line::{OpenFrame, Plate};
 use state::State;
@@ -22,6 +22,16 @@ fn put_core(state: State, core: &mut [u8])
     let places = [0u8; LONGEST_REQUEST];
     wire::fill(&places, &mut core[KEPT..CORE_LENGTH]);
     image::put_board(state, OpenFrame::none(), core);
+}
+
+// R1 of a plate, its label and the bytes that an image is made in.
+fn has_place(plate: Plate, label: &[u8], image: &[u8]) -> bool
+    ensures { result ≡ both (plate_ok (plate_of plate label.now)) (eqb (length image.now) image_length) }
+{
+    if image.len() != LENGTH || label.len() != LABEL_LENGTH {
+        return false;
+    }
+    plate.is_ok()
 }
 
 // A possible plate and state are written as an image.
@@ -47,15 +57,15 @@ pub extern "C" fn qs_fresh(
 ) -> usize
     ensures { Freshens (plate_of (plate_from total bits address ticks pause) label.now) image.old result image.new }
 {
-    if image.len() != LENGTH {
-        return REFUSED + 1;
-    }
-    if label.len() != LABEL_LENGTH {
-        return REFUSED + 1;
-    }
-    let plate = plate_from(total, bits, address, ticks, pause);
-    if !plate.is_ok() {
-        return REFUSED + 1;
+    let plate = Plate {
+        total,
+        bits,
+        address,
+        ticks,
+        pause,
+    };
+    if !has_place(plate, label, image) {
+        return Refusal::R1.number();
     }
     make(plate, label, State::fresh(address as u8), image);
     0
@@ -75,22 +85,19 @@ pub extern "C" fn qs_restart(
 ) -> usize
     ensures { Restarts (plate_of (plate_from total bits address ticks pause) label.now) lasting.now image.old result image.new }
 {
-    if lasting.len() != LASTING_LENGTH {
-        return REFUSED + 1;
-    }
-    if image.len() != LENGTH {
-        return REFUSED + 1;
-    }
-    if label.len() != LABEL_LENGTH {
-        return REFUSED + 1;
-    }
-    let plate = plate_from(total, bits, address, ticks, pause);
-    if !plate.is_ok() {
-        return REFUSED + 1;
+    let plate = Plate {
+        total,
+        bits,
+        address,
+        ticks,
+        pause,
+    };
+    if lasting.len() != LASTING_LENGTH || !has_place(plate, label, image) {
+        return Refusal::R1.number();
     }
     let state = image::lasting_in(lasting);
     if !state.is_ok(plate.bits) {
-        return REFUSED + 1;
+        return Refusal::R1.number();
     }
     make(plate, label, state, image);
     0

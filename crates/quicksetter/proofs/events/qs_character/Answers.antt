@@ -15,8 +15,7 @@ polled-sent-requires-clause-unrefused c = image_unrefused _ _ _ c.in-Ok.ensures.
 
 pub polled-sent-requires-clause-whole_pause : goal.polled-sent-requires-clause-whole_pause
 polled-sent-requires-clause-whole_pause c =
-    let ours = (image_unrefused _ _ _ c.in-Ok.ensures.refusal).ours in
-    pause_so _ c.args.memory.now c.args.room.now ours c.in-Ok.ensures.plate c.full_pause-full.ensures
+    pause_so _ c.in-Ok.ensures.plate c.full_pause-full.ensures
 
 pub slice_bounds-take_character-end : goal.slice_bounds-take_character-end
 slice_bounds-take_character-end c =
@@ -31,15 +30,13 @@ take_character-requires c =
 pub answer_number-requires : goal.answer_number-requires
 answer_number-requires c =
     let u = image_unrefused _ _ _ c.in-Ok.ensures.refusal in
-    let ours = u.ours in
-    let full = pause_so _ c.args.memory.now c.args.room.now ours c.in-Ok.ensures.plate c.full_pause-full.ensures in
+    let full = pause_so _ c.in-Ok.ensures.plate c.full_pause-full.ensures in
     rw full (low-pause _ u.core.plate)
 
 pub returns : goal.returns
 returns c =
     let u = image_unrefused _ _ _ c.in-Ok.ensures.refusal in
-    let ours = u.ours in
-    let full = pause_so _ c.args.memory.now c.args.room.now ours c.in-Ok.ensures.plate c.full_pause-full.ensures in
+    let full = pause_so _ c.in-Ok.ensures.plate c.full_pause-full.ensures in
     let bytes : (i : ℕ) → arg c.polled-sent.new.image i < 256 = λ i. search rules in
     let whole = character-whole _ _ _ u _ c.polled-sent.ensures _ c.is_fault.ensures bytes c.take_character.ensures in
     rw (c.answer_number.ensures, full) (with_sleep _ _ _ _ whole (full-sleep _ _ _ u _ _ _))

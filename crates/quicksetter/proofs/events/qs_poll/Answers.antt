@@ -35,7 +35,7 @@ pub returns-then-is_over : goal.returns-then-is_over
 returns-then-is_over c =
     let u = image_unrefused _ _ _ c.in-Ok.ensures.refusal in
     let ours = u.ours in
-    let full = pause_so _ c.args.memory.now c.args.room.now ours c.in-Ok.ensures.plate c.full_pause.ensures in
+    let full = pause_so _ c.in-Ok.ensures.plate c.full_pause.ensures in
     let left = remaining_so _ _ ours (c.remaining-left.ensures _ full) in
     let over = over-told _ _ _ left ∙ sym c.is_over.ensures ∙ c.if-is_over.true in
     rw c.answer_number-then-is_over.ensures
@@ -45,7 +45,7 @@ pub answer_number-requires-2 : goal.answer_number-requires-2
 answer_number-requires-2 c =
     let u = image_unrefused _ _ _ c.in-Ok.ensures.refusal in
     let ours = u.ours in
-    let full = pause_so _ c.args.memory.now c.args.room.now ours c.in-Ok.ensures.plate c.full_pause.ensures in
+    let full = pause_so _ c.in-Ok.ensures.plate c.full_pause.ensures in
     let left = remaining_so _ _ ours (c.remaining-left.ensures _ full) in
     rw (c.unwrap_or.ensures, left_number) (low-sleep _ _ _ u.core.plate left)
 
@@ -53,7 +53,7 @@ pub returns : goal.returns
 returns c =
     let u = image_unrefused _ _ _ c.in-Ok.ensures.refusal in
     let ours = u.ours in
-    let full = pause_so _ c.args.memory.now c.args.room.now ours c.in-Ok.ensures.plate c.full_pause.ensures in
+    let full = pause_so _ c.in-Ok.ensures.plate c.full_pause.ensures in
     let left = remaining_so _ _ ours (c.remaining-left.ensures _ full) in
     let bytes : (i : ℕ) → arg c.args.image.now i < 256 = λ i. search rules in
     rw (c.answer_number-2.ensures, c.unwrap_or.ensures, left_number) (early _ _ _ u _ bytes left (sym c.is_over.ensures ∙ c.if-is_over.false))
