@@ -52,7 +52,7 @@ impl Faults {
         requires { 0 < code }
         ensures { result ≡ among code (queue_of self) }
     {
-        (code == self.first) | (code == self.second) | (code == self.third) | (code == self.fourth)
+        is_among(code, self.first, self.second) || is_among(code, self.third, self.fourth)
     }
 
     // 01, "a queue of four, oldest first; one already waiting, or a fifth, is dropped". That none waits is told at once.
@@ -234,8 +234,8 @@ pub fn locks(code: u8) -> bool
 }
 
 // Whether the code is one of those two.
-fn is_among(code: u8, third: u8, fourth: u8) -> bool
-    ensures { result ≡ either (eqb code third) (eqb code fourth) }
+fn is_among(code: u8, one: u8, other: u8) -> bool
+    ensures { result ≡ either (eqb code one) (eqb code other) }
 {
-    code == third || code == fourth
+    code == one || code == other
 }
