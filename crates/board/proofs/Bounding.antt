@@ -28,17 +28,17 @@ unfolding lends
 lends-poll t = refl
 
 -- 02, Req 01: the label bytes are 41
-pub bad_label : (p : Plate) → (length p.label ≡ 41 → ⊥) → plate_ok p ≡ false
+pub bad-label : (p : Plate) → (length p.label ≡ 41 → ⊥) → plate_ok p ≡ false
 unfolding plate_ok
-bad_label p n = simp (ne_eqb (length p.label) 41 n, both_false)
+bad-label p n = simp (ne_eqb (length p.label) 41 n, both_false)
 
 few-taken : (n : ℕ) (kept : List ℕ) → length kept ≡ 135 → length (take n kept) ≤ 135
 few-taken n kept all = simp length-take (omega arith)
 
 module _ (p : Plate) (b : Board) (kept : List ℕ) where
-  pub bad_plate : plate_ok p ≡ false → false ≡ within p b kept
+  pub bad-plate : plate_ok p ≡ false → false ≡ within p b kept
   unfolding within
-  bad_plate e = rw e (sym (both_false (leb b.frame.len 135)))
+  bad-plate e = rw e (sym (both_false (leb b.frame.len 135)))
 
   pub too_many : 135 < b.frame.len → false ≡ within p b kept
   unfolding within

@@ -257,8 +257,8 @@ same_len a b h =
     omega (arith, ap length (h (zeros n)), length-take a.frame.len (zeros n), length-take b.frame.len (zeros n), length-replicate {A = ℕ} n 0)
 
 -- a noted code leaves the open frame
-pub noted_few : (b next : Board) (c : ℕ) → ((kept : List ℕ) → state_of next kept ≡ meaning.noted (state_of b kept) c) → b.frame.len ≤ 135 → next.frame.len ≤ 135
-noted_few b next c e h =
+pub noted-few : (b next : Board) (c : ℕ) → ((kept : List ℕ) → state_of next kept ≡ meaning.noted (state_of b kept) c) → b.frame.len ≤ 135 → next.frame.len ≤ 135
+noted-few b next c e h =
     rw (same_len next b (λ kept. ap (λ (s : meaning.State). s.line.kept) (e kept) ∙ ap (λ (l : meaning.Line). l.kept) (noted-line (state_of b kept) c))) h
 
 -- power-on leaves none

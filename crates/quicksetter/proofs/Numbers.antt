@@ -19,6 +19,8 @@ use Rattle.meaning.proofs.Gaps.{over-told}
 use Rattle.meaning.proofs.Plates.{longest_pause}
 use Rattle.meaning.proofs.Limits.{replies_fit}
 use Rattle.meaning.proofs.Sleeping.{none-after-close, full-after-character}
+use Rattle.std.proofs.Common.{Option, None, Some, unwrap_or}
+use Rattle.line.specs.Line.{remaining_of}
 use Rattle.image.specs.Image.{core_in}
 use Rattle.quicksetter.specs.Calls.{is_image, plate_held, state_held, called_by, call_number, sleep_number, answer_number, Called, CalledWithSleep}
 use Rattle.quicksetter.specs.Cores.{ImageUnrefused}
@@ -74,6 +76,12 @@ module _ (img m w : List ℕ) (g : Call) where
 -- a pause, and what remains of one, fit into 32 bits
 pub low-pause : (p : meaning.Plate) → plate_ok p ≡ true → full_pause p < 0x100000000
 low-pause p ok = omega (arith, longest_pause p ok)
+
+-- .., of what remains in the code's cases
+pub left_number : (left : Option ℕ) → unwrap_or left 0xFFFFFFFF ≡ sleep_number (carries (remaining_of left))
+unfolding sleep_number
+left_number None = refl
+left_number (Some n) = refl
 
 pub low-sleep : (p : meaning.Plate) (s : meaning.State) (tick : ℕ) {x : characters.Remaining} → plate_ok p ≡ true → x ≡ remaining p s tick → sleep_number (carries x) < 0x100000000
 unfolding remaining sleep_number

@@ -15,7 +15,7 @@ ghost use Rattle.quicksetter.specs.Cores.{possible, ImageUnrefused, ImageServabl
 
 use crate::given::{NO_FRAME_OPEN, REFUSED_ANSWER, answer_number};
 use image::{ADDRESS, CODES, CORE, COUNTER, KEPT, LABEL, LENGTH, OFFSET, WAITING};
-use line::{Judgement, OpenFrame, Plate, Remaining};
+use line::{Judgement, OpenFrame, Plate};
 use wire::codes::LONGEST_REPLY;
 
 // R1 of the plate and of the core, but for the waiting codes. What a host may get wrong comes first. A counter of three bytes is never too large.
@@ -65,8 +65,8 @@ fn is_open(core: &[u8]) -> bool
     frame.begun
 }
 
-// How much of the pause of the core's open frame remains at that tick.
-fn remaining(core: &[u8], tick: u32, pause: u64) -> Remaining
+// How much of the pause of the core's open frame remains at that tick, None where no frame is open.
+fn remaining(core: &[u8], tick: u32, pause: u64) -> Option<u64>
     requires { core_length ≤ length core.now }
     ensures { (p : meaning.Plate) → pause ≡ full_pause p → remaining_of result ≡ remaining p (held_in core.now) tick }
 {
@@ -146,7 +146,7 @@ fn polled(image: &mut [u8], tick: u32, pause: u64, memory: &mut [u8], room: &mut
     ensures { ImagePolls image.old memory.old room.old tick result image.new memory.new room.new }
 {
     let left = remaining(&image[CORE..LENGTH], tick, pause);
-    if left.is_over() {
+    if line::is_over(left) {
         return shut(image, memory, room);
     }
     0
@@ -217,11 +217,8 @@ pub extern "C" fn qs_poll(image: &mut [u8], tick: u32, memory: &mut [u8], room: 
         return answer_number(NO_FRAME_OPEN, 0);
     }
     let left = remaining(&image[CORE..LENGTH], tick, plate.full_pause());
-    if left.is_over() {
+    if line::is_over(left) {
         return answer_number(NO_FRAME_OPEN, shut(image, memory, room));
     }
-    match left {
-        Remaining::NoFrameOpen => answer_number(NO_FRAME_OPEN, 0),
-        Remaining::TicksLeft(ticks) => answer_number(ticks, 0),
-    }
+    answer_number(left.unwrap_or(NO_FRAME_OPEN), 0)
 }

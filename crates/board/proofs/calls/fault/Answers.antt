@@ -3,7 +3,7 @@ use Rattle.std.proofs.Common.{refl}
 use Rattle.std.proofs.lemmas.Result.{err_from_is_err_and}
 use Rattle.meaning.specs.Run.{step, closes, lends}
 use Rattle.meaning.specs.Frames.{still}
-use Rattle.board.proofs.Stepping.{alone_refused, alone, noted_few}
+use Rattle.board.proofs.Stepping.{alone_refused, alone, noted-few}
 use Rattle.board.proofs.calls.fault.Goals as goal
 
 pub returns-in_err-within_limits : goal.returns-in_err-within_limits
@@ -14,4 +14,4 @@ returns-in_err-within_limits c =
 
 pub returns : goal.returns
 unfolding step still closes lends
-returns c = λ k m w h. alone _ _ k m w _ h refl _ (c.in_ok-within_limits.ensures _ k refl h) refl (c.note.ensures k) refl (noted_few _ _ _ c.note.ensures)
+returns c = λ k m w h. alone _ _ k m w _ h refl _ (c.in_ok-within_limits.ensures _ k refl h) refl (c.note.ensures k) refl (noted-few _ _ _ c.note.ensures)

@@ -1,14 +1,12 @@
 -- What is left to show of `quicksetter::events::qs_poll`: R1 to R3 in their order; then no frame, one that is over, and one that is not.
-use Rattle.std.proofs.Common.{rules, ℕ, ◌<◌, refl, sym, ap, ◌∙◌, arith}
+use Rattle.std.proofs.Common.{rules, ℕ, ◌<◌, refl, sym, ◌∙◌, arith}
 use Rattle.meaning.specs.Bytes.{arg}
-use Rattle.meaning.specs.Characters.{ran_out}
 use Rattle.meaning.proofs.Gaps.{over-told}
-use Rattle.line.specs.Line.{remaining_of}
 use Rattle.quicksetter.specs.Calls.{sleep_number}
 use Rattle.quicksetter.proofs.Heads.{ours-length, ours-label, not_ours}
 use Rattle.quicksetter.proofs.Refusing.{lends-poll, impossible, unsound, other_size, too_narrow}
 use Rattle.quicksetter.proofs.Wholes.{some-refusal, refused-whole, passed, open_so, pause_so, remaining_so, polled-over, poll-whole}
-use Rattle.quicksetter.proofs.Numbers.{with_sleep, refused_with-sleep, low-sleep, none_open, shut_sleep, early}
+use Rattle.quicksetter.proofs.Numbers.{with_sleep, refused_with-sleep, left_number, low-sleep, none_open, shut_sleep, early}
 use Rattle.quicksetter.proofs.events.qs_poll.Goals as goal
 
 pub returns-then-not-is_ours : goal.returns-then-not-is_ours
@@ -86,36 +84,21 @@ returns-then-is_over c =
     rw c.answer_number-then-is_over.ensures
     (with_sleep _ _ _ _ (poll-whole _ _ _ u _ (polled-over _ _ _ u _ over c.shut.ensures)) (shut_sleep _ _ _ u _ over))
 
-pub answer_number-requires-in-TicksLeft : goal.answer_number-requires-in-TicksLeft
-unfolding sleep_number
-answer_number-requires-in-TicksLeft c =
+pub answer_number-requires-2 : goal.answer_number-requires-2
+answer_number-requires-2 c =
     let ours = sym c.is_ours.ensures ∙ c.if-not-is_ours.false in
     let u = passed _ c.args.memory.now c.args.room.now ours c.plate_in-plate.ensures c.is_possible.ensures c.if-not-is_possible.false
     c.is_sound.ensures c.if-not-is_sound.false c.if-memory-memory_length.false c.memory_length.ensures c.if-room-lt-LONGEST_REPLY.false in
     let full = pause_so _ c.args.memory.now c.args.room.now ours c.plate_in-plate.ensures c.full_pause.ensures in
     let left = remaining_so _ _ ours (c.remaining-left.ensures _ full) in
-    low-sleep _ _ _ u.core.plate (sym (ap remaining_of c.in-TicksLeft.is) ∙ left)
+    rw (c.unwrap_or.ensures, left_number) (low-sleep _ _ _ u.core.plate left)
 
-pub returns-in-NoFrameOpen : goal.returns-in-NoFrameOpen
-unfolding sleep_number
-returns-in-NoFrameOpen c =
+pub returns : goal.returns
+returns c =
     let ours = sym c.is_ours.ensures ∙ c.if-not-is_ours.false in
     let u = passed _ c.args.memory.now c.args.room.now ours c.plate_in-plate.ensures c.is_possible.ensures c.if-not-is_possible.false
     c.is_sound.ensures c.if-not-is_sound.false c.if-memory-memory_length.false c.memory_length.ensures c.if-room-lt-LONGEST_REPLY.false in
     let full = pause_so _ c.args.memory.now c.args.room.now ours c.plate_in-plate.ensures c.full_pause.ensures in
     let left = remaining_so _ _ ours (c.remaining-left.ensures _ full) in
     let bytes : (i : ℕ) → arg c.args.image.now i < 256 = λ i. search rules in
-    rw c.answer_number-in-NoFrameOpen.ensures (early _ _ _ u _ bytes (sym (ap remaining_of c.in-NoFrameOpen.is) ∙ left) refl)
-
-pub returns-in-TicksLeft : goal.returns-in-TicksLeft
-unfolding sleep_number
-returns-in-TicksLeft c =
-    let ours = sym c.is_ours.ensures ∙ c.if-not-is_ours.false in
-    let u = passed _ c.args.memory.now c.args.room.now ours c.plate_in-plate.ensures c.is_possible.ensures c.if-not-is_possible.false
-    c.is_sound.ensures c.if-not-is_sound.false c.if-memory-memory_length.false c.memory_length.ensures c.if-room-lt-LONGEST_REPLY.false in
-    let full = pause_so _ c.args.memory.now c.args.room.now ours c.plate_in-plate.ensures c.full_pause.ensures in
-    let left = remaining_so _ _ ours (c.remaining-left.ensures _ full) in
-    let bytes : (i : ℕ) → arg c.args.image.now i < 256 = λ i. search rules in
-    let told = sym (ap remaining_of c.in-TicksLeft.is) in
-    rw c.answer_number-in-TicksLeft.ensures
-    (early _ _ _ u _ bytes (told ∙ left) (ap ran_out told ∙ sym c.is_over.ensures ∙ c.if-is_over.false))
+    rw (c.answer_number-2.ensures, c.unwrap_or.ensures, left_number) (early _ _ _ u _ bytes left (sym c.is_over.ensures ∙ c.if-is_over.false))
