@@ -41,8 +41,11 @@ fn closes(plate: Plate, board: Board, tick: u32) -> bool
 pub fn closes_none(plate: Plate, board: Board, event: Option<Event>) -> bool
     ensures { (kept : List ℕ) → result ≡ quickly (tape_plate plate) (state_of board kept) (said_in event) }
 {
+    let Some(event) = event else {
+        return false;
+    };
     match event {
-        Some(Event::Character { tick, .. } | Event::Poll { tick }) => !closes(plate, board, tick),
+        Event::Character { tick, .. } | Event::Poll { tick } => !closes(plate, board, tick),
         _ => false,
     }
 }
