@@ -1,5 +1,5 @@
 -- Laws of the wanted fields as the code finds them, and of the requests that it writes. Assumes nothing.
-use Prim.Native.Nat.{ℕ, zero, suc, ◌+◌, ◌/◌, ◌%◌, ◌≤◌, ◌<◌}
+use Prim.Native.Nat.{ℕ, suc, ◌+◌, ◌/◌, ◌%◌, ◌≤◌, ◌<◌}
 use mathlib.Core.Path.{◌≡◌, refl, sym, ap, ◌∙◌}
 use mathlib.Core.Bool.{true, false}
 use mathlib.Core.List.{List, [], ◌∷◌, ◌++◌}
@@ -41,12 +41,7 @@ wants_none l i w h z y =
 -- without bit 6 there is room for it
 pub clear_bit : (st : ℕ) → writable st ≡ false → st / 64 % 2 ≡ 0
 unfolding writable
-clear_bit st e = go (st / 64 % 2) (omega arith) (eqb-false (st / 64 % 2) 1 e)
-  where
-    go : (n : ℕ) → n < 2 → (n ≡ 1 → ⊥) → n ≡ 0
-    go zero h d = refl
-    go (suc zero) h d = absurd (d refl)
-    go (suc (suc n)) h d = absurd (omega arith)
+clear_bit st e = omega (arith, eqb-false (st / 64 % 2) 1 e)
 
 pub making_found : (l : Wish) (i : ℕ) (w : Wanted) → FoundField l i w → At (Create i) ≡ making l i
 unfolding making

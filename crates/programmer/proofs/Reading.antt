@@ -233,7 +233,7 @@ past_all [] i e = omega arith
 past_all (g ∷ fs) zero e = absurd cc
 past_all (g ∷ fs) (suc i) e = omega (arith, past_all fs i e)
 
-few_bytes : (l : Wish) (i : ℕ) → FieldsFit l.fields → i < length l.fields → length (wanted l i).bytes ≤ most_count
+pub few_bytes : (l : Wish) (i : ℕ) → FieldsFit l.fields → i < length l.fields → length (wanted l i).bytes ≤ most_count
 unfolding blocks
 few_bytes l i F h = omega (arith, fits-at l.fields i F h)
 

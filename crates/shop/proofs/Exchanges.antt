@@ -1,7 +1,7 @@
 -- A run of exchanges is a run over requests. Assumes nothing.
 use Prim.Native.Nat.{ℕ, zero, suc, ◌≤◌}
 use mathlib.Core.Path.{◌≡◌, refl, sym, ap, ◌∙◌, subst}
-use mathlib.Core.Bool.{Bool, true, false, false≢true}
+use mathlib.Core.Bool.{Bool, true, false}
 use mathlib.Core.List.{List, [], ◌∷◌}
 use native.Mathlib.Omega.{arith}
 use lib.Dec.{T, eqb}
@@ -17,7 +17,7 @@ use Rattle.meaning.proofs.Choices.{told-true}
 use Rattle.meaning.proofs.Plates.{whole-label}
 use Rattle.meaning.proofs.Puts.{put_front}
 use Rattle.board.specs.Board.{state_of}
-use Rattle.exchange.specs.Passing.{Ended, refused, heard, ended_of, board_after, refusal_for, reached, answer_to, passed}
+use Rattle.exchange.specs.Passing.{ended_of, board_after, refusal_for, reached, answer_to, passed}
 use Rattle.programmer.specs.Wishes.{Wish, wish_of}
 use Rattle.programmer.specs.Steps.{due}
 use Rattle.programmer.specs.Running.{at_first, hears}
@@ -85,19 +85,11 @@ module _ (p : board.Plate) (n : ℕ) (l : Wish) where
 
 -- ---- one call of `exchange` is one of them
 
-was_heard : Ended → Bool
-was_heard (refused k) = false
-was_heard (heard k j v) = true
-
-reply_bytes : Ended → ℕ
-reply_bytes (refused k) = 0
-reply_bytes (heard k j v) = j
-
 front_again : (w bs : List ℕ) → take (length bs) (put w 0 bs) ≡ bs
 front_again w bs = rw (put_front w bs) (take-append_seam bs (drop (length bs) w))
 
 pub exchange_is_one : ExchangeIsOne
-unfolding exchanged_at passed was_heard reply_bytes
+unfolding exchanged_at passed
 exchange_is_one p b n l x st spacing q kept m w r q' kept' m' w' k j v P e = go (eqb (refusal_for p b n c d spacing q kept m w) 0) refl
   where
     c : ℕ
@@ -112,13 +104,12 @@ exchange_is_one p b n l x st spacing q kept m w r q' kept' m' w' k j v P e = go 
     go : (t : Bool) → eqb (refusal_for p b n c d spacing q kept m w) 0 ≡ t
         → ◌≡◌ {A = Scene} (record { programmer = hears l x (take j w'); state = state_of (board_after b r) kept'; memory = m' }) (record { programmer = hears l x o.reply; state = o.state; memory = o.memory })
     go true f =
-        let y : reply_bytes (ended_of r) ≡ length o.reply = ap reply_bytes P.ended ∙ rw f in
-        let z : j ≡ length o.reply = ap reply_bytes (sym e) ∙ y in
+        let y = rw f at P.ended in
+        let z : j ≡ length o.reply = cc in
         let a : take j w' ≡ o.reply = rw (z, P.room, f) (front_again w o.reply) in
         rw (a, P.state, P.memory, f)
     go false f =
-        let y : was_heard (ended_of r) ≡ false = ap was_heard P.ended ∙ rw f in
-        absurd (false≢true (sym y ∙ ap was_heard e))
+        let y = rw f at P.ended in absurd cc
 
 rests : (n : ℕ) (l : Wish) (s : board.State) → s.codes ≡ l.codes → s.address ≤ last_address → T (reached s (address_for n)) → Met n l (resting s)
 unfolding resting with_line reached own_byte
