@@ -15,19 +15,19 @@ use Rattle.passes.specs.declared.session.Phase.TheVariants.{Opening, Running, En
 use Rattle.passes.specs.declared.session.Work.{Work}
 use Rattle.passes.specs.declared.session.Session.{Session}
 use Rattle.passes.specs.declared.passes.Eaten.{Eaten}
-use Rattle.passes.specs.Sessions.{largest_memory, has_ended, AtTapeStart, ReadyForPass, Eats}
+use Rattle.passes.specs.Sessions.{largest_memory, is_last, AtTapeStart, ReadyForPass, Eats}
 use Rattle.std.specs.Prelude.{Option}
 use Rattle.answer.specs.Program.{is_over, Leaves, Buffers}
 
 -- a tape that is not over goes on
-pub goes_on : (s : Session) → is_over s ≡ false → (has_ended s.phase ≡ false) × (s.place < 9223372036854775808)
+pub goes_on : (s : Session) → is_over s ≡ false → (is_last s.phase ≡ false) × (s.place < 9223372036854775808)
 goes_on s n = go (leb 9223372036854775808 s.place) refl n
   where
-    go : (a : Bool) → leb 9223372036854775808 s.place ≡ a → cond a true (has_ended s.phase) ≡ false → (has_ended s.phase ≡ false) × (s.place < 9223372036854775808)
+    go : (a : Bool) → leb 9223372036854775808 s.place ≡ a → cond a true (is_last s.phase) ≡ false → (is_last s.phase ≡ false) × (s.place < 9223372036854775808)
     go true e n = absurd (false≢true (sym n))
     go false e n = (n, leb-false _ _ e)
 
-pub not-ended : (f : Phase) → ((o : Option Work) → f ≡ Ended o → ⊥) → has_ended f ≡ false
+pub not-ended : (f : Phase) → ((o : Option Work) → f ≡ Ended o → ⊥) → is_last f ≡ false
 not-ended Opening k = refl
 not-ended (Running w) k = refl
 not-ended (Ended o) k = absurd (k o refl)

@@ -2,18 +2,18 @@
 use Rattle.std.specs.Prelude.{ℕ, ◌≤◌, ◌≡◌, Bool, true, false, cond, List, [], leb, length}
 use Rattle.meaning.specs.Bytes.{zeros, longest_reply, longest_request}
 use Rattle.passes.specs.declared.session.Session.{Session}
-use Rattle.passes.specs.Sessions.{largest_memory, has_ended, ReadyForPass}
+use Rattle.passes.specs.Sessions.{largest_memory, is_last, ReadyForPass}
 use Rattle.answer.specs.declared.Fed.{Fed}
 
 -- a record was bad, or the place is one that no tape has
 abbrev pub is_over : Session → Bool
-is_over s = cond (leb 9223372036854775808 s.place) true (has_ended s.phase)
+is_over s = cond (leb 9223372036854775808 s.place) true (is_last s.phase)
 
 -- after a window the board is ready for the next, unless a record was bad
 pub record Leaves (r : Fed) (window kept m w out : List ℕ) : Type 0 where
   pub inside : r.at ≤ length window
   pub space : r.used ≤ length out
-  pub ready : has_ended r.session.phase ≡ false → ReadyForPass r.session [] kept m w out r.used
+  pub ready : is_last r.session.phase ≡ false → ReadyForPass r.session [] kept m w out r.used
 
 -- the buffers at the start
 pub record Buffers (window kept m w out : List ℕ) : Type 0 where

@@ -98,6 +98,7 @@ fn run(
     let mut session = Session::start();
     let mut have = 0;
     let mut used = tape::first_line(out, 0);
+    // The turns are counted only because a loop has to end.
     'windows: for _ in 0..u64::MAX {
         let read = match refill(rt, &mut window[have..]) {
             Ok(Some(count)) => count,
@@ -109,16 +110,8 @@ fn run(
             }
         };
         let total = have + read;
-        let fed = feed(
-            rt,
-            session,
-            &window[..total],
-            kept,
-            memory,
-            reply,
-            out,
-            used,
-        )?;
+        let bytes = &window[..total];
+        let fed = feed(rt, session, bytes, kept, memory, reply, out, used)?;
         session = fed.session;
         used = fed.used;
         if let Phase::Ended(_) = session.phase {

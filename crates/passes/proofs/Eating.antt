@@ -26,9 +26,9 @@ use Rattle.tape.specs.Passes.{Pass, pass, stopped, after, next_record, incomplet
 use Rattle.tape.proofs.Outputs.{put-nil}
 use Rattle.tape.proofs.Streams.{pass_enough}
 use Rattle.turns.specs.Turns.{stage_kept, is_ended, last_of}
-use Rattle.passes.specs.Beginnings.{Starts, Idle}
+use Rattle.passes.specs.Beginnings.{PlateComes, Idle}
 use Rattle.passes.specs.Holding.{LentState, lent_state, lent_after, lent_by}
-use Rattle.passes.specs.Sessions.{largest_memory, stage_in, stage_of, work_in, has_ended, stop_told, phase_after, stage_after, eaten_by, Plays, Steady, ReadyForPass, pass_over, lent_over, Stands, Eats, Lends, pass_from, lent_from, GoesOn, EndsBad}
+use Rattle.passes.specs.Sessions.{largest_memory, stage_in, stage_of, work_in, is_last, stop_told, phase_after, stage_after, eaten_by, Plays, Steady, ReadyForPass, pass_over, lent_over, Stands, Eats, Lends, pass_from, lent_from, GoesOn, EndsBad}
 use Rattle.turns.specs.Openings.{tape_plate, Begins, Fails}
 use Rattle.passes.specs.declared.session.Phase.{Phase}
 use Rattle.passes.specs.declared.session.Phase.TheVariants.{Opening, Running, Ended}
@@ -72,7 +72,7 @@ module _ (p : Plate) (b : Board) (place : ℕ) (window : List ℕ) (from : ℕ) 
     abbrev worked : Work
     worked = record { plate = p; board = r.board }
 
-    steady : (s : Stop) → has_ended (phase_after s worked) ≡ false → Steady (phase_after s worked) kept' (mp ++ drop n m) w'
+    steady : (s : Stop) → is_last (phase_after s worked) ≡ false → Steady (phase_after s worked) kept' (mp ++ drop n m) w'
     steady More h = rw front-back plays.sound
     steady Full h = rw front-back plays.sound
     steady Over h = absurd (false≢true (sym h))
@@ -239,7 +239,7 @@ abbrev ahead : ℕ → Pass → Pass
 ahead n q = record { stage = q.stage; read = n + q.read; printed = q.printed; stop = q.stop }
 
 module _ (s : Session) (window kept m w out : List ℕ) (used : ℕ) (ready : ReadyForPass s window kept m w out used) (first : s.phase ≡ Opening)
-    (r : Begun) (starts : Starts window (length out - used) r) where
+    (r : Begun) (starts : PlateComes window (length out - used) r) where
   abbrev p : Plate
   p = r.work.plate
 

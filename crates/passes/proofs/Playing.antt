@@ -25,7 +25,7 @@ use Rattle.tape.proofs.Outputs.{put-nil}
 use Rattle.tape.proofs.Texts.{same_size, joined}
 use Rattle.turns.specs.Hearing.{Past}
 use Rattle.turns.specs.Openings.{tape_plate}
-use Rattle.turns.specs.Turns.{Sound, runs, stage_kept, is_ended, last_of, quickly, Quiet, board_after, used_after, Turns}
+use Rattle.turns.specs.Turns.{Sound, runs, stage_kept, is_ended, last_of, quickly, Quiet, board_left, used_after, Turns}
 use Rattle.turns.proofs.Tight.{not-both}
 use Rattle.passes.specs.Holding.{LentState, lent_state, lent_after, lent_by}
 use Rattle.passes.proofs.Holding.{held_parts, held-full, held_more, held-bad, held-good}
@@ -234,17 +234,17 @@ module _ {p : Plate} {place : ℕ} {window : List ℕ} {from : ℕ} {kept₀ m�
   -- any other record: a bad one, a good one
   module _ {kept' m' w' out' : List ℕ} (x : Said) (q : Result Turned BadRecord) (h : longest_line ≤ length out - used) (e : next_record (drop at window) ≡ says x)
       (turns : Turns p b m (place + at) x kept w out used q kept' m' w' out') where
-    holds_after : lent_state (runs p (board_after b q) kept' m') kept' w' ≡ lent_after now (place + at) x
+    holds_after : lent_state (runs p (board_left b q) kept' m') kept' w' ≡ lent_after now (place + at) x
     holds_after = held_parts turns.stage turns.bytes turns.room
 
-    pub turn-ends : is_err q ≡ true → Plays p all lent from window out₀ start (record { board = board_after b q; at = at; used = used_after q; stop = Over }) kept' m' w' out'
-    turn-ends o = ends (board_after b q) x (used_after q) h e (over-ends (done x).stage (sym turns.over ∙ o)) turns.printed turns.sound holds_after
+    pub turn-ends : is_err q ≡ true → Plays p all lent from window out₀ start (record { board = board_left b q; at = at; used = used_after q; stop = Over }) kept' m' w' out'
+    turn-ends o = ends (board_left b q) x (used_after q) h e (over-ends (done x).stage (sym turns.over ∙ o)) turns.printed turns.sound holds_after
 
     -- a record that was not bad fits
     pub turn-past : (next : ℕ) → is_err q ≡ false → ((x ≡ unfit → ⊥) → Past at window next) → Past at window next
     turn-past next o past = past (λ u. not-both (sym (unfit-ends x u) ∙ sym turns.over ∙ o))
 
     pub turn-goes : (next : ℕ) → is_err q ≡ false → ((x ≡ unfit → ⊥) → Past at window next)
-        → Going p place window from kept₀ m₀ w₀ out₀ start b₀ kept' m' w' out' (board_after b q) next (used_after q)
+        → Going p place window from kept₀ m₀ w₀ out₀ start b₀ kept' m' w' out' (board_left b q) next (used_after q)
     turn-goes next o past =
         goes_on x next (used_after q) h e (sym (turns.stage ∙ last_goes here (done x).stage (sym turns.over ∙ o))) turns.printed turns.sound holds_after (turn-past next o past)

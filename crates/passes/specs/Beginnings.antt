@@ -10,7 +10,7 @@ use Rattle.passes.specs.declared.session.Stop.TheVariants.{More, Full, Over}
 use Rattle.passes.specs.declared.beginning.Begun.{Begun}
 
 -- the plate comes first, and a fresh board goes on behind it
-pub record Starts (window : List ℕ) (space : ℕ) (r : Begun) : Type 0 where
+pub record PlateComes (window : List ℕ) (space : ℕ) (r : Begun) : Type 0 where
   pub roomy : longest_line ≤ space
   pub said : Said
   pub plate : Begins window r.work.plate r.from said
@@ -23,5 +23,5 @@ Idle window space More = (longest_line ≤ space) × (next_record window ≡ inc
 Idle window space Over = (longest_line ≤ space) × ((x : Said) × Fails window x)
 
 abbrev pub BeginsWith : List ℕ → ℕ → Result Begun Stop → Type 0
-BeginsWith window space (Ok r) = Starts window space r
+BeginsWith window space (Ok r) = PlateComes window space r
 BeginsWith window space (Err why) = Idle window space why

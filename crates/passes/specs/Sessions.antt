@@ -46,10 +46,10 @@ work_in Opening = None
 work_in (Running k) = Some k
 work_in (Ended o) = o
 
-abbrev pub has_ended : Phase → Bool
-has_ended Opening = false
-has_ended (Running k) = false
-has_ended (Ended o) = true
+abbrev pub is_last : Phase → Bool
+is_last Opening = false
+is_last (Running k) = false
+is_last (Ended o) = true
 
 -- a record that closes no frame of a board whose kept bytes are within their places
 pub record TakesQuickly (p : Plate) (b : Board) (x : Said) (kept : List ℕ) : Type 0 where
@@ -148,7 +148,7 @@ pub record Eats (s : Session) (window kept m w out : List ℕ) (used : ℕ) (r :
   pub stands : Stands (lent_over s window kept m w out used).stage r.session.phase m kept' m'
   pub bytes : kept' ≡ (lent_over s window kept m w out used).kept
   pub reply : w' ≡ (lent_over s window kept m w out used).room
-  pub steady : has_ended r.session.phase ≡ false → Steady r.session.phase kept' m' w'
+  pub steady : is_last r.session.phase ≡ false → Steady r.session.phase kept' m' w'
 
 -- a board at work
 pub record Playable (p : Plate) (b : Board) (place : ℕ) (window : List ℕ) (from : ℕ) (kept m w out : List ℕ) (used : ℕ) : Type 0 where
@@ -190,7 +190,7 @@ pub record GoesOn (p : Plate) (b : Board) (place : ℕ) (window : List ℕ) (fro
   pub stands : Stands (lent_from p b place window from kept m w out used).stage r.session.phase m kept' m'
   pub bytes : kept' ≡ (lent_from p b place window from kept m w out used).kept
   pub reply : w' ≡ (lent_from p b place window from kept m w out used).room
-  pub steady : has_ended r.session.phase ≡ false → Steady r.session.phase kept' m' w'
+  pub steady : is_last r.session.phase ≡ false → Steady r.session.phase kept' m' w'
 
 -- the first record is bad
 pub record EndsBad (place : ℕ) (out : List ℕ) (used : ℕ) (r : Eaten) (out' : List ℕ) : Type 0 where

@@ -30,6 +30,18 @@ pub struct Eaten {
     pub stop: Stop,
 }
 
+// Written as literals the three ends of `play` would take more lines than all else in it.
+fn halt(board: Board, at: usize, used: usize, stop: Stop) -> Played
+    ensures { result ≡ record { board = board; at = at; used = used; stop = stop } }
+{
+    Played {
+        board,
+        at,
+        used,
+        stop,
+    }
+}
+
 // A record that closes no frame: a character is taken in, a poll changes nothing.
 fn taken_in(plate: Plate, board: Board, event: Option<Event>, kept: &mut [u8]) -> Board
     requires { TakesQuickly plate board (said_in event) kept.old }
@@ -62,8 +74,7 @@ fn play(
 ) -> Played
     requires { Playable begun.work.plate begun.work.board place window.now begun.from kept.old memory.old reply.old out.old start }
     ensures { Plays begun.work.plate (pass_at begun.work.plate begun.work.board place window.now begun.from kept.old memory.old out.old start)
-        (lent_at begun.work.plate begun.work.board place window.now begun.from kept.old memory.old reply.old out.old start)
-        begun.from window.now out.old start result kept.new memory.new reply.new out.new }
+        (lent_at begun.work.plate begun.work.board place window.now begun.from kept.old memory.old reply.old out.old start) begun.from window.now out.old start result kept.new memory.new reply.new out.new }
 {
     let plate = begun.work.plate;
     let mut board = begun.work.board;
@@ -71,51 +82,25 @@ fn play(
     let mut used = start;
     while LONGEST_LINE <= out.len() - used {
         let Some(heard) = hear(window, at) else {
-            return Played {
-                board,
-                at,
-                used,
-                stop: Stop::More,
-            };
+            return halt(board, at, used, Stop::More);
         };
-        if closes_none(plate, board, heard.event) {
-            board = taken_in(plate, board, heard.event, kept);
+        let event = heard.event;
+        if closes_none(plate, board, event) {
+            board = taken_in(plate, board, event, kept);
             at = heard.next;
             continue;
         }
         let here = place + at as u64;
-        match turn(
-            plate,
-            board,
-            here,
-            heard.event,
-            kept,
-            memory,
-            reply,
-            out,
-            used,
-        ) {
+        match turn(plate, board, here, event, kept, memory, reply, out, used) {
             Ok(turned) => {
                 board = turned.board;
                 used = turned.used;
                 at = heard.next;
             }
-            Err(bad) => {
-                return Played {
-                    board,
-                    at,
-                    used: bad.used,
-                    stop: Stop::Over,
-                };
-            }
+            Err(bad) => return halt(board, at, bad.used, Stop::Over),
         }
     }
-    Played {
-        board,
-        at,
-        used,
-        stop: Stop::Full,
-    }
+    halt(board, at, used, Stop::Full)
 }
 
 // Where the tape stands after a running board's pass.

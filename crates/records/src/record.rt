@@ -8,7 +8,7 @@ pub struct Cursor {
     pub at: usize,
 }
 
-// A whole record: its kind, where its body starts, the body, and the place past it.
+// A whole record: its kind, where its body starts, for a caller that keeps places and not bytes, the body, and the place past it.
 #[derive(Clone, Copy)]
 pub struct Record<'a> {
     pub kind: u16,

@@ -9,6 +9,8 @@ pub const LONGEST_LINE: usize = 413;
 
 pub const LONGEST_BAD_LINE: usize = 25;
 
+// Here and below the output and the place reached in it go as two: a struct that held the output would need a clause in each contract that it still
+// holds the same one.
 fn copy(s: &[u8], out: &mut [u8], at: usize) -> usize
     requires { at + length s.now ≤ length out.old }
     ensures { Printed s.now out.old at result out.new }

@@ -19,7 +19,7 @@ use Rattle.tape.specs.Answers.{Stage, opening, running, ended}
 use Rattle.tape.proofs.Tight.{event_back, event_back_lem, printed_tight}
 use Rattle.turns.specs.Hearing.{Readout, not_yet, tells, readout_of, readout_at}
 use Rattle.turns.specs.Openings.{tape_plate, opened_by}
-use Rattle.turns.specs.Turns.{quickly, board_after, used_after, Turns}
+use Rattle.turns.specs.Turns.{quickly, board_left, used_after, Turns}
 use Rattle.turns.specs.declared.reading.Heard.{Heard}
 use Rattle.turns.specs.declared.opening.Opened.{Opened}
 use Rattle.turns.specs.declared.answering.Turned.{Turned}
@@ -72,7 +72,7 @@ memory_in opening = []
 memory_in (running p s m) = m
 memory_in ended = []
 
-same_turned : (b : Board) (r t : Result Turned BadRecord) → board_after b r ≡ board_after b t → used_after r ≡ used_after t → is_err r ≡ is_err t → r ≡ t
+same_turned : (b : Board) (r t : Result Turned BadRecord) → board_left b r ≡ board_left b t → used_after r ≡ used_after t → is_err r ≡ is_err t → r ≡ t
 same_turned b (Ok r) (Ok t) i j k = let e : r ≡ t = parts i j in ap Ok e
 same_turned b (Err r) (Err t) i j k = let e : r ≡ t = used j in ap Err e
 same_turned b (Ok r) (Err t) i j k = absurd (not-both (sym k))
@@ -83,10 +83,10 @@ pub turn_tight : (p : Plate) (b : Board) (m : List ℕ) (place : ℕ) (x : Said)
 turn_tight p b m place x kept w out used {r} {t} {kept'} {kept''} a c =
     let stage = a.stage ∙ sym c.stage in
     let same : kept' ≡ kept'' = a.bytes ∙ sym c.bytes in
-    let state : state_of (board_after b r) kept' ≡ state_of (board_after b t) kept'' = ap (state_in (fresh (tape_plate p))) stage in
+    let state : state_of (board_left b r) kept' ≡ state_of (board_left b t) kept'' = ap (state_in (fresh (tape_plate p))) stage in
     let line = printed_tight a.printed c.printed in
-    let boards = same-state-same-board (board_after b r) (board_after b t) kept' a.sound.within.few c.sound.within.few (omega (arith, a.sound.within.places))
-    (state ∙ ap (state_of (board_after b t)) (sym same)) in
+    let boards = same-state-same-board (board_left b r) (board_left b t) kept' a.sound.within.few c.sound.within.few (omega (arith, a.sound.within.places))
+    (state ∙ ap (state_of (board_left b t)) (sym same)) in
     record {
       turned = same_turned b r t boards line.0 (a.over ∙ sym c.over);
       kept = same;

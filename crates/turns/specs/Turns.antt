@@ -73,9 +73,9 @@ pub record Quiet (p : Plate) (b : Board) (kept : List ℕ) (x : Said) (b' : Boar
   pub within : (m : List ℕ) → Within (tape_plate p) b kept m → Within (tape_plate p) b' kept' m
 
 -- what a turn leaves: a bad record leaves the board as it was
-abbrev pub board_after : Board → Result Turned BadRecord → Board
-board_after b (Ok r) = r.board
-board_after b (Err e) = b
+abbrev pub board_left : Board → Result Turned BadRecord → Board
+board_left b (Ok r) = r.board
+board_left b (Err e) = b
 
 abbrev pub used_after : Result Turned BadRecord → ℕ
 used_after (Ok r) = r.used
@@ -86,10 +86,10 @@ pub record Turns (p : Plate) (b : Board) (m : List ℕ) (place : ℕ) (x : Said)
     (kept' m' w' out' : List ℕ) : Type 0 where
   pub printed : Printed (turn (runs p b kept m) place x).printed out used (used_after r) out'
   pub over : is_err r ≡ is_ended (turn (runs p b kept m) place x).stage
-  pub stage : runs p (board_after b r) kept' m' ≡ last_of (runs p b kept m) (turn (runs p b kept m) place x).stage
+  pub stage : runs p (board_left b r) kept' m' ≡ last_of (runs p b kept m) (turn (runs p b kept m) place x).stage
   pub bytes : kept' ≡ put kept 0 (stage_kept (turn (runs p b kept m) place x).stage)
   pub room : w' ≡ put w 0 (reply_to (runs p b kept m) x)
-  pub sound : Sound p (board_after b r) kept' m' w'
+  pub sound : Sound p (board_left b r) kept' m' w'
 
 -- the board's call for what a record says; a call that brings a reply has its tick
 pub record CallsBoard (p : Plate) (b : Board) (x : Said) (kept m w : List ℕ) (r : Called) (kept' m' w' : List ℕ) : Type 0 where

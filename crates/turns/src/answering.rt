@@ -1,5 +1,5 @@
 // One record of a running board: what the board answers, what is printed.
-ghost use Rattle.std.specs.Prelude.{◌≡◌, None, List, ℕ, ◌+◌, ◌≤◌, length};
+ghost use Rattle.std.specs.Prelude.{◌≡◌, None, Some, List, ℕ, ◌+◌, ◌≤◌, length};
 ghost use Rattle.meaning.specs.Characters.{over};
 ghost use Rattle.board.specs.Board.{state_of};
 ghost use Rattle.tape.specs.Reader.{said_in};
@@ -65,15 +65,15 @@ fn answered(called: Called, reply: &[u8], out: &mut [u8], used: usize) -> Turned
 }
 
 // A call that brings no line.
-fn unheard(board: Board) -> Called
-    ensures { result ≡ record { stepped = record { board = board; reply = None; remaining = None }; tick = 0 } }
+fn unheard(board: Board) -> Option<Called>
+    ensures { result ≡ Some (record { stepped = record { board = board; reply = None; remaining = None }; tick = 0 }) }
 {
     let stepped = Stepped {
         board,
         reply: None,
         remaining: None,
     };
-    Called { stepped, tick: 0 }
+    Some(Called { stepped, tick: 0 })
 }
 
 // The board's call for what a record says; a second plate and an unfit record are none. Only a character and a poll bring a line. R1 to R3 do not
@@ -108,17 +108,10 @@ fn ask(
             Some(Called { stepped, tick })
         }
         Event::Measured { position } => {
-            let next = board::measured(plate, none, board, position).unwrap();
-            Some(unheard(next))
+            unheard(board::measured(plate, none, board, position).unwrap())
         }
-        Event::Fault { code } => {
-            let next = board::fault(plate, none, board, code).unwrap();
-            Some(unheard(next))
-        }
-        Event::PowerOn => {
-            let next = board::power_on(plate, none, board).unwrap();
-            Some(unheard(next))
-        }
+        Event::Fault { code } => unheard(board::fault(plate, none, board, code).unwrap()),
+        Event::PowerOn => unheard(board::power_on(plate, none, board).unwrap()),
     }
 }
 

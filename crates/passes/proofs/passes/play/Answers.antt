@@ -8,7 +8,7 @@ pub loop-out-init : goal.loop-out-init
 loop-out-init c = begins _ _ _ _ _ _ _ _ _ _ c.requires
 
 pub returns-in_default : goal.returns-in_default
-returns-in_default c = halts_more c.loop-out.invariant c.loop-out-test.true (sym (hears_as _ _ _ _ c.hear.ensures c.in_default.is).heard)
+returns-in_default c = rw c.halt.ensures (halts_more c.loop-out.invariant c.loop-out-test.true (sym (hears_as _ _ _ _ c.hear.ensures c.in_default.is).heard))
 
 pub taken_in-board-requires : goal.taken_in-board-requires
 taken_in-board-requires c = record { quick = sym (c.closes_none.ensures _) ∙ c.if-closes_none.true; fits = fits c.loop-out.invariant }
@@ -38,7 +38,7 @@ loop-out-preserved c =
 pub returns-in-Err : goal.returns-in-Err
 returns-in-Err c =
     let h = hears_as _ _ _ _ c.hear.ensures c.in-Some.is in
-    turn-ends c.loop-out.invariant _ _ c.loop-out-test.true (sym h.heard) (rw c.in-Err.is at c.turn.ensures) refl
+    rw c.halt-in-Err.ensures (turn-ends c.loop-out.invariant _ _ c.loop-out-test.true (sym h.heard) (rw c.in-Err.is at c.turn.ensures) refl)
 
 pub returns : goal.returns
-returns c = halts_full c.loop-out.invariant c.loop-out-test.false
+returns c = rw c.halt-2.ensures (halts_full c.loop-out.invariant c.loop-out-test.false)

@@ -11,14 +11,14 @@ unwrap-stepped-requires c = is-taken _ _ _ _ _ c.requires _ c.character.ensures
 pub unwrap-stepped-requires-in-Poll : goal.unwrap-stepped-requires-in-Poll
 unwrap-stepped-requires-in-Poll c = is-taken _ _ _ _ _ c.requires _ c.poll.ensures
 
-pub unwrap-next-requires : goal.unwrap-next-requires
-unwrap-next-requires c = is-heard _ (is-taken _ _ _ _ _ c.requires _ (c.measured.ensures _ _ _ c.requires.within.places))
+pub unwrap-requires : goal.unwrap-requires
+unwrap-requires c = is-heard _ (is-taken _ _ _ _ _ c.requires _ (c.measured.ensures _ _ _ c.requires.within.places))
 
-pub unwrap-next-requires-in-Fault : goal.unwrap-next-requires-in-Fault
-unwrap-next-requires-in-Fault c = is-heard _ (is-taken _ _ _ _ _ c.requires _ (c.fault.ensures _ _ _ c.requires.within.places))
+pub unwrap-requires-in-Fault : goal.unwrap-requires-in-Fault
+unwrap-requires-in-Fault c = is-heard _ (is-taken _ _ _ _ _ c.requires _ (c.fault.ensures _ _ _ c.requires.within.places))
 
-pub unwrap-next-requires-in-PowerOn : goal.unwrap-next-requires-in-PowerOn
-unwrap-next-requires-in-PowerOn c = is-heard _ (is-taken _ _ _ _ _ c.requires _ (c.power_on.ensures _ _ _ c.requires.within.places))
+pub unwrap-requires-in-PowerOn : goal.unwrap-requires-in-PowerOn
+unwrap-requires-in-PowerOn c = is-heard _ (is-taken _ _ _ _ _ c.requires _ (c.power_on.ensures _ _ _ c.requires.within.places))
 
 pub returns-in-Plate : goal.returns-in-Plate
 returns-in-Plate c = rw (c.in_ok-event.was, c.in-Plate.is) (plate-uncalled _ _ _ _)
@@ -31,12 +31,12 @@ returns-in-Poll c = rw (c.in_ok-event.was, c.in-Poll.is) (poll-called _ _ (rw c.
 
 pub returns-in-Measured : goal.returns-in-Measured
 returns-in-Measured c =
-    rw (c.in_ok-event.was, c.in-Measured.is, c.unheard.ensures) (measured-called _ _ (rw c.unwrap-next.ensures at (c.measured.ensures c.args.kept.now c.args.memory.now c.args.reply.now c.requires.within.places)))
+    rw (c.in_ok-event.was, c.in-Measured.is, c.unheard.ensures) (measured-called _ _ (rw c.unwrap.ensures at (c.measured.ensures c.args.kept.now c.args.memory.now c.args.reply.now c.requires.within.places)))
 
 pub returns-in-Fault : goal.returns-in-Fault
 returns-in-Fault c =
-    rw (c.in_ok-event.was, c.in-Fault.is, c.unheard-in-Fault.ensures) (fault-called _ _ (rw c.unwrap-next-in-Fault.ensures at (c.fault.ensures c.args.kept.now c.args.memory.now c.args.reply.now c.requires.within.places)))
+    rw (c.in_ok-event.was, c.in-Fault.is, c.unheard-in-Fault.ensures) (fault-called _ _ (rw c.unwrap-in-Fault.ensures at (c.fault.ensures c.args.kept.now c.args.memory.now c.args.reply.now c.requires.within.places)))
 
 pub returns-in-PowerOn : goal.returns-in-PowerOn
 returns-in-PowerOn c =
-    rw (c.in_ok-event.was, c.in-PowerOn.is, c.unheard-in-PowerOn.ensures) (power_on-called _ (rw c.unwrap-next-in-PowerOn.ensures at (c.power_on.ensures c.args.kept.now c.args.memory.now c.args.reply.now c.requires.within.places)))
+    rw (c.in_ok-event.was, c.in-PowerOn.is, c.unheard-in-PowerOn.ensures) (power_on-called _ (rw c.unwrap-in-PowerOn.ensures at (c.power_on.ensures c.args.kept.now c.args.memory.now c.args.reply.now c.requires.within.places)))
