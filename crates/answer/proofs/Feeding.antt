@@ -2,42 +2,35 @@
 use Prim.Native.Nat.{ℕ, ◌+◌, ◌-◌, ◌≤◌, ◌<◌}
 use mathlib.Core.Path.{◌≡◌, refl, sym, ap, ◌∙◌}
 use mathlib.Core.Bool.{Bool, true, false, cond, false≢true}
-use mathlib.Core.List.{List, [], ◌∷◌}
+use mathlib.Core.List.{List, []}
 use native.Mathlib.Omega.{arith}
 use lib.Dec.{leb}
 use lib.ListN.{length, take, drop, length-take, length-drop, length-replicate}
 use borrow.Author.Tests.{leb-false}
-use types.Run.{OneOf, miss}
-use denote.Enum.Declared.{tag_of}
 use Rattle.tape.specs.Text.{first_line}
 use Rattle.tape.specs.Reader.{Printed}
 use Rattle.tape.proofs.Texts.{same_size}
 use Rattle.passes.specs.declared.session.Phase.{Phase}
-use Rattle.passes.specs.declared.session.Phase.TheVariants.{Ended}
-use Rattle.passes.specs.contracts.session.Phase.{the_type}
+use Rattle.passes.specs.declared.session.Phase.TheVariants.{Opening, Running, Ended}
+use Rattle.passes.specs.declared.session.Work.{Work}
 use Rattle.passes.specs.declared.session.Session.{Session}
 use Rattle.passes.specs.declared.passes.Eaten.{Eaten}
-use Rattle.passes.specs.Sessions.{largest_memory, AtTapeStart, ReadyForPass, Eats}
-use Rattle.answer.specs.declared.streams.Output.{Output}
+use Rattle.passes.specs.Sessions.{largest_memory, has_ended, AtTapeStart, ReadyForPass, Eats}
+use Rattle.std.specs.Prelude.{Option}
 use Rattle.answer.specs.Program.{is_over, Leaves, Buffers}
 
-either_way : (a : Bool) → cond a true true ≡ true
-either_way true = refl
-either_way false = refl
-
-not_left : (a b : Bool) → cond a true b ≡ false → a ≡ false
-not_left true b e = absurd (false≢true (sym e))
-not_left false b e = refl
-
-over-ended : (s : Session) → s.phase ≡ Ended → is_over s ≡ true
-over-ended s e = rw e (either_way (leb 9223372036854775808 s.place))
-
 -- a tape that is not over goes on
-pub goes_on : (s : Session) → is_over s ≡ false → (s.phase ≡ Ended → ⊥) × (s.place < 9223372036854775808)
-goes_on s n = (λ e. false≢true (sym n ∙ over-ended s e), leb-false _ _ (not_left _ _ n))
+pub goes_on : (s : Session) → is_over s ≡ false → (has_ended s.phase ≡ false) × (s.place < 9223372036854775808)
+goes_on s n = go (leb 9223372036854775808 s.place) refl n
+  where
+    go : (a : Bool) → leb 9223372036854775808 s.place ≡ a → cond a true (has_ended s.phase) ≡ false → (has_ended s.phase ≡ false) × (s.place < 9223372036854775808)
+    go true e n = absurd (false≢true (sym n))
+    go false e n = (n, leb-false _ _ e)
 
-pub not-ended : (f : Phase) → OneOf (0 ∷ 1 ∷ []) (tag_of the_type f) → f ≡ Ended → ⊥
-not-ended f k e = miss (0 ∷ 1 ∷ []) 2 tt (rw e at k)
+pub not-ended : (f : Phase) → ((o : Option Work) → f ≡ Ended o → ⊥) → has_ended f ≡ false
+not-ended Opening k = refl
+not-ended (Running w) k = refl
+not-ended (Ended o) k = absurd (k o refl)
 
 module _ (s : Session) (kept m w out : List ℕ) (used : ℕ) (ready : ReadyForPass s [] kept m w out used) where
   -- a window of bytes, at a place that is not too far
@@ -55,10 +48,10 @@ module _ (s : Session) (kept m w out : List ℕ) (used : ℕ) (ready : ReadyForP
   pub emptied : ReadyForPass s [] kept m w out 0
   emptied = record { steady = ready.steady; lent = ready.lent; size = ready.size; room = ready.room; space = omega arith; place = ready.place }
 
-  pub eaten-leaves : (o : Output) (window part : List ℕ) (at : ℕ) (r : Eaten) (kept' m' w' out' : List ℕ) → s.place < 9223372036854775808 → length window ≤ 65536
+  pub eaten-leaves : (window part : List ℕ) (at : ℕ) (r : Eaten) (kept' m' w' out' : List ℕ) → s.place < 9223372036854775808 → length window ≤ 65536
       → at + length part ≤ length window → Eats s part kept m w out used r kept' m' w' out' → length kept' ≡ length kept → length m' ≡ length m → length w' ≡ length w
-      → Leaves (record { session = r.session; at = at + r.read; used = r.used; output = o }) window kept' m' w' out'
-  eaten-leaves o window part at r kept' m' w' out' h l i e k₁ k₂ k₃ = record {
+      → Leaves (record { session = r.session; at = at + r.read; used = r.used }) window kept' m' w' out'
+  eaten-leaves window part at r kept' m' w' out' h l i e k₁ k₂ k₃ = record {
     inside = omega (arith, e.inside);
     space = omega (arith, e.printed.within, same_size e.printed);
     ready = λ n. record {

@@ -1,3 +1,2 @@
--- The definitions of `answer`, file by file.
+-- The definitions of `answer`.
 pub mod Program
-pub mod Streams

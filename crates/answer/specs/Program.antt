@@ -1,26 +1,19 @@
 -- What the program's functions ask of its buffers and leave of them. Assumes nothing.
 use Rattle.std.specs.Prelude.{ℕ, ◌≤◌, ◌≡◌, Bool, true, false, cond, List, [], leb, length}
 use Rattle.meaning.specs.Bytes.{zeros, longest_reply, longest_request}
-use Rattle.passes.specs.declared.session.Phase.{Phase}
-use Rattle.passes.specs.declared.session.Phase.TheVariants.{Opening, Running, Ended}
 use Rattle.passes.specs.declared.session.Session.{Session}
-use Rattle.passes.specs.Sessions.{largest_memory, ReadyForPass}
+use Rattle.passes.specs.Sessions.{largest_memory, has_ended, ReadyForPass}
 use Rattle.answer.specs.declared.Fed.{Fed}
-
-abbrev pub is_last : Phase → Bool
-is_last Opening = false
-is_last Running = false
-is_last Ended = true
 
 -- a record was bad, or the place is one that no tape has
 abbrev pub is_over : Session → Bool
-is_over s = cond (leb 9223372036854775808 s.place) true (is_last s.phase)
+is_over s = cond (leb 9223372036854775808 s.place) true (has_ended s.phase)
 
--- after a window the board is ready for the next, unless a record was bad; the output may have failed or not
+-- after a window the board is ready for the next, unless a record was bad
 pub record Leaves (r : Fed) (window kept m w out : List ℕ) : Type 0 where
   pub inside : r.at ≤ length window
   pub space : r.used ≤ length out
-  pub ready : (r.session.phase ≡ Ended → ⊥) → ReadyForPass r.session [] kept m w out r.used
+  pub ready : has_ended r.session.phase ≡ false → ReadyForPass r.session [] kept m w out r.used
 
 -- the buffers at the start
 pub record Buffers (window kept m w out : List ℕ) : Type 0 where

@@ -5,50 +5,29 @@
 
 mod streams;
 
-ghost use Rattle.std.specs.Prelude.{◌≡◌, [], ◌+◌, ◌-◌, ◌≤◌, ◌<◌, length};
-ghost use Rattle.meaning.specs.Bytes.{part, put};
+ghost use Rattle.std.specs.Prelude.{◌≡◌, [], ◌≤◌, length, IfOk};
 ghost use Rattle.answer.specs.Program.{is_over, Leaves, Buffers};
 ghost use Rattle.tape.specs.Text.{longest_bad_line};
 ghost use Rattle.passes.specs.Sessions.{ReadyForPass};
 
 use passes::{Phase, Session, Stop};
-use streams::{Input, Output, flush, refill};
+use streams::{Failed, flush, refill};
 use tape::LONGEST_BAD_LINE;
 use wire::codes::{LONGEST_REPLY, LONGEST_REQUEST};
 
-// What a window came to: where the tape stands, how far the window was read, how much of the output is used, and whether it could be written.
+// What a window came to: where the tape stands, how far the window was read, how much of the output is used.
 #[derive(Clone, Copy)]
 struct Fed {
     session: Session,
     at: usize,
     used: usize,
-    output: Output,
-}
-
-fn halt(session: Session, at: usize, used: usize, output: Output) -> Fed
-    ensures { result ≡ record { session = session; at = at; used = used; output = output } }
-{
-    Fed {
-        session,
-        at,
-        used,
-        output,
-    }
 }
 
 // No more is eaten: a record was bad, or the place is one that no tape has, 2 to the 63 and more.
 fn is_over(session: Session) -> bool
     ensures { result ≡ is_over session }
 {
-    if 9223372036854775808 <= session.place {
-        return true;
-    }
-    let phase = session.phase;
-    match phase {
-        Phase::Opening => false,
-        Phase::Running => false,
-        Phase::Ended => true,
-    }
+    session.place >= 1 << 63 || matches!(session.phase, Phase::Ended(_))
 }
 
 // Eats what the window has, and writes the output whenever it is full. Each pass that is stopped for want of space has read a record, so the
@@ -62,64 +41,48 @@ fn feed(
     reply: &mut [u8],
     out: &mut [u8],
     start: usize,
-) -> Fed
+) -> Result<Fed, Failed>
     requires ready { ReadyForPass first [] kept.old memory.old reply.old out.old start }
     requires window_size { length window.now ≤ 65536 }
-    ensures { Leaves result window.now kept.new memory.new reply.new out.new }
+    ensures { IfOk result (λ r. Leaves r window.now kept.new memory.new reply.new out.new) }
 {
     let mut session = first;
     let mut at = 0;
     let mut used = start;
-    let mut turns = window.len() + 1;
-    while 0 < turns {
-        turns -= 1;
+    'passes: for _ in 0..=window.len() {
         if is_over(session) {
-            return halt(session, at, used, Output::Written);
+            return Ok(Fed { session, at, used });
         }
         let eaten = passes::eat(session, &window[at..], kept, memory, reply, out, used);
         session = eaten.session;
         at += eaten.read;
         used = eaten.used;
-        let stop = eaten.stop;
-        let Stop::Full = stop else {
-            return halt(session, at, used, Output::Written);
-        };
-        let output = flush(rt, out, used);
-        let Output::Written = output else {
-            return halt(session, at, used, output);
-        };
+        if eaten.stop != Stop::Full {
+            return Ok(Fed { session, at, used });
+        }
+        flush(rt, &out[..used])?;
         used = 0;
     }
-    halt(session, at, used, Output::Written)
-}
-
-// The bytes from one place to another go to the front of the window.
-fn shift(window: &mut [u8], from: usize, to: usize) -> usize
-    requires { (from ≤ to) × (to ≤ length window.old) }
-    ensures { (from + result ≡ to) × (window.new ≡ put window.old 0 (part window.old from (to - from))) }
-{
-    let mut i = 0;
-    while i < to - from {
-        window[i] = window[from + i];
-        i += 1;
-    }
-    to - from
+    Ok(Fed { session, at, used })
 }
 
 // The end of the tape: what is left is a record cut short, and the output is written.
-fn end(rt: HostRuntime, session: Session, rest: &[u8], out: &mut [u8], used: usize)
+fn end(
+    rt: HostRuntime,
+    session: Session,
+    rest: &[u8],
+    out: &mut [u8],
+    used: usize,
+) -> Result<(), Failed>
     requires { (used ≤ length out.old) × (longest_bad_line ≤ length out.old) }
 {
+    let mut start = used;
     if out.len() - used < LONGEST_BAD_LINE {
-        let Output::Written = flush(rt, out, used) else {
-            return;
-        };
-        let last = passes::finish(session, rest, out, 0);
-        flush(rt, out, last);
-        return;
+        flush(rt, &out[..used])?;
+        start = 0;
     }
-    let last = passes::finish(session, rest, out, used);
-    flush(rt, out, last);
+    let last = passes::finish(session, rest, out, start);
+    flush(rt, &out[..last])
 }
 
 fn run(
@@ -129,38 +92,42 @@ fn run(
     memory: &mut [u8],
     reply: &mut [u8],
     out: &mut [u8],
-)
+) -> Result<(), Failed>
     requires { Buffers window.old kept.old memory.old reply.old out.old }
 {
     let mut session = Session::start();
     let mut have = 0;
     let mut used = tape::first_line(out, 0);
-    let mut turns = u64::MAX;
-    while 0 < turns {
-        turns -= 1;
-        let input = refill(rt, window, have);
-        // What was answered so far is written. The tape has not ended, so that the rest is no record cut short.
-        if let Input::Failed = input {
-            flush(rt, out, used);
-            return;
-        }
-        let Input::More { total } = input else {
-            end(rt, session, &window[..have], out, used);
-            return;
+    'windows: for _ in 0..u64::MAX {
+        let read = match refill(rt, &mut window[have..]) {
+            Ok(Some(count)) => count,
+            Ok(None) => return end(rt, session, &window[..have], out, used),
+            // What was answered so far is written. The tape has not ended, so that the rest is no record cut short.
+            Err(failed) => {
+                flush(rt, &out[..used])?;
+                return Err(failed);
+            }
         };
-        let bytes = &window[..total];
-        let fed = feed(rt, session, bytes, kept, memory, reply, out, used);
+        let total = have + read;
+        let fed = feed(
+            rt,
+            session,
+            &window[..total],
+            kept,
+            memory,
+            reply,
+            out,
+            used,
+        )?;
         session = fed.session;
         used = fed.used;
-        if let Output::Failed = fed.output {
-            return;
+        if let Phase::Ended(_) = session.phase {
+            return flush(rt, &out[..used]);
         }
-        if let Phase::Ended = session.phase {
-            flush(rt, out, used);
-            return;
-        }
-        have = shift(window, fed.at, total);
+        window.copy_within(fed.at..total, 0);
+        have = total - fed.at;
     }
+    Ok(())
 }
 
 fn main(rt: HostRuntime) {
@@ -169,7 +136,8 @@ fn main(rt: HostRuntime) {
     let mut kept = [0u8; LONGEST_REQUEST];
     let mut memory = [0u8; 1904];
     let mut reply = [0u8; LONGEST_REPLY];
-    run(
+    // What failed has been told.
+    let _ = run(
         rt,
         &mut window,
         &mut kept,

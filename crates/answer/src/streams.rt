@@ -1,6 +1,5 @@
 // Standard input and standard output. What cannot be read or written is told on standard error at once.
-ghost use Rattle.std.specs.Prelude.{◌≤◌, length};
-ghost use Rattle.answer.specs.Streams.{Refills, total_after, taken_by};
+ghost use Rattle.std.specs.Prelude.{◌≤◌, length, IfOk, IfSome};
 
 use std::io;
 use std::io::{Cursor, ErrorKind, Read, Write};
@@ -9,27 +8,9 @@ const UNREAD: &str = "answer: standard input cannot be read: ";
 
 const UNWRITTEN: &str = "answer: standard output cannot be written: ";
 
-// What a read came to: so many bytes in the window, the end of the tape, or a failure.
+// Input or output failed, and that has been told.
 #[derive(Clone, Copy)]
-pub(crate) enum Input {
-    More { total: usize },
-    End,
-    Failed,
-}
-
-// Whether all of the output could be written.
-#[derive(Clone, Copy)]
-pub(crate) enum Output {
-    Written,
-    Failed,
-}
-
-// What a write came to: so many bytes taken, or a failure.
-#[derive(Clone, Copy)]
-enum Taken {
-    Bytes { count: usize },
-    Failed,
-}
+pub(crate) struct Failed;
 
 // A signal came before a byte was moved. That is no failure, and no end: the call is made again.
 fn is_interrupted(why: &io::Error) -> bool {
@@ -60,62 +41,53 @@ fn tell(rt: HostRuntime, what: &str, why: &io::Error) {
     let _end = errors.write_all(b"\n");
 }
 
-// One read behind the bytes that the window has. It need not fill the window: a failure is then seen by the read that failed, and no bytes that
-// came before it wait for it.
-pub(crate) fn refill(rt: HostRuntime, window: &mut [u8], have: usize) -> Input
-    requires { have ≤ length window.old }
-    ensures { Refills window.old have (total_after have result) window.new }
+// One read: so many bytes, or None at the end of the tape. It need not fill the room: a failure is then seen by the read that failed, and no bytes
+// that came before it wait for it.
+pub(crate) fn refill(rt: HostRuntime, room: &mut [u8]) -> Result<Option<usize>, Failed>
+    ensures { IfOk result (λ r. IfSome r (λ n. n ≤ length room.old)) }
 {
-    match rt.stdin().read(&mut window[have..]) {
-        Ok(0) => Input::End,
-        Ok(count) => Input::More {
-            total: have + count,
-        },
+    match rt.stdin().read(room) {
+        Ok(0) => Ok(None),
+        Ok(count) => Ok(Some(count)),
         Err(why) => {
             if is_interrupted(&why) {
-                return Input::More { total: have };
+                return Ok(Some(0));
             }
             tell(rt, UNREAD, &why);
-            Input::Failed
+            Err(Failed)
         }
     }
 }
 
-// One write. One that takes nothing has failed.
-fn put(rt: HostRuntime, rest: &[u8]) -> Taken
-    ensures { taken_by result ≤ length rest.now }
+// One write: so many bytes. One that takes nothing has failed.
+fn put(rt: HostRuntime, rest: &[u8]) -> Result<usize, Failed>
+    ensures { IfOk result (λ n. n ≤ length rest.now) }
 {
     match rt.stdout().write(rest) {
         Ok(0) => {
             tell(rt, UNWRITTEN, &io::Error::from(ErrorKind::WriteZero));
-            Taken::Failed
+            Err(Failed)
         }
-        Ok(count) => Taken::Bytes { count },
+        Ok(count) => Ok(count),
         Err(why) => {
             if is_interrupted(&why) {
-                return Taken::Bytes { count: 0 };
+                return Ok(0);
             }
             tell(rt, UNWRITTEN, &why);
-            Taken::Failed
+            Err(Failed)
         }
     }
 }
 
-// Writes the front of the output. The turns are counted only because a loop has to end.
-pub(crate) fn flush(rt: HostRuntime, out: &[u8], used: usize) -> Output
-    requires { used ≤ length out.now }
-{
-    let mut at = 0;
-    let mut turns = u64::MAX;
-    while 0 < turns {
-        turns -= 1;
-        if at == used {
-            return Output::Written;
+// Writes all of the text. The turns are counted only because a loop has to end.
+pub(crate) fn flush(rt: HostRuntime, text: &[u8]) -> Result<(), Failed> {
+    let mut rest = text;
+    for _ in 0..u64::MAX {
+        if rest.is_empty() {
+            return Ok(());
         }
-        let Taken::Bytes { count } = put(rt, &out[at..used]) else {
-            return Output::Failed;
-        };
-        at += count;
+        let count = put(rt, rest)?;
+        rest = &rest[count..];
     }
-    Output::Failed
+    Err(Failed)
 }

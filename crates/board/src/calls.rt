@@ -42,6 +42,7 @@ pub fn fresh(plate: Plate) -> Board
     }
 }
 
+// What is lent stays apart: the clauses would name a struct that holds a reference as `x.entry`, and for each `&mut` in it say that it is the caller's.
 // A poll: an open frame that is over is closed, and nothing else changes.
 pub fn poll(
     plate: Plate,

@@ -23,7 +23,7 @@ pub(crate) fn within_limits(plate: Plate, label: usize, board: Board) -> Result<
 {
     if label == LABEL_LENGTH
         && plate.is_ok()
-        && board.frame.len <= LONGEST_REQUEST as u8
+        && usize::from(board.frame.len) <= LONGEST_REQUEST
         && board.state.is_ok(plate.bits)
     {
         return Ok(());

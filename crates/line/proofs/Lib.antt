@@ -2,3 +2,4 @@
 pub mod Kept
 pub mod Judging
 pub mod Tight
+mod Powers

@@ -25,7 +25,7 @@ pub struct OpenFrame {
 pub fn is_over(left: Option<u64>) -> bool
     ensures { result ≡ ran_out (remaining_of left) }
 {
-    left == Some(0)
+    matches!(left, Some(0))
 }
 
 impl OpenFrame {
@@ -51,8 +51,12 @@ impl OpenFrame {
         if !self.begun {
             return None;
         }
-        let since = gap(self.last, tick);
-        Some(pause.saturating_sub(u64::from(since)))
+        let since = u64::from(gap(self.last, tick));
+        // Compared first: with `saturating_sub` a kept character takes seven instructions more, which is over its limit.
+        if pause <= since {
+            return Some(0);
+        }
+        Some(pause - since)
     }
 }
 

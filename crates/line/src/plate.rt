@@ -48,11 +48,12 @@ impl Plate {
     }
 }
 
-#[tactic(auto, unfolding(meaning::specs::Bytes::among))]
+// A power of two has one bit set: told so in fewer instructions than by a list of the seven.
+#[tactic(auto, using(crate::proofs::Powers::one_bit, crate::proofs::Powers::too_few, crate::proofs::Powers::too_many))]
 fn ticks_ok(ticks: u32) -> bool
     ensures { result ≡ among ticks (1 ∷ 2 ∷ 4 ∷ 8 ∷ 16 ∷ 32 ∷ 64 ∷ []) }
 {
-    matches!(ticks, 1 | 2 | 4 | 8 | 16 | 32 | 64)
+    matches!(ticks, 1..=64) && ticks & (ticks - 1) == 0
 }
 
 #[tactic(auto, unfolding(meaning::specs::Bytes::among))]

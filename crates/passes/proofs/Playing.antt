@@ -8,6 +8,7 @@ use native.Mathlib.Omega.{arith}
 use lib.ListN.{length, drop}
 use lib.Seq.{drop-drop}
 use borrow.Author.Tests.{lt-ltb, le-ltb}
+use Rattle.std.specs.Prelude.{Result, is_err}
 use Rattle.meaning.specs.Bytes.{put}
 use Rattle.meaning.specs.State as meaning
 use Rattle.line.specs.declared.plate.Plate.{Plate}
@@ -24,16 +25,15 @@ use Rattle.tape.proofs.Outputs.{put-nil}
 use Rattle.tape.proofs.Texts.{same_size, joined}
 use Rattle.turns.specs.Hearing.{Past}
 use Rattle.turns.specs.Openings.{tape_plate}
-use Rattle.turns.specs.Turns.{Sound, runs, stage_kept, is_ended, last_of, quickly, Quiet, Turns}
+use Rattle.turns.specs.Turns.{Sound, runs, stage_kept, is_ended, last_of, quickly, Quiet, board_after, used_after, Turns}
 use Rattle.turns.proofs.Tight.{not-both}
 use Rattle.passes.specs.Holding.{LentState, lent_state, lent_after, lent_by}
 use Rattle.passes.proofs.Holding.{held_parts, held-full, held_more, held-bad, held-good}
-use Rattle.passes.specs.Sessions.{Plays, Playable, stop_told, phase_after}
+use Rattle.passes.specs.Sessions.{Plays, Playable, stop_told, stage_after}
 use Rattle.passes.proofs.Closings.{no_text}
-use Rattle.passes.specs.declared.passes.Played.{Played}
 use Rattle.turns.specs.declared.answering.Turned.{Turned}
+use Rattle.turns.specs.declared.answering.BadRecord.{BadRecord}
 use Rattle.passes.specs.declared.session.Stop.TheVariants.{More, Full, Over}
-use Rattle.passes.specs.declared.session.Phase.TheVariants.{Running}
 
 -- ---- one turn of a pass
 
@@ -130,46 +130,42 @@ module _ {p : Plate} {place : ℕ} {window : List ℕ} {from : ℕ} {kept₀ m�
   fits = told-fits b kept g.sound.within.few g.sound.within.places
 
   -- no space for a line, no whole record
-  halted : (why : passes.Stop) (r : Played) → phase_after (stop_told why) ≡ Running → all ≡ before g.read g.text (stopped here why) → lent ≡ now
-      → r ≡ record { board = b; at = at; used = used; stop = stop_told why }
-      → Plays p all lent from window out₀ start r kept m w out
+  halted : (why : passes.Stop) → ((v : Stage) → stage_after (stop_told why) v ≡ v) → all ≡ before g.read g.text (stopped here why) → lent ≡ now
+      → Plays p all lent from window out₀ start (record { board = b; at = at; used = used; stop = stop_told why }) kept m w out
   unfolding stopped
-  halted why r k e l d =
-      rw (e, d)
+  halted why k e l =
+      rw e
       (record {
         read = rw add-zero g.far;
         inside = g.inside;
         stop = refl;
         printed = rw append-nil g.printed;
-        stage = rw k;
+        stage = k here;
         held = sym l;
         sound = g.sound;
       })
 
-  pub halts_full : (r : Played) → length out - used < longest_line → r ≡ record { board = b; at = at; used = used; stop = Full }
-      → Plays p all lent from window out₀ start r kept m w out
-  halts_full r h d =
-      halted passes.full r refl (g.whole ∙ ap (before g.read g.text) (pass-full g.fuel (length out - used) here (place + at) (drop at window) h))
-      (g.held ∙ held-full g.fuel (length out - used) (place + at) (drop at window) now h) d
+  pub halts_full : length out - used < longest_line → Plays p all lent from window out₀ start (record { board = b; at = at; used = used; stop = Full }) kept m w out
+  halts_full h =
+      halted passes.full (λ v. refl) (g.whole ∙ ap (before g.read g.text) (pass-full g.fuel (length out - used) here (place + at) (drop at window) h))
+      (g.held ∙ held-full g.fuel (length out - used) (place + at) (drop at window) now h)
 
-  pub halts_more : (r : Played) → longest_line ≤ length out - used → next_record (drop at window) ≡ incomplete
-      → r ≡ record { board = b; at = at; used = used; stop = More }
-      → Plays p all lent from window out₀ start r kept m w out
-  halts_more r h e d =
-      halted passes.more r refl (g.whole ∙ ap (before g.read g.text) (pass-more g.fuel (length out - used) here (place + at) (drop at window) h e))
-      (g.held ∙ held_more g.fuel (length out - used) (place + at) (drop at window) now h e) d
+  pub halts_more : longest_line ≤ length out - used → next_record (drop at window) ≡ incomplete
+      → Plays p all lent from window out₀ start (record { board = b; at = at; used = used; stop = More }) kept m w out
+  halts_more h e =
+      halted passes.more (λ v. refl) (g.whole ∙ ap (before g.read g.text) (pass-more g.fuel (length out - used) here (place + at) (drop at window) h e))
+      (g.held ∙ held_more g.fuel (length out - used) (place + at) (drop at window) now h e)
 
   -- a bad record
-  pub ends : {kept' m' w' out' : List ℕ} (b' : Board) (x : Said) (end : ℕ) (r : Played)
+  ends : {kept' m' w' out' : List ℕ} (b' : Board) (x : Said) (end : ℕ)
       → longest_line ≤ length out - used → next_record (drop at window) ≡ says x → (done x).stage ≡ ended → Printed (done x).printed out used end out'
       → Sound p b' kept' m' w' → lent_state (runs p b' kept' m') kept' w' ≡ lent_after now (place + at) x
-      → r ≡ record { board = b'; at = at; used = end; stop = Over }
-      → Plays p all lent from window out₀ start r kept' m' w' out'
+      → Plays p all lent from window out₀ start (record { board = b'; at = at; used = end; stop = Over }) kept' m' w' out'
   unfolding after
-  ends b' x end r h e k pr sound l d =
+  ends b' x end h e k pr sound l =
       let q : all ≡ before g.read g.text (record { stage = ended; read = 0; printed = (done x).printed; stop = passes.over })
       = g.whole ∙ ap (before g.read g.text) (pass-turn g.fuel (length out - used) here (place + at) (drop at window) x h e ∙ rw k) in
-      rw (q, d)
+      rw q
       (record {
         read = rw add-zero g.far;
         inside = g.inside;
@@ -236,21 +232,19 @@ module _ {p : Plate} {place : ℕ} {window : List ℕ} {from : ℕ} {kept₀ m�
   unfit-ends x u = rw u
 
   -- any other record: a bad one, a good one
-  module _ {kept' m' w' out' : List ℕ} (x : Said) (q : Turned) (h : longest_line ≤ length out - used) (e : next_record (drop at window) ≡ says x)
-      (turns : Turns p here (place + at) x kept w out used q kept' m' w' out') where
-    holds_after : lent_state (runs p q.board kept' m') kept' w' ≡ lent_after now (place + at) x
+  module _ {kept' m' w' out' : List ℕ} (x : Said) (q : Result Turned BadRecord) (h : longest_line ≤ length out - used) (e : next_record (drop at window) ≡ says x)
+      (turns : Turns p b m (place + at) x kept w out used q kept' m' w' out') where
+    holds_after : lent_state (runs p (board_after b q) kept' m') kept' w' ≡ lent_after now (place + at) x
     holds_after = held_parts turns.stage turns.bytes turns.room
 
-    pub turn-ends : (r : Played) → q.over ≡ true → r ≡ record { board = q.board; at = at; used = q.used; stop = Over }
-        → Plays p all lent from window out₀ start r kept' m' w' out'
-    turn-ends r o d =
-        ends q.board x q.used r h e (over-ends (done x).stage (sym turns.over ∙ o)) turns.printed turns.sound holds_after d
+    pub turn-ends : is_err q ≡ true → Plays p all lent from window out₀ start (record { board = board_after b q; at = at; used = used_after q; stop = Over }) kept' m' w' out'
+    turn-ends o = ends (board_after b q) x (used_after q) h e (over-ends (done x).stage (sym turns.over ∙ o)) turns.printed turns.sound holds_after
 
     -- a record that was not bad fits
-    pub turn-past : (next : ℕ) → q.over ≡ false → ((x ≡ unfit → ⊥) → Past at window next) → Past at window next
+    pub turn-past : (next : ℕ) → is_err q ≡ false → ((x ≡ unfit → ⊥) → Past at window next) → Past at window next
     turn-past next o past = past (λ u. not-both (sym (unfit-ends x u) ∙ sym turns.over ∙ o))
 
-    pub turn-goes : (next : ℕ) → q.over ≡ false → ((x ≡ unfit → ⊥) → Past at window next)
-        → Going p place window from kept₀ m₀ w₀ out₀ start b₀ kept' m' w' out' q.board next q.used
+    pub turn-goes : (next : ℕ) → is_err q ≡ false → ((x ≡ unfit → ⊥) → Past at window next)
+        → Going p place window from kept₀ m₀ w₀ out₀ start b₀ kept' m' w' out' (board_after b q) next (used_after q)
     turn-goes next o past =
-        goes_on x next q.used h e (sym (turns.stage ∙ last_goes here (done x).stage (sym turns.over ∙ o))) turns.printed turns.sound holds_after (turn-past next o past)
+        goes_on x next (used_after q) h e (sym (turns.stage ∙ last_goes here (done x).stage (sym turns.over ∙ o))) turns.printed turns.sound holds_after (turn-past next o past)

@@ -1,8 +1,7 @@
 -- Where a tape stands between two of its parts, as a stage of the meaning; what a pass and the end of the tape leave. Assumes nothing.
-use Rattle.std.specs.Prelude.{ℕ, suc, ◌+◌, ◌-◌, ◌≤◌, ◌<◌, ◌^◌, ◌≡◌, true, List, length, take, drop}
+use Rattle.std.specs.Prelude.{ℕ, suc, ◌+◌, ◌-◌, ◌≤◌, ◌<◌, ◌^◌, ◌≡◌, Bool, true, false, List, Option, None, Some, length, take, drop}
 use Rattle.meaning.specs.Bytes.{zeros, put, longest_reply, longest_request}
 use Rattle.meaning.specs.State as meaning
-use Rattle.meaning.specs.State.{fresh}
 use Rattle.meaning.specs.Fields.{memory_length}
 use Rattle.line.specs.declared.plate.Plate.{Plate}
 use Rattle.board.specs.declared.limits.Board.{Board}
@@ -19,6 +18,7 @@ use Rattle.passes.specs.Holding.{LentState, lent_state, lent_by}
 use Rattle.passes.specs.declared.session.Phase.{Phase}
 use Rattle.passes.specs.declared.session.Phase.TheVariants.{Opening, Running, Ended}
 use Rattle.passes.specs.declared.session.Session.{Session}
+use Rattle.passes.specs.declared.session.Work.{Work}
 use Rattle.passes.specs.declared.session.Stop.{Stop}
 use Rattle.passes.specs.declared.session.Stop.TheVariants.{More, Full, Over}
 use Rattle.passes.specs.declared.passes.Played.{Played}
@@ -28,13 +28,28 @@ use Rattle.passes.specs.declared.passes.Eaten.{Eaten}
 abbrev pub largest_memory : ℕ
 largest_memory = memory_length 112
 
-abbrev pub stage_from : Phase → Plate → Board → List ℕ → List ℕ → Stage
-stage_from Opening p b kept m = opening
-stage_from Running p b kept m = running (tape_plate p) (state_of b kept) m
-stage_from Ended p b kept m = ended
+-- a board at work as a stage
+abbrev pub at_work : Work → List ℕ → List ℕ → Stage
+at_work k kept m = running (tape_plate k.plate) (state_of k.board kept) (take (memory_length k.plate.total) m)
+
+abbrev pub stage_in : Phase → List ℕ → List ℕ → Stage
+stage_in Opening kept m = opening
+stage_in (Running k) kept m = at_work k kept m
+stage_in (Ended o) kept m = ended
 
 abbrev pub stage_of : Session → List ℕ → List ℕ → Stage
-stage_of s kept m = stage_from s.phase s.plate s.board kept (take (memory_length s.plate.total) m)
+stage_of s kept m = stage_in s.phase kept m
+
+-- the board that is at work, or was until a record was bad
+abbrev pub work_in : Phase → Option Work
+work_in Opening = None
+work_in (Running k) = Some k
+work_in (Ended o) = o
+
+abbrev pub has_ended : Phase → Bool
+has_ended Opening = false
+has_ended (Running k) = false
+has_ended (Ended o) = true
 
 -- a record that closes no frame of a board whose kept bytes are within their places
 pub record TakesQuickly (p : Plate) (b : Board) (x : Said) (kept : List ℕ) : Type 0 where
@@ -47,28 +62,28 @@ stop_told passes.more = More
 stop_told passes.full = Full
 stop_told passes.over = Over
 
-abbrev pub phase_after : Stop → Phase
-phase_after More = Running
-phase_after Full = Running
-phase_after Over = Ended
+abbrev pub phase_after : Stop → Work → Phase
+phase_after More k = Running k
+phase_after Full k = Running k
+phase_after Over k = Ended (Some k)
+
+abbrev pub stage_after : Stop → Stage → Stage
+stage_after More v = v
+stage_after Full v = v
+stage_after Over v = ended
 
 -- where the tape stands after a running board's pass
 abbrev pub eaten_by : Plate → ℕ → Played → Eaten
 eaten_by p place end = record {
-  session = record { phase = phase_after end.stop; plate = p; board = end.board; place = place + end.at };
+  session = record { phase = phase_after end.stop (record { plate = p; board = end.board }); place = place + end.at };
   read = end.at;
   used = end.used;
   stop = end.stop;
 }
 
--- a tape at its first byte: the plate's numbers are 0, the board is fresh
-abbrev pub no_plate : Plate
-no_plate = record { total = 0; bits = 0; address = 0; ticks = 0; pause = 0 }
-
+-- a tape at its first byte
 pub record AtTapeStart (s : Session) : Type 0 where
   pub phase : s.phase ≡ Opening
-  pub plate : s.plate ≡ no_plate
-  pub board : (kept : List ℕ) → state_of s.board kept ≡ fresh (tape_plate no_plate)
   pub place : s.place ≡ 0
 
 -- what a pass of a running board leaves; h is what the lent bytes hold
@@ -77,18 +92,18 @@ pub record Plays (p : Plate) (q : Pass) (h : LentState) (from : ℕ) (window out
   pub inside : r.at ≤ length window
   pub stop : r.stop ≡ stop_told q.stop
   pub printed : Printed q.printed out used r.used out'
-  pub stage : stage_from (phase_after r.stop) p r.board kept' m' ≡ q.stage
+  pub stage : stage_after r.stop (running (tape_plate p) (state_of r.board kept') m') ≡ q.stage
   pub held : lent_state (running (tape_plate p) (state_of r.board kept') m') kept' w' ≡ h
   pub sound : Sound p r.board kept' m' w'
 
 -- what each phase asks of the lent bytes: blank memory before the plate, then a board within its limits; after the end nothing is read
-abbrev pub Steady : Phase → Plate → Board → List ℕ → List ℕ → List ℕ → Type 0
-Steady Opening p b kept m w = m ≡ zeros largest_memory
-Steady Running p b kept m w = Sound p b kept (take (memory_length p.total) m) w
-Steady Ended p b kept m w = ⊥
+abbrev pub Steady : Phase → List ℕ → List ℕ → List ℕ → Type 0
+Steady Opening kept m w = m ≡ zeros largest_memory
+Steady (Running k) kept m w = Sound k.plate k.board kept (take (memory_length k.plate.total) m) w
+Steady (Ended o) kept m w = ⊥
 
 pub record ReadyForPass (s : Session) (window kept m w out : List ℕ) (used : ℕ) : Type 0 where
-  pub steady : Steady s.phase s.plate s.board kept m w
+  pub steady : Steady s.phase kept m w
   pub lent : length kept ≡ longest_request
   pub size : length m ≡ largest_memory
   pub room : longest_reply ≤ length w
@@ -102,24 +117,25 @@ pass_over s window kept m out used = pass (suc (length window)) (length out - us
 abbrev pub lent_over : Session → List ℕ → List ℕ → List ℕ → List ℕ → List ℕ → ℕ → LentState
 lent_over s window kept m w out used = lent_by (suc (length window)) (length out - used) s.place window (lent_state (stage_of s kept m) kept w)
 
--- the session's numbers where no plate came: as they were, and memory too
-pub record Unbegun (s : Session) (m : List ℕ) (s' : Session) (m' : List ℕ) : Type 0 where
-  pub plate : s'.plate ≡ s.plate
-  pub board : s'.board ≡ s.board
+-- where no plate came: no board, and memory as it was
+pub record Unbegun (f : Phase) (m m' : List ℕ) : Type 0 where
+  pub none : work_in f ≡ None
   pub memory : m' ≡ m
 
 -- where a board is at work, or was until a record was bad: its plate, its state, and memory, of which the rest is untouched
-pub record AtWork (p : meaning.Plate) (t : meaning.State) (front m : List ℕ) (s' : Session) (kept' m' : List ℕ) : Type 0 where
-  pub plate : tape_plate s'.plate ≡ p
-  pub state : state_of s'.board kept' ≡ t
+pub record AtWork (p : meaning.Plate) (t : meaning.State) (front : List ℕ) (f : Phase) (m kept' m' : List ℕ) : Type 0 where
+  pub work : Work
+  pub is : work_in f ≡ Some work
+  pub plate : tape_plate work.plate ≡ p
+  pub state : state_of work.board kept' ≡ t
   pub memory : m' ≡ put m 0 front
-  pub few : KeepsFew s'.board
+  pub few : KeepsFew work.board
   pub places : length kept' ≡ longest_request
 
-abbrev pub Stands : Stage → Session → List ℕ → Session → List ℕ → List ℕ → Type 0
-Stands opening s m s' kept' m' = Unbegun s m s' m'
-Stands (running p t front) s m s' kept' m' = AtWork p t front m s' kept' m'
-Stands ended s m s' kept' m' = ⊥
+abbrev pub Stands : Stage → Phase → List ℕ → List ℕ → List ℕ → Type 0
+Stands opening f m kept' m' = Unbegun f m m'
+Stands (running p t front) f m kept' m' = AtWork p t front f m kept' m'
+Stands ended f m kept' m' = ⊥
 
 -- what a pass leaves: all is as the meaning's pass over the window says
 pub record Eats (s : Session) (window kept m w out : List ℕ) (used : ℕ) (r : Eaten) (kept' m' w' out' : List ℕ) : Type 0 where
@@ -129,10 +145,10 @@ pub record Eats (s : Session) (window kept m w out : List ℕ) (used : ℕ) (r :
   pub inside : r.read ≤ length window
   pub stop : r.stop ≡ stop_told (pass_over s window kept m out used).stop
   pub printed : Printed (pass_over s window kept m out used).printed out used r.used out'
-  pub stands : Stands (lent_over s window kept m w out used).stage s m r.session kept' m'
+  pub stands : Stands (lent_over s window kept m w out used).stage r.session.phase m kept' m'
   pub bytes : kept' ≡ (lent_over s window kept m w out used).kept
   pub reply : w' ≡ (lent_over s window kept m w out used).room
-  pub steady : (r.session.phase ≡ Ended → ⊥) → Steady r.session.phase r.session.plate r.session.board kept' m' w'
+  pub steady : has_ended r.session.phase ≡ false → Steady r.session.phase kept' m' w'
 
 -- a board at work
 pub record Playable (p : Plate) (b : Board) (place : ℕ) (window : List ℕ) (from : ℕ) (kept m w out : List ℕ) (used : ℕ) : Type 0 where
@@ -158,11 +174,11 @@ lent_at p b place window from kept m w out used =
 -- .. that uses the front of the lent memory
 abbrev pub pass_from : Plate → Board → ℕ → List ℕ → ℕ → List ℕ → List ℕ → List ℕ → ℕ → Pass
 pass_from p b place window from kept m out used =
-    pass (suc (length window)) (length out - used) (stage_from Running p b kept (take (memory_length p.total) m)) (place + from) (drop from window)
+    pass (suc (length window)) (length out - used) (running (tape_plate p) (state_of b kept) (take (memory_length p.total) m)) (place + from) (drop from window)
 
 abbrev pub lent_from : Plate → Board → ℕ → List ℕ → ℕ → List ℕ → List ℕ → List ℕ → List ℕ → ℕ → LentState
 lent_from p b place window from kept m w out used =
-    lent_by (suc (length window)) (length out - used) (place + from) (drop from window) (lent_state (stage_from Running p b kept (take (memory_length p.total) m)) kept w)
+    lent_by (suc (length window)) (length out - used) (place + from) (drop from window) (lent_state (running (tape_plate p) (state_of b kept) (take (memory_length p.total) m)) kept w)
 
 pub record GoesOn (p : Plate) (b : Board) (place : ℕ) (window : List ℕ) (from : ℕ) (kept m w out : List ℕ) (used : ℕ) (r : Eaten) (kept' m' w' out' : List ℕ) : Type 0 where
   pub stage : stage_of r.session kept' m' ≡ (pass_from p b place window from kept m out used).stage
@@ -171,12 +187,12 @@ pub record GoesOn (p : Plate) (b : Board) (place : ℕ) (window : List ℕ) (fro
   pub inside : r.read ≤ length window
   pub stop : r.stop ≡ stop_told (pass_from p b place window from kept m out used).stop
   pub printed : Printed (pass_from p b place window from kept m out used).printed out used r.used out'
-  pub stands : (s : Session) → Stands (lent_from p b place window from kept m w out used).stage s m r.session kept' m'
+  pub stands : Stands (lent_from p b place window from kept m w out used).stage r.session.phase m kept' m'
   pub bytes : kept' ≡ (lent_from p b place window from kept m w out used).kept
   pub reply : w' ≡ (lent_from p b place window from kept m w out used).room
-  pub steady : (r.session.phase ≡ Ended → ⊥) → Steady r.session.phase r.session.plate r.session.board kept' m' w'
+  pub steady : has_ended r.session.phase ≡ false → Steady r.session.phase kept' m' w'
 
 -- the first record is bad
-pub record EndsBad (s : Session) (out : List ℕ) (used : ℕ) (r : Eaten) (out' : List ℕ) : Type 0 where
-  pub eaten : r ≡ record { session = record { phase = Ended; plate = s.plate; board = s.board; place = s.place }; read = 0; used = r.used; stop = Over }
-  pub printed : Printed (bad_line s.place) out used r.used out'
+pub record EndsBad (place : ℕ) (out : List ℕ) (used : ℕ) (r : Eaten) (out' : List ℕ) : Type 0 where
+  pub eaten : r ≡ record { session = record { phase = Ended None; place = place }; read = 0; used = r.used; stop = Over }
+  pub printed : Printed (bad_line place) out used r.used out'

@@ -1,52 +1,35 @@
-// How a pass begins: with the plate, or with a board at work.
-ghost use Rattle.std.specs.Prelude.{◌≡◌};
+// How a tape begins: with the plate.
 ghost use Rattle.passes.specs.Beginnings.{BeginsWith};
 
-use crate::session::{Phase, Session, Stop};
-use board::Board;
-use line::Plate;
+use crate::session::{Stop, Work};
+use records::Unread;
 use tape::LONGEST_LINE;
-use turns::{Opened, open};
+use turns::open;
 
-// It stops at once, for want of space or of bytes; the first record is bad; or a board works from a place of the window on.
-#[derive(Clone, Copy)]
-pub(crate) enum Way {
-    Stops { why: Stop },
-    Bad,
-    Works { from: usize },
-}
-
-// .. and the board that works, if one does.
+// A fresh board works from a place of the window on.
 #[derive(Clone, Copy)]
 pub(crate) struct Begun {
-    pub plate: Plate,
-    pub board: Board,
-    pub way: Way,
+    pub work: Work,
+    pub from: usize,
 }
 
-fn with_board(plate: Plate, board: Board, way: Way) -> Begun
-    ensures { result ≡ record { plate = plate; board = board; way = way } }
+// Before the plate a pass stops at once for want of space or of bytes, or because the first record is bad.
+pub(crate) fn begin(window: &[u8], space: usize) -> Result<Begun, Stop>
+    ensures { BeginsWith window.now space result }
 {
-    Begun { plate, board, way }
-}
-
-pub(crate) fn begin(session: Session, window: &[u8], space: usize) -> Begun
-    ensures { BeginsWith session window.now space result }
-{
-    let plate = session.plate;
-    let board = session.board;
-    let phase = session.phase;
-    let Phase::Opening = phase else {
-        return with_board(plate, board, Way::Works { from: 0 });
-    };
     if space < LONGEST_LINE {
-        return with_board(plate, board, Way::Stops { why: Stop::Full });
+        return Err(Stop::Full);
     }
     match open(window) {
-        Opened::More => with_board(plate, board, Way::Stops { why: Stop::More }),
-        Opened::Bad => with_board(plate, board, Way::Bad),
-        Opened::Plate { plate: first, next } => {
-            with_board(first, board::fresh(first), Way::Works { from: next })
+        Ok(opened) => {
+            let plate = opened.plate;
+            let board = board::fresh(plate);
+            Ok(Begun {
+                work: Work { plate, board },
+                from: opened.next,
+            })
         }
+        Err(Unread::More) => Err(Stop::More),
+        Err(Unread::Bad) => Err(Stop::Over),
     }
 }

@@ -6,4 +6,4 @@ mod passes;
 mod session;
 
 pub use passes::{Eaten, eat, finish};
-pub use session::{Phase, Session, Stop};
+pub use session::{Phase, Session, Stop, Work};

@@ -1,10 +1,11 @@
 -- What a body says, kind by kind. Assumes nothing.
-use Prim.Native.Nat.{ℕ, ◌-◌, ◌≤◌, ◌<◌}
+use Prim.Native.Nat.{ℕ, ◌≤◌, ◌<◌}
 use mathlib.Core.Path.{◌≡◌, refl, sym, ap, subst, ◌∙◌}
 use mathlib.Core.Bool.{Bool, true, false}
 use mathlib.Core.List.{List, [], ◌∷◌}
 use native.Mathlib.Omega.{arith}
-use lib.ListN.{length, get_or, take, length-take}
+use lib.ListN.{length, get_or, take}
+use lib.Seq.{take_all}
 use lib.Dec.{eqb, leb}
 use borrow.Author.Tests.{eqb-true, eq-eqb, ne_eqb, lt-leb, le-leb}
 use Rattle.std.specs.Prelude.{Result, Ok, Err, Option, None, Some}
@@ -20,14 +21,16 @@ use Rattle.records.specs.declared.record.Unread.{Unread}
 use Rattle.records.specs.declared.record.Unread.TheVariants.{More, Bad}
 
 -- four bytes, the low one first
-four : (b : List ℕ) → length b ≡ 4 → little b ≡ from_le_bytes w32 (get_or b 0 0 ∷ get_or b 1 0 ∷ get_or b 2 0 ∷ get_or b 3 0 ∷ [])
+front_four : (b : List ℕ) → 4 ≤ length b → little (take 4 b) ≡ from_le_bytes w32 (get_or b 0 0 ∷ get_or b 1 0 ∷ get_or b 2 0 ∷ get_or b 3 0 ∷ [])
 unfolding little
-four (w ∷ x ∷ y ∷ z ∷ []) h = omega arith
-four [] h = absurd (omega arith)
-four (w ∷ []) h = absurd (omega arith)
-four (w ∷ x ∷ []) h = absurd (omega arith)
-four (w ∷ x ∷ y ∷ []) h = absurd (omega arith)
-four (v ∷ w ∷ x ∷ y ∷ z ∷ b) h = absurd (omega arith)
+front_four (w ∷ x ∷ y ∷ z ∷ b) h = omega arith
+front_four [] h = absurd (omega arith)
+front_four (w ∷ []) h = absurd (omega arith)
+front_four (w ∷ x ∷ []) h = absurd (omega arith)
+front_four (w ∷ x ∷ y ∷ []) h = absurd (omega arith)
+
+four : (b : List ℕ) → length b ≡ 4 → little b ≡ from_le_bytes w32 (get_or b 0 0 ∷ get_or b 1 0 ∷ get_or b 2 0 ∷ get_or b 3 0 ∷ [])
+four b h = ap little (sym (take_all 4 b (omega arith))) ∙ front_four b (omega arith)
 
 module _ (b : List ℕ) where
   pub unfitted : (k : ℕ) (x : Said) → (length b ≡ k → ⊥) → unfit ≡ sized k b x
@@ -37,6 +40,15 @@ module _ (b : List ℕ) where
   pub fitted : (k : ℕ) (x : Said) → length b ≡ k → x ≡ sized k b x
   unfolding sized
   fitted k x h = rw (eq-eqb (length b) k h)
+
+  pub character-unfit : length b ≡ 6 → 1 < get_or b 5 0 → unfit ≡ sized 6 b (character_in b)
+  unfolding character_in
+  character-unfit h k = sym (rw (lt-leb (get_or b 5 0) 1 k)) ∙ fitted 6 (character_in b) h
+
+  pub character-said : length b ≡ 6 → get_or b 5 0 ≤ 1
+      → call (character (from_le_bytes w32 (get_or b 0 0 ∷ get_or b 1 0 ∷ get_or b 2 0 ∷ get_or b 3 0 ∷ [])) (get_or b 4 0) (eqb (get_or b 5 0) 1)) ≡ sized 6 b (character_in b)
+  unfolding character_in
+  character-said h k = sym (rw (le-leb (get_or b 5 0) 1 k, front_four b (omega arith))) ∙ fitted 6 (character_in b) h
 
   pub unnumbered : (length b ≡ 4 → ⊥) → None ≡ number_of b
   unfolding number_of
@@ -65,35 +77,8 @@ module _ (b : List ℕ) where
   pub number-unsaid : (x : Said) → number_of b ≡ None → unfit ≡ sized 4 b x
   number-unsaid x e = unfitted 4 x (number-unread e)
 
--- a character's first four bytes are its tick
-module _ (b : List ℕ) (some : 2 ≤ length b) where
-  abbrev front : List ℕ
-  front = take (length b - 2) b
-
-  front_four : length b ≡ 6 → length front ≡ 4
-  front_four h = rw (length-take (length b - 2) b) (omega arith)
-
-  pub character-untimed : number_of front ≡ None → unfit ≡ sized 6 b (character_in b)
-  character-untimed e = unfitted b 6 (character_in b) (λ h. number-unread front e (front_four h))
-
-  module _ (tick : ℕ) (e : number_of front ≡ Some tick) where
-    six : length b ≡ 6
-    six = let n = length-take (length b - 2) b in let (h, k) = number-read front tick e in omega (arith, n)
-
-    pub character-unfit : 1 < get_or b (length b - 1) 0 → unfit ≡ sized 6 b (character_in b)
-    unfolding character_in
-    character-unfit k = sym (rw (lt-leb (get_or b 5 0) 1 (rw six at k))) ∙ fitted b 6 (character_in b) six
-
-    pub character-said : get_or b (length b - 1) 0 ≤ 1
-        → call (character tick (get_or b (length b - 2) 0) (eqb (get_or b (length b - 1) 0) 1)) ≡ sized 6 b (character_in b)
-    unfolding character_in
-    character-said k =
-        let (h, t) = number-read front tick e in
-        let q : tick ≡ little (take 4 b) = rw six at t in
-        rw six (sym (rw (le-leb (get_or b 5 0) 1 (rw six at k), q)) ∙ fitted b 6 (character_in b) six)
-
 -- what the functions of each kind cite
-pub ruleset kinds_read = (unfitted, fitted, unnumbered, numbered)
+pub ruleset kinds_read = (unfitted, fitted, character-unfit, character-said, unnumbered, numbered)
 
 -- 02, Req 01, "on the tape they are all zero": the label bytes of every plate that a record says
 abbrev Unlabelled : Said → Type 0

@@ -72,17 +72,16 @@ fn number_in(body: &[u8]) -> Option<u32>
 fn character_in(body: &[u8]) -> Option<Event>
     ensures { said_in result ≡ sized 6 body.now (character_in body.now) }
 {
-    let [tick @ .., value, fault] = body else {
+    let &[a, b, c, d, value, fault] = body else {
         return None;
     };
-    let tick = number_in(tick)?;
-    if 1 < *fault {
+    if 1 < fault {
         return None;
     }
     Some(Event::Character {
-        tick,
-        value: *value,
-        parity: *fault == 1,
+        tick: u32::from_le_bytes([a, b, c, d]),
+        value,
+        parity: fault == 1,
     })
 }
 

@@ -1,34 +1,32 @@
 -- What a record at a place of the window says. Assumes nothing.
-use Rattle.std.specs.Prelude.{ℕ, ◌+◌, ◌≤◌, ◌<◌, ◌≡◌, List, length, drop}
-use Rattle.meaning.specs.Bytes.{part}
-use Rattle.records.specs.declared.record.Read.{Read}
-use Rattle.records.specs.declared.record.Read.TheVariants.{Record, More, Bad}
+use Rattle.std.specs.Prelude.{ℕ, ◌+◌, ◌≤◌, ◌<◌, ◌≡◌, List, Option, None, Some, Result, Ok, Err, length, drop}
+use Rattle.records.specs.declared.record.Unread.{Unread}
+use Rattle.records.specs.declared.record.Unread.TheVariants.{More, Bad}
 use Rattle.records.specs.Records.{whole_length}
 use Rattle.tape.specs.Kinds.{Said, unfit, call_of}
-use Rattle.records.specs.Reader.{read_at}
-use Rattle.tape.specs.Reader.{said_of}
+use Rattle.records.specs.Reader.{Whole, read_at}
+use Rattle.tape.specs.Reader.{said_in}
 use Rattle.tape.specs.Passes as passes
 use Rattle.tape.specs.Passes.{longest_record}
 use Rattle.turns.specs.declared.reading.Heard.{Heard}
-use Rattle.turns.specs.declared.reading.Heard.TheVariants.{Nothing, Said as Tells}
 
 -- not yet a whole record; what stands there says, and the place past it
 pub data Readout : Type 0 where
   not_yet : Readout
   tells : Said → ℕ → Readout
 
-abbrev pub readout_of : Heard → Readout
-readout_of Nothing = not_yet
-readout_of (Tells e n) = tells (said_of e) n
+abbrev pub readout_of : Option Heard → Readout
+readout_of None = not_yet
+readout_of (Some h) = tells (said_in h.event) h.next
 
 -- where no record begins, what stands there fits nothing and has no end
-unfoldable pub readout_by : ℕ → List ℕ → Read → Readout
-readout_by at window (Record k start n next) = tells (call_of k (part window start n)) next.at
-readout_by at window More = not_yet
-readout_by at window Bad = tells unfit at
+unfoldable pub readout_by : ℕ → Result Whole Unread → Readout
+readout_by at (Ok w) = tells (call_of w.kind w.body) w.next
+readout_by at (Err More) = not_yet
+readout_by at (Err Bad) = tells unfit at
 
 abbrev pub readout_at : ℕ → List ℕ → Readout
-readout_at at window = readout_by at window (read_at longest_record at (drop at window))
+readout_at at window = readout_by at (read_at longest_record at (drop at window))
 
 -- the same in the words of a pass
 abbrev pub heard_in : Readout → passes.NextRecord

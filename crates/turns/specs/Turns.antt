@@ -1,6 +1,5 @@
 -- One record of a running board. Assumes nothing.
-use Rattle.std.specs.Prelude.{ℕ, ◌+◌, ◌≤◌, ◌≡◌, Bool, true, false, not, List, [], Option, Some, None, Ok, length, take}
-use Rattle.std.specs.Option.{unwrap_or}
+use Rattle.std.specs.Prelude.{ℕ, ◌+◌, ◌≤◌, ◌≡◌, Bool, true, false, not, List, [], Option, None, Some, Result, Ok, Err, is_err, unwrap_or, length, take}
 use Rattle.meaning.specs.Bytes.{put, longest_reply}
 use Rattle.meaning.specs.State as meaning
 use Rattle.meaning.specs.Characters.{over}
@@ -19,6 +18,7 @@ use Rattle.tape.specs.Passes.{longest_line}
 use Rattle.turns.specs.Openings.{tape_plate}
 use Rattle.turns.specs.declared.answering.Called.{Called}
 use Rattle.turns.specs.declared.answering.Turned.{Turned}
+use Rattle.turns.specs.declared.answering.BadRecord.{BadRecord}
 
 -- R1 to R3 do not apply
 pub record Sound (p : Plate) (b : Board) (kept m w : List ℕ) : Type 0 where
@@ -72,21 +72,31 @@ pub record Quiet (p : Plate) (b : Board) (kept : List ℕ) (x : Said) (b' : Boar
   pub fits : fits_in b' kept' ≡ true
   pub within : (m : List ℕ) → Within (tape_plate p) b kept m → Within (tape_plate p) b' kept' m
 
--- what a record leaves of a board in the stage v, of the lent bytes and of the reply room, and what it prints
-pub record Turns (p : Plate) (v : Stage) (place : ℕ) (x : Said) (kept w out : List ℕ) (used : ℕ) (r : Turned) (kept' m' w' out' : List ℕ) : Type 0 where
-  pub printed : Printed (turn v place x).printed out used r.used out'
-  pub over : r.over ≡ is_ended (turn v place x).stage
-  pub stage : running (tape_plate p) (state_of r.board kept') m' ≡ last_of v (turn v place x).stage
-  pub bytes : kept' ≡ put kept 0 (stage_kept (turn v place x).stage)
-  pub room : w' ≡ put w 0 (reply_to v x)
-  pub sound : Sound p r.board kept' m' w'
+-- what a turn leaves: a bad record leaves the board as it was
+abbrev pub board_after : Board → Result Turned BadRecord → Board
+board_after b (Ok r) = r.board
+board_after b (Err e) = b
+
+abbrev pub used_after : Result Turned BadRecord → ℕ
+used_after (Ok r) = r.used
+used_after (Err e) = e.used
+
+-- what a record leaves of a running board, of the lent bytes and of the reply room, and what it prints; an error exactly where it ends the tape
+pub record Turns (p : Plate) (b : Board) (m : List ℕ) (place : ℕ) (x : Said) (kept w out : List ℕ) (used : ℕ) (r : Result Turned BadRecord)
+    (kept' m' w' out' : List ℕ) : Type 0 where
+  pub printed : Printed (turn (runs p b kept m) place x).printed out used (used_after r) out'
+  pub over : is_err r ≡ is_ended (turn (runs p b kept m) place x).stage
+  pub stage : runs p (board_after b r) kept' m' ≡ last_of (runs p b kept m) (turn (runs p b kept m) place x).stage
+  pub bytes : kept' ≡ put kept 0 (stage_kept (turn (runs p b kept m) place x).stage)
+  pub room : w' ≡ put w 0 (reply_to (runs p b kept m) x)
+  pub sound : Sound p (board_after b r) kept' m' w'
 
 -- the board's call for what a record says; a call that brings a reply has its tick
-pub record CallsBoard (p : Plate) (b : Board) (x : Said) (kept m w : List ℕ) (tick : ℕ) (r : Stepped) (kept' m' w' : List ℕ) : Type 0 where
+pub record CallsBoard (p : Plate) (b : Board) (x : Said) (kept m w : List ℕ) (r : Called) (kept' m' w' : List ℕ) : Type 0 where
   pub asked : Call
   pub said : x ≡ call asked
-  pub stepped : board.Steps (tape_plate p) b kept m w asked (Ok r) kept' m' w'
-  pub line : printed_of (poll tick) (step (tape_plate p) (state_of b kept) m asked).reply ≡ printed_of asked (step (tape_plate p) (state_of b kept) m asked).reply
+  pub stepped : board.Steps (tape_plate p) b kept m w asked (Ok r.stepped) kept' m' w'
+  pub line : printed_of (poll r.tick) (step (tape_plate p) (state_of b kept) m asked).reply ≡ printed_of asked (step (tape_plate p) (state_of b kept) m asked).reply
 
 -- no call: the record is bad
 pub record NotCalled (x : Said) (kept m w kept' m' w' : List ℕ) : Type 0 where
@@ -98,16 +108,19 @@ pub record NotCalled (x : Said) (kept m w kept' m' w' : List ℕ) : Type 0 where
 
 abbrev pub Calls : Plate → Board → Said → List ℕ → List ℕ → List ℕ → Option Called → List ℕ → List ℕ → List ℕ → Type 0
 Calls p b x kept m w None kept' m' w' = NotCalled x kept m w kept' m' w'
-Calls p b x kept m w (Some r) kept' m' w' = CallsBoard p b x kept m w r.tick r.stepped kept' m' w'
+Calls p b x kept m w (Some r) kept' m' w' = CallsBoard p b x kept m w r kept' m' w'
 
--- a reply of n bytes, at the front of its room, has space as a line
-pub record Fitting (n : ℕ) (w out : List ℕ) (used : ℕ) : Type 0 where
-  pub few : n ≤ longest_reply
-  pub room : n ≤ length w
+-- how many reply bytes stand at the room's front
+abbrev pub reply_length : Stepped → ℕ
+reply_length s = unwrap_or s.reply 0
+
+-- a reply, at the front of its room, has space as a line
+pub record Fitting (s : Stepped) (w out : List ℕ) (used : ℕ) : Type 0 where
+  pub few : reply_length s ≤ longest_reply
+  pub room : reply_length s ≤ length w
   pub space : used + longest_line ≤ length out
 
 -- a line for a reply, none for silence
-pub record Answered (tick : ℕ) (stepped : Stepped) (w out : List ℕ) (used : ℕ) (r : Turned) (out' : List ℕ) : Type 0 where
-  pub board : r.board ≡ stepped.board
-  pub over : r.over ≡ false
-  pub printed : Printed (printed_of (poll tick) (take (unwrap_or stepped.reply 0) w)) out used r.used out'
+pub record Answered (c : Called) (w out : List ℕ) (used : ℕ) (r : Turned) (out' : List ℕ) : Type 0 where
+  pub board : r.board ≡ c.stepped.board
+  pub printed : Printed (printed_of (poll c.tick) (take (reply_length c.stepped) w)) out used r.used out'

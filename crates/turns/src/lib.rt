@@ -6,6 +6,6 @@ mod answering;
 mod opening;
 mod reading;
 
-pub use answering::{Turned, closes_none, turn};
+pub use answering::{BadRecord, Turned, closes_none, turn};
 pub use opening::{Opened, open};
 pub use reading::{Heard, hear};

@@ -2,38 +2,30 @@
 ghost use Rattle.std.specs.Prelude.{◌≡◌};
 ghost use Rattle.turns.specs.Hearing.{readout_of, readout_at};
 
-use records::{Cursor, Read};
+use records::{Cursor, Unread};
 use tape::{Event, LONGEST_RECORD};
 
-// What stands at a place of the window: not yet a whole record; what it says, and the place past it. Where no record begins it is unfit.
+// What a record says, and the place past it; no event where it fits no kind, or where no record begins.
 #[derive(Clone, Copy)]
-pub enum Heard {
-    Nothing,
-    Said { event: Event, next: usize },
+pub struct Heard {
+    pub event: Option<Event>,
+    pub next: usize,
 }
 
-pub fn hear(window: &[u8], at: usize) -> Heard
+// What stands at a place of the window; None where that is not yet a whole record.
+#[inline(always)]
+pub fn hear(window: &[u8], at: usize) -> Option<Heard>
     ensures { readout_of result ≡ readout_at at window.now }
 {
-    let cursor = Cursor { at };
-    match cursor.read(window, LONGEST_RECORD) {
-        Read::More => Heard::Nothing,
-        Read::Bad => Heard::Said {
-            event: Event::Unfit,
+    match (Cursor { at }).read(window, LONGEST_RECORD) {
+        Ok(record) => Some(Heard {
+            event: tape::event_of(record.kind, record.body),
+            next: record.next.at,
+        }),
+        Err(Unread::Bad) => Some(Heard {
+            event: None,
             next: at,
-        },
-        Read::Record {
-            kind,
-            start,
-            length,
-            next,
-        } => {
-            let end = start + length;
-            let event = tape::event_of(kind, &window[start..end]);
-            Heard::Said {
-                event,
-                next: next.at,
-            }
-        }
+        }),
+        Err(Unread::More) => None,
     }
 }

@@ -1,21 +1,18 @@
 -- What is left to show of `passes::beginning::begin`.
 use Rattle.meaning.proofs.Plates.{low-address}
 use Rattle.turns.proofs.Beginning.{opens_as}
-use Rattle.passes.specs.Beginnings.{begins}
 use Rattle.passes.proofs.beginning.begin.Goals as goal
 
-pub fresh-requires : goal.fresh-requires
-fresh-requires c = low-address _ (opens_as _ _ _ c.open.ensures c.in-Plate.is).1.good
+pub fresh-board-requires : goal.fresh-board-requires
+fresh-board-requires c = low-address _ (opens_as _ _ _ c.open.ensures c.in-Ok.is).1.good
 
-pub returns-in-More : goal.returns-in-More
-returns-in-More c =
-    rw c.with_board-in-More.ensures (c.in-Opening.is, (c.if-space-lt-LONGEST_LINE.false, opens_as _ _ _ c.open.ensures c.in-More.is))
+pub returns-in-Ok : goal.returns-in-Ok
+returns-in-Ok c =
+    let o = opens_as _ _ _ c.open.ensures c.in-Ok.is in
+    record { roomy = c.if-space-lt-LONGEST_LINE.false; said = o.0; plate = o.1; board = λ kept. c.fresh-board.ensures kept _ }
 
-pub returns-in-Bad : goal.returns-in-Bad
-returns-in-Bad c =
-    rw c.with_board-in-Bad.ensures (c.in-Opening.is, c.if-space-lt-LONGEST_LINE.false, opens_as _ _ _ c.open.ensures c.in-Bad.is)
+pub returns-in-Err-More : goal.returns-in-Err-More
+returns-in-Err-More c = (c.if-space-lt-LONGEST_LINE.false, opens_as _ _ _ c.open.ensures (rw c.in-Err-More.field-0-is at c.in-Err-More.is))
 
-pub returns-in-Plate : goal.returns-in-Plate
-returns-in-Plate c =
-    let o = opens_as _ _ _ c.open.ensures c.in-Plate.is in
-    rw c.with_board-in-Plate.ensures (begins c.in-Opening.is c.if-space-lt-LONGEST_LINE.false o.0 o.1 (λ kept. c.fresh.ensures kept _))
+pub returns-in-Err-Bad : goal.returns-in-Err-Bad
+returns-in-Err-Bad c = (c.if-space-lt-LONGEST_LINE.false, opens_as _ _ _ c.open.ensures (rw c.in-Err-Bad.field-0-is at c.in-Err-Bad.is))

@@ -1,37 +1,42 @@
--- What is left to show of `turns::answering::ask`: each kind of record is its call of the board.
-use Rattle.meaning.specs.Run.{character, poll, measured, fault, power_on}
-use Rattle.turns.proofs.Turning.{is_called, is_noted, character-called, measured-called, fault-called, power_on-called, none-called}
+-- What is left to show of `turns::answering::ask`: each kind of record is its call of the board, and no call is refused.
+use Rattle.turns.proofs.Turning.{is-taken, is-heard, character-called, poll-called, measured-called, fault-called, power_on-called, plate-uncalled, unfit-uncalled}
 use Rattle.turns.proofs.answering.ask.Goals as goal
 
+pub returns-in_err-event : goal.returns-in_err-event
+returns-in_err-event c = rw (c.in_err-event.was, c.from_residual.ensures) (unfit-uncalled _ _ _)
+
 pub unwrap-stepped-requires : goal.unwrap-stepped-requires
-unwrap-stepped-requires c = is_called (character _ _ _) c.requires c.character-called.ensures
+unwrap-stepped-requires c = is-taken _ _ _ _ _ c.requires _ c.character.ensures
 
 pub unwrap-stepped-requires-in-Poll : goal.unwrap-stepped-requires-in-Poll
-unwrap-stepped-requires-in-Poll c = is_called (poll _) c.requires c.poll-called.ensures
+unwrap-stepped-requires-in-Poll c = is-taken _ _ _ _ _ c.requires _ c.poll.ensures
 
-pub unwrap-requires : goal.unwrap-requires
-unwrap-requires c = is_noted _ (measured _) c.requires (c.measured.ensures _ _ _ c.requires.within.places)
+pub unwrap-next-requires : goal.unwrap-next-requires
+unwrap-next-requires c = is-heard _ (is-taken _ _ _ _ _ c.requires _ (c.measured.ensures _ _ _ c.requires.within.places))
 
-pub unwrap-requires-in-Fault : goal.unwrap-requires-in-Fault
-unwrap-requires-in-Fault c = is_noted _ (fault _) c.requires (c.fault.ensures _ _ _ c.requires.within.places)
+pub unwrap-next-requires-in-Fault : goal.unwrap-next-requires-in-Fault
+unwrap-next-requires-in-Fault c = is-heard _ (is-taken _ _ _ _ _ c.requires _ (c.fault.ensures _ _ _ c.requires.within.places))
 
-pub unwrap-requires-in-PowerOn : goal.unwrap-requires-in-PowerOn
-unwrap-requires-in-PowerOn c = is_noted _ power_on c.requires (c.power_on.ensures _ _ _ c.requires.within.places)
+pub unwrap-next-requires-in-PowerOn : goal.unwrap-next-requires-in-PowerOn
+unwrap-next-requires-in-PowerOn c = is-heard _ (is-taken _ _ _ _ _ c.requires _ (c.power_on.ensures _ _ _ c.requires.within.places))
+
+pub returns-in-Plate : goal.returns-in-Plate
+returns-in-Plate c = rw (c.in_ok-event.was, c.in-Plate.is) (plate-uncalled _ _ _ _)
 
 pub returns-in-Character : goal.returns-in-Character
-returns-in-Character c = rw c.in-Character.is (character-called _ _ _ c.unwrap-stepped.ensures c.character-called.ensures)
+returns-in-Character c = rw (c.in_ok-event.was, c.in-Character.is) (character-called _ _ _ _ (rw c.unwrap-stepped.ensures at c.character.ensures))
+
+pub returns-in-Poll : goal.returns-in-Poll
+returns-in-Poll c = rw (c.in_ok-event.was, c.in-Poll.is) (poll-called _ _ (rw c.unwrap-stepped-in-Poll.ensures at c.poll.ensures))
 
 pub returns-in-Measured : goal.returns-in-Measured
 returns-in-Measured c =
-    rw (c.noted.ensures, c.in-Measured.is) (measured-called c.unwrap.ensures _ (c.measured.ensures _ _ _ c.requires.within.places))
+    rw (c.in_ok-event.was, c.in-Measured.is, c.unheard.ensures) (measured-called _ _ (rw c.unwrap-next.ensures at (c.measured.ensures c.args.kept.now c.args.memory.now c.args.reply.now c.requires.within.places)))
 
 pub returns-in-Fault : goal.returns-in-Fault
-returns-in-Fault c = rw (c.noted-in-Fault.ensures, c.in-Fault.is) (fault-called c.unwrap-in-Fault.ensures _ (c.fault.ensures _ _ _ c.requires.within.places))
+returns-in-Fault c =
+    rw (c.in_ok-event.was, c.in-Fault.is, c.unheard-in-Fault.ensures) (fault-called _ _ (rw c.unwrap-next-in-Fault.ensures at (c.fault.ensures c.args.kept.now c.args.memory.now c.args.reply.now c.requires.within.places)))
 
 pub returns-in-PowerOn : goal.returns-in-PowerOn
-returns-in-PowerOn c = rw (c.noted-in-PowerOn.ensures, c.in-PowerOn.is) (power_on-called c.unwrap-in-PowerOn.ensures (c.power_on.ensures _ _ _ c.requires.within.places))
-
-pub returns-in_default : goal.returns-in_default
-returns-in_default c =
-    let n = c.in_default in
-    none-called c.args.event _ _ _ n.not-Character n.not-Poll n.not-Measured n.not-Fault n.not-PowerOn
+returns-in-PowerOn c =
+    rw (c.in_ok-event.was, c.in-PowerOn.is, c.unheard-in-PowerOn.ensures) (power_on-called _ (rw c.unwrap-next-in-PowerOn.ensures at (c.power_on.ensures c.args.kept.now c.args.memory.now c.args.reply.now c.requires.within.places)))

@@ -4,12 +4,10 @@ use Rattle.turns.proofs.answering.turn.Goals as goal
 
 pub returns-in_default : goal.returns-in_default
 returns-in_default c =
-    turns_bad _ _ _ _ _ _ _ _ _ _ _ _ _ _ _ c.requires.within_limits (rw c.in_default.is at c.ask.ensures) c.bad_line-end.ensures c.after.ensures
+    turns_bad _ _ _ _ _ _ _ _ _ _ _ _ _ _ c.requires.within_limits c.in_default.ensures c.bad_line-used.ensures
 
 pub answered-requires : goal.answered-requires
-answered-requires c =
-    fitting _ _ _ _ _ _ _ _ _ _ _ c.requires.within_limits (rw c.in-Some.is at c.ask.ensures) _ _ c.requires.line_fits
+answered-requires c = fitting _ _ _ _ _ _ _ _ _ _ c.requires.within_limits c.in-Some.ensures _ _ c.requires.line_fits
 
 pub returns : goal.returns
-returns c =
-    turns_answered _ _ _ _ _ _ _ _ _ _ _ c.requires.within_limits (rw c.in-Some.is at c.ask.ensures) _ c.answered.ensures
+returns c = turns_answered _ _ _ _ _ _ _ _ _ _ c.requires.within_limits c.in-Some.ensures _ c.answered.ensures

@@ -1,22 +1,17 @@
 -- What is left to show of `turns::reading::hear`.
-use Rattle.std.proofs.Common.{sym, ap, ◌∙◌, arith}
-use Rattle.turns.specs.Hearing.{readout_by}
-use Rattle.turns.proofs.Hearing.{body-inside, told_record}
+use Rattle.std.proofs.Common.{ap}
+use Rattle.tape.specs.Kinds.{Said}
+use Rattle.turns.specs.Hearing.{tells, readout_by}
 use Rattle.turns.proofs.reading.hear.Goals as goal
 
-pub overflow_add-end : goal.overflow_add-end
-overflow_add-end c = omega (arith, body-inside _ _ _ _ _ _ (sym c.read.ensures ∙ c.in-Record.is))
-
-pub slice_bounds-event_of-end : goal.slice_bounds-event_of-end
-slice_bounds-event_of-end c = body-inside _ _ _ _ _ _ (sym c.read.ensures ∙ c.in-Record.is)
-
-pub returns-in-More : goal.returns-in-More
+pub returns-in-Ok : goal.returns-in-Ok
 unfolding readout_by
-returns-in-More c = sym (ap (readout_by _ _) (sym c.read.ensures ∙ c.in-More.is))
+returns-in-Ok c = rw (← c.read.ensures, c.in-Ok.is) (ap (λ (x : Said). tells x c.in-Ok.record.next.at) c.event_of.ensures)
 
-pub returns-in-Bad : goal.returns-in-Bad
+pub returns-in-Err-Bad : goal.returns-in-Err-Bad
 unfolding readout_by
-returns-in-Bad c = sym (ap (readout_by _ _) (sym c.read.ensures ∙ c.in-Bad.is))
+returns-in-Err-Bad c = rw (← c.read.ensures, c.in-Err-Bad.is, c.in-Err-Bad.field-0-is)
 
-pub returns-in-Record : goal.returns-in-Record
-returns-in-Record c = told_record _ _ _ _ _ _ (sym c.read.ensures ∙ c.in-Record.is) c.event_of-event.ensures
+pub returns-in-Err-More : goal.returns-in-Err-More
+unfolding readout_by
+returns-in-Err-More c = rw (← c.read.ensures, c.in-Err-More.is, c.in-Err-More.field-0-is)
