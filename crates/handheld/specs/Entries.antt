@@ -4,7 +4,7 @@ use Rattle.meaning.specs.Bytes.{pick, both, longest_request}
 use Rattle.meaning.specs.Bench.{address_ok, Written}
 use Rattle.bench.specs.declared.request.Unwritten.TheVariants as unwritten
 use Rattle.programmer.specs.Wishes.{Checked, good, Wish, checked_tape, wish_of}
-use Rattle.programmer.specs.Running.{Asked, at_first, asks, hears, progress_of, is_possible}
+use Rattle.programmer.specs.Running.{AskedFor, at_first, asks, hears, progress_of, is_possible}
 use Rattle.programmer.specs.Promises.{after_replies, AllBytes}
 use Rattle.programmer.specs.declared.count.Progress.{Progress}
 use Rattle.programmer.specs.declared.run.Programmer.{Programmer}
@@ -17,12 +17,12 @@ abbrev pub refused_with : ℕ → ℕ  -- bit 31 is set in no run, length or pro
 refused_with n = 0x80000000 + n
 
 -- a refusal as C is told it: of "bad tape record; body not the field's size" the record's place in the high 32 bits
-abbrev pub refusal_number : Refusal → ℕ
-refusal_number (Tape (BadRecord at)) = at * 0x100000000 + refused_with 1
-refusal_number (Tape (WrongSize at)) = at * 0x100000000 + refused_with 2
-refusal_number R3 = refused_with 3
-refusal_number R4 = refused_with 4
-refusal_number R5 = refused_with 5
+abbrev pub told_number : Refusal → ℕ
+told_number (Tape (BadRecord at)) = at * 0x100000000 + refused_with 1
+told_number (Tape (WrongSize at)) = at * 0x100000000 + refused_with 2
+told_number R3 = refused_with 3
+told_number R4 = refused_with 4
+told_number R5 = refused_with 5
 
 abbrev pub place_of : Refusal → ℕ  -- the record's place, 0 where there is none
 place_of (Tape (BadRecord at)) = at
@@ -33,7 +33,7 @@ place_of R5 = 0
 
 abbrev pub tape_number : Checked → ℕ  -- 0 for a good tape
 tape_number (Ok u) = 0
-tape_number (Err fault) = refusal_number (Tape fault)
+tape_number (Err fault) = told_number (Tape fault)
 
 -- the tape's faults, then R5
 abbrev pub start_number : ℕ → Checked → ℕ
@@ -56,7 +56,7 @@ pub record NextAnswer : Type 0 where
   pub number : ℕ
   pub buffer : List ℕ
 
-abbrev pub asked_number : Asked → ℕ
+abbrev pub asked_number : AskedFor → ℕ
 asked_number (Ok (Some n)) = n
 asked_number (Ok None) = 0
 asked_number (Err unwritten.R4) = refused_with 4
@@ -66,12 +66,12 @@ abbrev pub request_of : Written → NextAnswer
 request_of w = record { number = pick (eqb w.refusal 0) w.count (pick (eqb w.refusal 6) 0 (refused_with w.refusal)); buffer = w.buffer }
 
 abbrev pub next_by : Given → Wish → List ℕ → NextAnswer
-next_by (Err r) l buffer = record { number = refusal_number r; buffer = buffer }
+next_by (Err r) l buffer = record { number = told_number r; buffer = buffer }
 next_by (Ok x) l buffer =
     pick (ltb (length buffer) longest_request) (record { number = refused_with 4; buffer = buffer }) (request_of (asks x.address l x.standing buffer))
 
 abbrev pub heard_by : Given → Wish → List ℕ → ℕ
-heard_by (Err k) l r = refusal_number k
+heard_by (Err k) l r = told_number k
 heard_by (Ok x) l r = run_number (hears l x r)
 
 -- the requests answered in the high 32 bits, all in the low
@@ -79,7 +79,7 @@ abbrev pub progress_number : Progress → ℕ
 progress_number g = g.answered * 0x100000000 + g.all
 
 abbrev pub progress_by : Given → Wish → ℕ
-progress_by (Err k) l = refusal_number k
+progress_by (Err k) l = told_number k
 progress_by (Ok x) l = progress_number (progress_of l x)
 
 -- a host that hands on what the calls return, the replies newest first

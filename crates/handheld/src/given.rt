@@ -1,7 +1,7 @@
 // What a host hands in, and why a call is refused.
 ghost use Rattle.std.specs.Prelude.{◌≡◌, ◌<◌};
 ghost use Rattle.programmer.specs.Wishes.{checked_tape};
-ghost use Rattle.handheld.specs.Entries.{place_of, refusal_number, tape_number, given_by};
+ghost use Rattle.handheld.specs.Entries.{place_of, told_number, tape_number, given_by};
 ghost use Rattle.handheld.specs.declared.given.Refusal.TheVariants.{Tape};
 
 use crate::number::{run_in, run_number};
@@ -31,7 +31,7 @@ impl Refusal {
     // As C is told it: host/programmer.h has these numbers, with the place of a record in the high 32 bits.
     pub(crate) fn number(self) -> u64
         requires { place_of self < 0x100000000 }
-        ensures { result ≡ refusal_number self }
+        ensures { result ≡ told_number self }
     {
         match self {
             Refusal::Tape(TapeFault::BadRecord { at }) => at as u64 * 0x100000000 + (REFUSED + 1),

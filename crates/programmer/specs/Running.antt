@@ -31,11 +31,11 @@ started_by n (Ok u) = pick (address_ok n) (Ok (at_first n)) (Err R5)
 started_by n (Err fault) = Err (Tape fault)
 
 -- what is asked: the length of the request that is due, or that none is due any more; or the bench's refusal
-abbrev pub Asked : Type 0
-Asked = Result (Option ℕ) Unwritten
+abbrev pub AskedFor : Type 0
+AskedFor = Result (Option ℕ) Unwritten
 
 -- by the paper's numbers, with the buffer as it is afterwards; 6 where nothing is due any more, which the paper does not number
-abbrev pub asked_of : Asked → List ℕ → meaning.Written
+abbrev pub asked_of : AskedFor → List ℕ → meaning.Written
 asked_of (Ok (Some n)) buffer = record { refusal = 0; count = n; buffer = buffer }
 asked_of (Ok None) buffer = record { refusal = 6; count = 0; buffer = buffer }
 asked_of (Err unwritten.R4) buffer = record { refusal = 4; count = 0; buffer = buffer }

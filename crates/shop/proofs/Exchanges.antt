@@ -17,7 +17,7 @@ use Rattle.meaning.proofs.Choices.{told-true}
 use Rattle.meaning.proofs.Plates.{whole-label}
 use Rattle.meaning.proofs.Puts.{put_front}
 use Rattle.board.specs.Board.{state_of}
-use Rattle.exchange.specs.Passing.{ended_of, board_after, refusal_for, reached, answer_to, passed}
+use Rattle.exchange.specs.Passing.{board_after, refusal_for, reached, answer_to, passed}
 use Rattle.programmer.specs.Wishes.{Wish, wish_of}
 use Rattle.programmer.specs.Steps.{due}
 use Rattle.programmer.specs.Running.{at_first, hears}
