@@ -39,6 +39,8 @@ pub fn refuse(state: State, code: u8, room: &mut [u8]) -> u8
     reply_from(state, ERROR_REPLY, Err(ErrorCode { byte: code }), room)
 }
 
+// Request, memory and room are handed on one by one, as the public calls are lent them: a struct of them would be made for one call and taken apart in the next.
+
 // A request that needs the memory, and leaves the state as it is.
 fn ask(
     total: usize,

@@ -7,6 +7,7 @@ ghost use Rattle.meaning.specs.Demands.{waits};
 ghost use Rattle.state.specs.Queue.{queue_of, waiting, no_faults, holding, Queues, Reads};
 ghost use Rattle.state.specs.Effects.{place_for, noting_of, noted_as};
 
+// Four fields and no array: each place is told, taken and written by itself, and `first` says more than `[0]`.
 #[derive(Clone, Copy)]
 pub struct Faults {
     pub first: u8,
