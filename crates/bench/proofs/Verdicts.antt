@@ -15,7 +15,7 @@ use Rattle.meaning.specs.Bench as meaning
 use Rattle.meaning.specs.Demands.{accepts, Fit, FitDone, FitFailed, Grounds}
 use Rattle.meaning.proofs.Fitting.{only_if_fits, no_reply_to_53}
 use Rattle.meaning.proofs.Bytewise.{one_byte_changed}
-use Rattle.bench.specs.Outcomes.{Judged, verdict_of, without_data, piece_from, piece_by}
+use Rattle.bench.specs.Outcomes.{Judging, verdict_of, without_data, piece_from, piece_by}
 use Rattle.bench.specs.declared.reply.Piece.{Piece}
 use Rattle.bench.specs.declared.reply.Verdict.TheVariants.{Done, DoneWithWarning, Error, ErrorWithWarning}
 
@@ -42,7 +42,7 @@ fit_of q r (meaning.refusal n) g h = absurd h
 fit_of q r (meaning.done w d) g h = g.fit
 fit_of q r (meaning.failed w e) g h = g.fit
 
-module _ (q r : List ℕ) (v : Judged) (e : verdict_of v ≡ without_data (judge q r)) where
+module _ (q r : List ℕ) (v : Judging) (e : verdict_of v ≡ without_data (judge q r)) where
   accepted : T (accepts (verdict_of v)) → T (accepts (judge q r))
   accepted h = subst T (ap accepts e ∙ accepts-same (judge q r)) h
 
@@ -55,7 +55,7 @@ module _ (q r : List ℕ) (v : Judged) (e : verdict_of v ≡ without_data (judge
   accepted-fits h = fit_of q r (judge q r) (only_if_fits q r) (accepted h)
 
   -- and with any one byte of it changed it is refused
-  pub changed_refused : (i x : ℕ) (w : Judged) → verdict_of w ≡ without_data (judge q (set r i x))
+  pub changed_refused : (i x : ℕ) (w : Judging) → verdict_of w ≡ without_data (judge q (set r i x))
       → i < length r → T (accepts (verdict_of v)) → x ≢ get_or r i 0 → T (not (accepts (verdict_of w)))
   changed_refused i x w f l h n =
       subst (λ (b : Bool). T (not b)) (sym (ap accepts f ∙ accepts-same (judge q (set r i x)))) (one_byte_changed q r i x l (accepted h) n)
@@ -72,7 +72,7 @@ spans : {p : Piece} {n : ℕ} → 3 ≤ n → piece_from p ≡ (record { from = 
 spans h e = omega (arith, ap (λ (x : meaning.Piece). x.from) e, ap (λ (x : meaning.Piece). x.count) e)
 
 -- .. by the code's verdict
-piece_told : (r : List ℕ) (v : Judged) → piece_of r (verdict_of v) ≡ piece_by (length r) v
+piece_told : (r : List ℕ) (v : Judging) → piece_of r (verdict_of v) ≡ piece_by (length r) v
 unfolding piece_of
 piece_told r (Ok Done) = refl
 piece_told r (Ok DoneWithWarning) = refl
@@ -80,7 +80,7 @@ piece_told r (Ok (Error x)) = refl
 piece_told r (Ok (ErrorWithWarning x)) = refl
 piece_told r (Err b) = refl
 
-module _ (q r : List ℕ) (v : Judged) (e : verdict_of v ≡ without_data (judge q r)) where
+module _ (q r : List ℕ) (v : Judging) (e : verdict_of v ≡ without_data (judge q r)) where
   pub handed_by : handed q r ≡ piece_by (length r) v
   unfolding handed
   handed_by = sym (piece_same r (judge q r)) ∙ ap (piece_of r) (sym e) ∙ piece_told r v
@@ -90,7 +90,7 @@ module _ (q r : List ℕ) (v : Judged) (e : verdict_of v ≡ without_data (judge
   unfolding accepts
   piece_within p h = go v (λ k. (accepted-fits q r v e k).long) h
     where
-      go : (u : Judged) → (T (accepts (verdict_of u)) → 3 ≤ length r) → piece_from p ≡ piece_by (length r) u → p.from + p.count ≤ length r
+      go : (u : Judging) → (T (accepts (verdict_of u)) → 3 ≤ length r) → piece_from p ≡ piece_by (length r) u → p.from + p.count ≤ length r
       go (Ok Done) k h = spans (k tt) h
       go (Ok DoneWithWarning) k h = spans (k tt) h
       go (Ok (Error x)) k h = spans (k tt) h
@@ -114,7 +114,7 @@ is_done (meaning.refusal n) = false
 is_done (meaning.done w d) = true
 is_done (meaning.failed w e) = false
 
-pub reset-never-done : (q r : List ℕ) (v : Judged) → verdict_of v ≡ without_data (judge q r) → command_byte q ≡ 0x53
+pub reset-never-done : (q r : List ℕ) (v : Judging) → verdict_of v ≡ without_data (judge q r) → command_byte q ≡ 0x53
     → (w : Bool) → verdict_of v ≢ meaning.done w []
 reset-never-done q r v e c w f = go (judge q r) refl (subst T (sym (ap is_done (sym e ∙ f))) tt)
   where

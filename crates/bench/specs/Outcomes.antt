@@ -9,14 +9,14 @@ use Rattle.bench.specs.declared.reply.Refusal.TheVariants.{B0, B1, B2, B3, B4, B
 use Rattle.bench.specs.declared.reply.Verdict.{Verdict}
 use Rattle.bench.specs.declared.reply.Verdict.TheVariants.{Done, DoneWithWarning, Error, ErrorWithWarning}
 
-abbrev pub Written : Type 0
-Written = Result ℕ Unwritten
+abbrev pub Writing : Type 0
+Writing = Result ℕ Unwritten
 
-abbrev pub Judged : Type 0
-Judged = Result Verdict Refusal
+abbrev pub Judging : Type 0
+Judging = Result Verdict Refusal
 
 -- what writing came to, with the buffer as it is afterwards
-abbrev pub written_of : Written → List ℕ → meaning.Written
+abbrev pub written_of : Writing → List ℕ → meaning.Written
 written_of (Ok n) buffer = record { refusal = 0; count = n; buffer = buffer }
 written_of (Err R4) buffer = record { refusal = 4; count = 0; buffer = buffer }
 written_of (Err R5) buffer = record { refusal = 5; count = 0; buffer = buffer }
@@ -31,7 +31,7 @@ check_number B5 = 5
 check_number B6 = 6
 
 -- the verdict says nothing of the data: that is handed back by a second call
-abbrev pub verdict_of : Judged → meaning.Verdict
+abbrev pub verdict_of : Judging → meaning.Verdict
 verdict_of (Ok Done) = meaning.done false []
 verdict_of (Ok DoneWithWarning) = meaning.done true []
 verdict_of (Ok (Error e)) = meaning.failed false e
@@ -47,7 +47,7 @@ abbrev pub piece_from : Piece → meaning.Piece
 piece_from p = record { from = p.from; count = p.count }
 
 -- the piece of a reply of n bytes, by what was judged of it
-abbrev pub piece_by : ℕ → Judged → meaning.Piece
+abbrev pub piece_by : ℕ → Judging → meaning.Piece
 piece_by n (Ok v) = record { from = 2; count = n - 3 }
 piece_by n (Err b) = record { from = 0; count = 0 }
 

@@ -17,7 +17,7 @@ use Rattle.meaning.specs.Commands.{read_position, set_position, read_counter, st
 use Rattle.meaning.proofs.Choices.{both_left, both_right, shaped_by}
 use Rattle.std.specs.Prelude.{Result}
 use Rattle.wire.specs.declared.codes.ErrorCode.{ErrorCode}
-use Rattle.wire.specs.Answers.{Answer, memory_after, state_after, Works}
+use Rattle.wire.specs.Answers.{ToldAnswer, memory_after, state_after, Works}
 use Rattle.fields.specs.declared.seen.Survey.{Survey}
 use Rattle.fields.specs.Memory.{Sized, Lent, Saw, survey_of}
 use Rattle.fields.specs.Replies.{Asked, Looked, Tellable, Countable}
@@ -143,6 +143,10 @@ pub memory_rows : (c : ℕ) → on_memory c ≡ true → (0x4A ≤ c) × (c ≤ 
 unfolding on_memory
 memory_rows c e = (leb-true 0x4A c (both_left (leb 0x4A c) (leb c 0x4E) e), leb-true c 0x4E (both_right (leb 0x4A c) (leb c 0x4E) e))
 
+-- the last of those on the memory
+pub last-on_memory : (c : ℕ) → on_memory c ≡ true → (c ≡ 0x4A → ⊥) → (c ≡ 0x4B → ⊥) → (c ≡ 0x4C → ⊥) → (c ≡ 0x4D → ⊥) → c ≡ 0x4E
+last-on_memory c e k l n o = let rows = memory_rows c e in omega (arith, rows.0, rows.1)
+
 -- what the rows on the state leave of the memory, and those on the fields of the state
 module _ (m : List ℕ) where
   keeps : (e : ℕ) (t : Bool) (a : commands.Answer) → memory_after a m ≡ m → memory_after (error e t a) m ≡ m
@@ -207,7 +211,7 @@ module _ (p : meaning.Plate) (s : State) {c : ℕ} (d m w : List ℕ) {r : Resul
   row_53 e h = rw e (record { row = h; memory = refl })
 
 -- the rows on the fields
-module _ (p : meaning.Plate) (s : meaning.State) {c : ℕ} (d m w : List ℕ) {r : Answer} {m' w' : List ℕ} where
+module _ (p : meaning.Plate) (s : meaning.State) {c : ℕ} (d m w : List ℕ) {r : ToldAnswer} {m' w' : List ℕ} where
   pub row_4a : c ≡ 0x4A → Works (read_field p s m d) m w r m' w' → Tells (worked (command_of c) p s m d) s m w r m' w'
   unfolding command_of worked read_field on_field
   row_4a e h = rw e (record { works = h; state = stays s _ _ _ (stays s _ _ _ (stays s _ _ _ (stays s _ _ _ (stays s _ _ _ refl)))) })

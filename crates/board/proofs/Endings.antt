@@ -18,7 +18,7 @@ use Rattle.meaning.proofs.Puts.{length-put}
 use Rattle.meaning.proofs.Limits as limits
 use Rattle.std.specs.Prelude.{Some, None, Result, Ok, Err}
 use Rattle.wire.specs.declared.codes.ErrorCode.{ErrorCode}
-use Rattle.wire.specs.Answers.{Answer, told, data_in, memory_after, state_after}
+use Rattle.wire.specs.Answers.{ToldAnswer, told, data_in, memory_after, state_after}
 use Rattle.wire.proofs.Laws.{seal_data}
 use Rattle.fields.proofs.Tight.{field-row_tight}
 use Rattle.line.specs.declared.plate.Plate.{Plate}
@@ -81,7 +81,7 @@ few-told (commands.refuse e) h = tt
 few-told (commands.accept d s m) h = h
 few-told (commands.quiet s m) h = tt
 
-left : (s : meaning.State) (c : ℕ) (m w : List ℕ) (a : commands.Answer) (t : State) (x : Answer) {n : ℕ} {m' v w' : List ℕ} → Few a → longest_reply ≤ length w
+left : (s : meaning.State) (c : ℕ) (m w : List ℕ) (a : commands.Answer) (t : State) (x : ToldAnswer) {n : ℕ} {m' v w' : List ℕ} → Few a → longest_reply ≤ length w
     → x ≡ told a → state_with t none ≡ state_after a s → m' ≡ memory_after a m → v ≡ data_in a w → Sends t c x v n w' → Left s c m w a t n m' w'
 unfolding outcome reply_of
 left s c m w (commands.refuse e) t x {n} {m'} {v} {w'} few wide i j k l h =
@@ -145,7 +145,7 @@ module _ (p : meaning.Plate) (s : State) (c : ℕ) (d m w : List ℕ) where
   abbrev a : commands.Answer
   a = worked (command_of c) p (state_with s none) m d
 
-  module _ {x : Answer} {n : ℕ} {m' v w' : List ℕ} (wide : longest_reply ≤ length w) where
+  module _ {x : ToldAnswer} {n : ℕ} {m' v w' : List ℕ} (wide : longest_reply ≤ length w) where
     answered : (t : State) → x ≡ told a → state_with t none ≡ state_after a (state_with s none) → m' ≡ memory_after a m → v ≡ data_in a w → Sends t c x v n w'
         → Serves p s c d m w t n m' w'
     answered t i j k l h =
@@ -161,7 +161,7 @@ module _ (p : meaning.Plate) (s : State) (c : ℕ) (d m w : List ℕ) where
     told_served y h = answered s y.works.answer (sym y.state) y.works.memory y.works.room h
 
 -- what a reply asks, from what a request asks
-pub sendable : (p : meaning.Plate) (s : State) (c : ℕ) (d m : List ℕ) {x : Answer} {u : List ℕ} → x ≡ told (worked (command_of c) p (state_with s none) m d) → longest_reply ≤ length u → Sendable x u
+pub sendable : (p : meaning.Plate) (s : State) (c : ℕ) (d m : List ℕ) {x : ToldAnswer} {u : List ℕ} → x ≡ told (worked (command_of c) p (state_with s none) m d) → longest_reply ≤ length u → Sendable x u
 sendable p s c d m e l =
     let q : meaning.State = state_with s none in
     record {
@@ -190,12 +190,12 @@ pub state-row_tight : (k : commands.Command) (p : meaning.Plate) (s : State) (d 
     → (r ≡ t) × (u ≡ v)
 state-row_tight k p s d m w r t u v h i = row_tight k p s none m d w r t u v h.row i.row
 
-pub memory-row_tight : (c t : ℕ) (cs d m w : List ℕ) (r x : Answer) (m₁ m₂ w₁ w₂ : List ℕ)
+pub memory-row_tight : (c t : ℕ) (cs d m w : List ℕ) (r x : ToldAnswer) (m₁ m₂ w₁ w₂ : List ℕ)
     → ((p : meaning.Plate) (s : meaning.State) → p.total ≡ t → s.codes ≡ cs → Tells (worked (command_of c) p s m d) s m w r m₁ w₁)
     → ((p : meaning.Plate) (s : meaning.State) → p.total ≡ t → s.codes ≡ cs → Tells (worked (command_of c) p s m d) s m w x m₂ w₂) → (r ≡ x) × (m₁ ≡ m₂) × (w₁ ≡ w₂)
 memory-row_tight c t cs d m w r x m₁ m₂ w₁ w₂ h k = field-row_tight (λ p s. worked (command_of c) p s m d) t cs m w r x m₁ m₂ w₁ w₂ (λ p s e i. (h p s e i).works) (λ p s e i. (k p s e i).works)
 
-pub sends_tight : (s : State) (c : ℕ) (a : Answer) (w : List ℕ) {n k : ℕ} {w' w'' : List ℕ} → Sends s c a w n w' → Sends s c a w k w'' → (n ≡ k) × (w' ≡ w'')
+pub sends_tight : (s : State) (c : ℕ) (a : ToldAnswer) (w : List ℕ) {n k : ℕ} {w' w'' : List ℕ} → Sends s c a w n w' → Sends s c a w k w'' → (n ≡ k) × (w' ≡ w'')
 sends_tight s c a w x y = (x.count ∙ sym y.count, x.bytes ∙ sym y.bytes)
 
 -- what `serve` and `refuse` ask, from what `close` asks

@@ -11,7 +11,7 @@ use Rattle.meaning.specs.State.{none, own_byte}
 use Rattle.meaning.specs.Frames.{sealed, message, warned}
 use Rattle.std.specs.Prelude.{Some, None, Ok, Err}
 use Rattle.wire.specs.declared.codes.ErrorCode.{ErrorCode}
-use Rattle.wire.specs.Answers.{Answer}
+use Rattle.wire.specs.Answers.{ToldAnswer}
 use Rattle.state.specs.declared.state.State.{State}
 use Rattle.state.specs.Queue.{queue_of}
 use Rattle.state.specs.State.{state_with}
@@ -26,13 +26,13 @@ pub part_length : (w : List ℕ) (n : ℕ) → n ≤ 131 → longest_reply ≤ l
 unfolding part
 part_length w n few wide = simp (length-take, length-drop) (omega arith)
 
-pub brief_data : {x : Answer} {n : ℕ} → Brief x → x ≡ Ok (Some n) → n ≤ 131
+pub brief_data : {x : ToldAnswer} {n : ℕ} → Brief x → x ≡ Ok (Some n) → n ≤ 131
 brief_data h e = rw e at h
 
 pub enough_room : {n l : ℕ} → n ≤ 131 → longest_reply ≤ l → n + 3 ≤ l
 enough_room h k = omega arith
 
-module _ (s : State) (c : ℕ) (w : List ℕ) {x : Answer} where
+module _ (s : State) (c : ℕ) (w : List ℕ) {x : ToldAnswer} where
   pub error-sent : {own mark : ℕ} {e : ErrorCode} {w' : List ℕ} → x ≡ Err e → own ≡ own_byte (state_with s none) → mark ≡ warned 0x50 (queue_of s.faults)
       → w' ≡ put w 0 (sealed (own ∷ mark ∷ e.byte ∷ [])) → Sends s c x w 4 w'
   unfolding reply_of message

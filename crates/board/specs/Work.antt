@@ -9,7 +9,7 @@ use Rattle.meaning.specs.Commands as commands
 use Rattle.meaning.specs.Characters.{closed}
 use Rattle.meaning.specs.Frames.{message, outcome, work}
 use Rattle.wire.specs.declared.codes.ErrorCode.{ErrorCode}
-use Rattle.wire.specs.Answers.{Answer, memory_after, state_after, Works}
+use Rattle.wire.specs.Answers.{ToldAnswer, memory_after, state_after, Works}
 use Rattle.line.specs.declared.plate.Plate.{Plate}
 use Rattle.line.specs.declared.characters.OpenFrame.{OpenFrame}
 use Rattle.line.specs.Line.{plate_of, line_of, Fits}
@@ -56,7 +56,7 @@ pub record MemoryLent (t : ℕ) (cs : List ℕ) (c : ℕ) (d m w : List ℕ) : T
   pub memory : on_memory c ≡ true
 
 -- .. and that they leave the state as it is
-pub record Tells (a : commands.Answer) (s : meaning.State) (m w : List ℕ) (r : Answer) (m' w' : List ℕ) : Type 0 where
+pub record Tells (a : commands.Answer) (s : meaning.State) (m w : List ℕ) (r : ToldAnswer) (m' w' : List ℕ) : Type 0 where
   pub works : Works a m w r m' w'
   pub state : state_after a s ≡ s
 
@@ -76,7 +76,7 @@ pub record Changeable (n : ℕ) (label : List ℕ) (s : State) (c : ℕ) (d w : 
   pub alone : on_memory c ≡ false
 
 -- 01, "An error reply is address, 50h, code, checksum"; other data stands from place 2 of the room on; the state is the one after the work
-unfoldable pub reply_of : meaning.State → ℕ → Answer → List ℕ → List ℕ
+unfoldable pub reply_of : meaning.State → ℕ → ToldAnswer → List ℕ → List ℕ
 reply_of s c (Err e) w = message s 0x50 (e.byte ∷ [])
 reply_of s c (Ok (Some n)) w = message s c (part w 2 n)
 reply_of s c (Ok None) w = []
@@ -95,16 +95,16 @@ pub record Refused (s : State) (e : ℕ) (w : List ℕ) (r : ℕ) (w' : List ℕ
   pub bytes : w' ≡ put w 0 (fault_reply (state_with s none) e)
 
 -- data that a reply has room for
-abbrev pub Brief : Answer → Type 0
+abbrev pub Brief : ToldAnswer → Type 0
 Brief (Err e) = Unit
 Brief (Ok (Some n)) = n ≤ 131
 Brief (Ok None) = Unit
 
-pub record Sendable (x : Answer) (w : List ℕ) : Type 0 where
+pub record Sendable (x : ToldAnswer) (w : List ℕ) : Type 0 where
   pub room : longest_reply ≤ length w
   pub brief : Brief x
 
-pub record Sends (s : State) (c : ℕ) (x : Answer) (w : List ℕ) (r : ℕ) (w' : List ℕ) : Type 0 where
+pub record Sends (s : State) (c : ℕ) (x : ToldAnswer) (w : List ℕ) (r : ℕ) (w' : List ℕ) : Type 0 where
   pub count : r ≡ length (reply_of (state_with s none) c x w)
   pub bytes : w' ≡ put w 0 (reply_of (state_with s none) c x w)
 

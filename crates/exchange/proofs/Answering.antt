@@ -25,7 +25,7 @@ use Rattle.board.specs.Board.{state_of, refusal_on, Steps}
 use Rattle.std.proofs.Common.{Some, None, Result, Ok, IsOk, unwrap_or}
 use Rattle.board.specs.Promises.{DoesStep}
 use Rattle.board.proofs.Promises.{does_step, is_answered, unrefused, stays_within}
-use Rattle.bench.specs.Outcomes.{Judged, verdict_of, without_data}
+use Rattle.bench.specs.Outcomes.{Judging, verdict_of, without_data}
 use Rattle.exchange.specs.declared.sending.Sent.{Sent}
 use Rattle.exchange.specs.Calls.{stamp_of, sending, Clear, SendsRequest}
 use Rattle.exchange.specs.Passing.{reached, answer_to, verdict_on, Asks, Converses}
@@ -131,7 +131,7 @@ module _ (p : Plate) (b : Board) (tick spacing : ℕ) (q kept m w : List ℕ) (c
         unfolding resting with_line none
         emptied k = sym (put-nothing k 0)
 
-        pub converses : {k : ℕ} {v : Judged} → k ≡ unwrap_or r.reply 0 → verdict_of v ≡ without_data (judge q (take k w₂))
+        pub converses : {k : ℕ} {v : Judging} → k ≡ unwrap_or r.reply 0 → verdict_of v ≡ without_data (judge q (take k w₂))
             → Converses p b n c d kept m w (record { board = r.board; request = length q; reply = k; verdict = v }) k₂ m₂ w₂
         converses {k} {v} kk vv =
             let room : w₂ ≡ put w 0 answer.reply = polled.room ∙ ap₂ (λ (l : List ℕ) (o : Outcome). put l 0 o.reply) sent.taken.room answered in

@@ -31,7 +31,7 @@ use Rattle.bench.specs.Outcomes.{written_of}
 use Rattle.exchange.specs.declared.asking.Refusal.{Refusal}
 use Rattle.exchange.specs.declared.asking.Refusal.TheVariants as unsent
 use Rattle.exchange.specs.declared.asking.Heard.{Heard}
-use Rattle.exchange.specs.Passing.{Answer, unsent_number, refusal_for, Asks, Converses, passed, Passes}
+use Rattle.exchange.specs.Passing.{Exchanged, unsent_number, refusal_for, Asks, Converses, passed, Passes}
 use Rattle.meaning.proofs.Puts.{put_front}
 
 -- none of R1 to R3, as the board's test tells it
@@ -97,7 +97,7 @@ module _ (n c : ℕ) (d q q' : List ℕ) where
 
 module _ (p : Plate) (b : Board) (n c : ℕ) (d : List ℕ) (spacing : ℕ) (q kept m w : List ℕ) where
   -- a refusal leaves all as it was
-  pub passes-refused : {k : ℕ} {x : Refusal} {r : Answer} → refusal_for p b n c d spacing q kept m w ≡ k → (k ≡ 0 → ⊥) → unsent_number x ≡ k
+  pub passes-refused : {k : ℕ} {x : Refusal} {r : Exchanged} → refusal_for p b n c d spacing q kept m w ≡ k → (k ≡ 0 → ⊥) → unsent_number x ≡ k
       → r ≡ Err x → Passes p b n c d spacing q kept m w r q kept m w
   unfolding passed
   passes-refused {k} {x} e h i j =
@@ -122,7 +122,7 @@ module _ (p : Plate) (b : Board) (n c : ℕ) (d : List ℕ) (spacing : ℕ) (q k
   board_number R2 = refl
   board_number R3 = refl
 
-  pub passes_unsent : {x : board.Refusal} {r : Answer} → Err x ≡ refused_as (refusal_on p b kept m (length w) (poll 0)) (tt {0})
+  pub passes_unsent : {x : board.Refusal} {r : Exchanged} → Err x ≡ refused_as (refusal_on p b kept m (length w) (poll 0)) (tt {0})
       → r ≡ Err (unsent.Board x) → Passes p b n c d spacing q kept m w r q kept m w
   passes_unsent {x} e j =
       let h = some-refused (refusal_on p b kept m (length w) (poll 0)) (tt {0}) e in
@@ -144,12 +144,12 @@ module _ (p : Plate) (b : Board) (n c : ℕ) (d : List ℕ) (spacing : ℕ) (q k
       refused_bench h = rw (e, i, lt-leb (full_pause p) spacing h)
 
       -- R4 and R5: the request's buffer too is as it was
-      unwritten-passes : spacing < full_pause p → {k : ℕ} {q' : List ℕ} {x : Refusal} {r : Answer} → (k ≡ 0 → ⊥)
+      unwritten-passes : spacing < full_pause p → {k : ℕ} {q' : List ℕ} {x : Refusal} {r : Exchanged} → (k ≡ 0 → ⊥)
           → (record { refusal = k; count = 0; buffer = q' }) ≡ writes n c d q → unsent_number x ≡ k → r ≡ Err x → Passes p b n c d spacing q kept m w r q' kept m w
       unwritten-passes near {k} h y z j =
           rw (same-buffer n c d q _ k h y) (passes-refused (refused_bench near ∙ sym (ap (λ (u : meaning.Written). u.refusal) y)) h z j)
 
-      pub passes_unwritten : spacing < full_pause p → (x : Unwritten) {q' : List ℕ} {r : Answer} → written_of (Err x) q' ≡ writes n c d q
+      pub passes_unwritten : spacing < full_pause p → (x : Unwritten) {q' : List ℕ} {r : Exchanged} → written_of (Err x) q' ≡ writes n c d q
           → r ≡ Err (unsent.Bench x) → Passes p b n c d spacing q kept m w r q' kept m w
       passes_unwritten near R4 y j = unwritten-passes near (eqb-false 4 0 refl) y refl j
       passes_unwritten near R5 y j = unwritten-passes near (eqb-false 5 0 refl) y refl j

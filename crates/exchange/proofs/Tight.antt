@@ -23,12 +23,12 @@ use Rattle.bench.proofs.Tight.{verdict_back, verdict_back_lem}
 use Rattle.exchange.specs.declared.asking.Refusal.{Refusal}
 use Rattle.std.specs.Prelude.{Ok, Err}
 use Rattle.board.specs.declared.calls.Refusal.TheVariants.{R1, R2, R3}
-use Rattle.bench.specs.Outcomes.{Judged, verdict_of}
+use Rattle.bench.specs.Outcomes.{Judging, verdict_of}
 use Rattle.bench.specs.declared.request.Unwritten.TheVariants.{R4, R5}
 use Rattle.exchange.specs.declared.asking.Refusal.TheVariants as unsent
 use Rattle.exchange.specs.declared.asking.Refusal.TheVariants.{FrameOpen, TooSlow}
 use Rattle.exchange.specs.declared.asking.Heard.{Heard}
-use Rattle.exchange.specs.Passing.{Answer, unsent_number, Ended, refused, heard, ended_of, board_after, refusal_for, passed, Passes}
+use Rattle.exchange.specs.Passing.{Exchanged, unsent_number, Ended, refused, heard, ended_of, board_heard, refusal_for, passed, Passes}
 use Rattle.exchange.proofs.Stepping.{within}
 
 -- the numbers lead back to the code's refusal
@@ -57,7 +57,7 @@ board_willing p b n c d spacing q kept m w e = go (refusal_on p b kept m (length
     go k false i x e = e
 
 -- what the contract's outcome is made of
-pub record Alike (r t : Answer) (q' q'' kept' kept'' m' m'' w' w'' : List ℕ) : Type 0 where
+pub record Alike (r t : Exchanged) (q' q'' kept' kept'' m' m'' w' w'' : List ℕ) : Type 0 where
   pub exchanged : r ≡ t
   pub request : q' ≡ q''
   pub kept : kept' ≡ kept''
@@ -80,12 +80,12 @@ abbrev verdict_in : Ended → meaning.Verdict
 verdict_in (refused n) = meaning.refusal 0
 verdict_in (heard n k v) = v
 
-same-heard : {a e : Board} {n n' k k' : ℕ} {v v' : Judged} → a ≡ e → n ≡ n' → k ≡ k' → v ≡ v'
+same-heard : {a e : Board} {n n' k k' : ℕ} {v v' : Judging} → a ≡ e → n ≡ n' → k ≡ k' → v ≡ v'
     → ◌≡◌ {A = Heard} (record { board = a; request = n; reply = k; verdict = v }) (record { board = e; request = n'; reply = k'; verdict = v' })
 same-heard i j k l = rw (i, j, k, l)
 
 -- no two differing answers end alike and leave the same board
-same-answer : (b : Board) (r t : Answer) → ended_of r ≡ ended_of t → board_after b r ≡ board_after b t → r ≡ t
+same-answer : (b : Board) (r t : Exchanged) → ended_of r ≡ ended_of t → board_heard b r ≡ board_heard b t → r ≡ t
 same-answer b (Ok x) (Ok y) e i =
     ap Ok (same-heard i (ap request_in e) (ap reply_in e) (one_outcome verdict_of verdict_back verdict_back_lem (verdict_of y.verdict) x.verdict y.verdict (ap verdict_in e) refl))
 same-answer b (Ok x) (Err y) e i = cc
@@ -101,18 +101,18 @@ module _ (p : Plate) (b : Board) (n c : ℕ) (d : List ℕ) (spacing : ℕ) (q k
       rw e (omega (arith, all, put-long kept (request (address_for n) c d)))
 
   -- a refused one leaves the board
-  left-alone : {r : Answer} {q' kept' m' w' : List ℕ} → (refusal_for p b n c d spacing q kept m w ≡ 0 → ⊥) → Passes p b n c d spacing q kept m w r q' kept' m' w'
-      → board_after b r ≡ b
+  left-alone : {r : Exchanged} {q' kept' m' w' : List ℕ} → (refusal_for p b n c d spacing q kept m w ≡ 0 → ⊥) → Passes p b n c d spacing q kept m w r q' kept' m' w'
+      → board_heard b r ≡ b
   unfolding passed
   left-alone {r} h x =
       let z : eqb (refusal_for p b n c d spacing q kept m w) 0 ≡ false = ne_eqb (refusal_for p b n c d spacing q kept m w) 0 h in
       go r (rw z at x.ended)
     where
-      go : (t : Answer) → ended_of t ≡ refused (refusal_for p b n c d spacing q kept m w) → board_after b t ≡ b
+      go : (t : Exchanged) → ended_of t ≡ refused (refusal_for p b n c d spacing q kept m w) → board_heard b t ≡ b
       go (Ok t) e = cc
       go (Err t) e = refl
 
-  pub exchange_tight : {r t : Answer} {q' q'' kept' kept'' m' m'' w' w'' : List ℕ} → Passes p b n c d spacing q kept m w r q' kept' m' w'
+  pub exchange_tight : {r t : Exchanged} {q' q'' kept' kept'' m' m'' w' w'' : List ℕ} → Passes p b n c d spacing q kept m w r q' kept' m' w'
       → Passes p b n c d spacing q kept m w t q'' kept'' m'' w'' → Alike r t q' q'' kept' kept'' m' m'' w' w''
   exchange_tight {r} {t} {kept' = kept'} {kept'' = kept''} x y =
       record {
@@ -123,9 +123,9 @@ module _ (p : Plate) (b : Board) (n c : ℕ) (d : List ℕ) (spacing : ℕ) (q k
         room = x.room ∙ sym y.room;
       }
     where
-      go : Dec (refusal_for p b n c d spacing q kept m w ≡ 0) → board_after b r ≡ board_after b t
+      go : Dec (refusal_for p b n c d spacing q kept m w ≡ 0) → board_heard b r ≡ board_heard b t
       go (yes e) =
           let k : kept' ≡ kept'' = x.bytes ∙ sym y.bytes in
           let long : 135 ≤ length kept' = rw x.bytes (kept-all e) in
-          same-state-same-board (board_after b r) (board_after b t) kept' (x.few e) (y.few e) long (x.state ∙ sym (ap (state_of (board_after b t)) k ∙ y.state))
+          same-state-same-board (board_heard b r) (board_heard b t) kept' (x.few e) (y.few e) long (x.state ∙ sym (ap (state_of (board_heard b t)) k ∙ y.state))
       go (no h) = left-alone h x ∙ sym (left-alone h y)

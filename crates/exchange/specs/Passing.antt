@@ -18,8 +18,8 @@ use Rattle.exchange.specs.declared.asking.Refusal.TheVariants as unsent
 use Rattle.exchange.specs.declared.asking.Refusal.TheVariants.{FrameOpen, TooSlow}
 use Rattle.exchange.specs.declared.asking.Heard.{Heard}
 
-abbrev pub Answer : Type 0
-Answer = Result Heard Refusal
+abbrev pub Exchanged : Type 0
+Exchanged = Result Heard Refusal
 
 -- 01, "Named refusals", by their numbers; 6 and 7 for the two that the paper does not number
 abbrev pub unsent_number : Refusal → ℕ
@@ -36,21 +36,21 @@ pub data Ended : Type 0 where
   refused : ℕ → Ended
   heard : ℕ → ℕ → Verdict → Ended
 
-abbrev pub ended_of : Answer → Ended
+abbrev pub ended_of : Exchanged → Ended
 ended_of (Ok h) = heard h.request h.reply (verdict_of h.verdict)
 ended_of (Err x) = refused (unsent_number x)
 
 -- the board afterwards: a refused exchange leaves it as it was
-abbrev pub board_after : Board → Answer → Board
-board_after b (Ok h) = h.board
-board_after b (Err x) = b
+abbrev pub board_heard : Board → Exchanged → Board
+board_heard b (Ok h) = h.board
+board_heard b (Err x) = b
 
 -- 01, "handed back as a piece of the reply itself": of the request and the reply that stand at the fronts of q and w; its bytes, and its place in w
-abbrev pub data_heard : Answer → List ℕ → List ℕ → List ℕ
+abbrev pub data_heard : Exchanged → List ℕ → List ℕ → List ℕ
 data_heard (Ok h) q w = part (take h.reply w) (handed (take h.request q) (take h.reply w)).from (handed (take h.request q) (take h.reply w)).count
 data_heard (Err x) q w = []
 
-abbrev pub place_heard : Answer → List ℕ → List ℕ → ℕ
+abbrev pub place_heard : Exchanged → List ℕ → List ℕ → ℕ
 place_heard (Ok h) q w = (handed (take h.request q) (take h.reply w)).from
 place_heard (Err x) q w = 0
 
@@ -119,11 +119,11 @@ passed p b n c d spacing q kept m w =
     })
     (record { ended = refused k; state = state_of b kept; request = q; kept = kept; memory = m; room = w })
 
-pub record Passes (p : Plate) (b : Board) (n c : ℕ) (d : List ℕ) (spacing : ℕ) (q kept m w : List ℕ) (r : Answer) (q' kept' m' w' : List ℕ) : Type 0 where
+pub record Passes (p : Plate) (b : Board) (n c : ℕ) (d : List ℕ) (spacing : ℕ) (q kept m w : List ℕ) (r : Exchanged) (q' kept' m' w' : List ℕ) : Type 0 where
   pub ended : ended_of r ≡ (passed p b n c d spacing q kept m w).ended
-  pub state : state_of (board_after b r) kept' ≡ (passed p b n c d spacing q kept m w).state
+  pub state : state_of (board_heard b r) kept' ≡ (passed p b n c d spacing q kept m w).state
   pub written : q' ≡ (passed p b n c d spacing q kept m w).request
   pub bytes : kept' ≡ (passed p b n c d spacing q kept m w).kept
   pub memory : m' ≡ (passed p b n c d spacing q kept m w).memory
   pub room : w' ≡ (passed p b n c d spacing q kept m w).room
-  pub few : refusal_for p b n c d spacing q kept m w ≡ 0 → KeepsFew (board_after b r)
+  pub few : refusal_for p b n c d spacing q kept m w ≡ 0 → KeepsFew (board_heard b r)

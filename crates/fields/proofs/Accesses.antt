@@ -15,12 +15,12 @@ use Rattle.meaning.specs.Fields.{bytes_of, blocks, writable, Survey, survey}
 use Rattle.meaning.specs.Commands as meaning
 use Rattle.meaning.specs.Commands.{refuse, accept, error, on_field, barred, outside, read_field, store_field}
 use Rattle.wire.specs.declared.codes.ErrorCode.{ErrorCode}
-use Rattle.wire.specs.Answers.{Answer, told, Works}
+use Rattle.wire.specs.Answers.{ToldAnswer, told, Works}
 use Rattle.fields.specs.Memory.{Sized}
 use Rattle.wire.proofs.Laws.{tail_filled}
 use Rattle.meaning.proofs.Puts.{length-put, put-put}
 use Rattle.fields.specs.Replies.{named, read_own, store_own, Replied}
-use Rattle.fields.specs.Found.{Found, or_else, OpenTo}
+use Rattle.fields.specs.Found.{Look, or_else, OpenTo}
 use Rattle.fields.specs.declared.find.Field.{Field}
 use Rattle.fields.proofs.Walk.{rest-is}
 use Rattle.fields.proofs.Pieces.{part-part, put_in_part, mid_put}
@@ -94,7 +94,7 @@ module _ (p : Plate) (s : State) (codes : List ℕ) (t : ℕ) (m d : List ℕ) (
   unfolding read_field
   read_of = rw e
 
-  module _ (g : Found) (w : OpenTo codes (arg d 3) t m (arg d 0) g) where
+  module _ (g : Look) (w : OpenTo codes (arg d 3) t m (arg d 0) g) where
     read_open : read_field p s m d ≡ or_else g (error 0x0D (either (eqb (arg d 2) 0) (ltb 128 (arg d 2))) reads)
     read_open = read_of ∙ w.chain s _ q
 
@@ -106,7 +106,7 @@ module _ (p : Plate) (s : State) (codes : List ℕ) (t : ℕ) (m d : List ℕ) (
   unfolding store_field
   store_of = rw e
 
-  module _ (g : Found) (w : OpenTo codes (arg d 3) t m (arg d 0) g) where
+  module _ (g : Look) (w : OpenTo codes (arg d 3) t m (arg d 0) g) where
     store_open : store_field p s m d ≡ or_else g (error 0x0E (not (writable v.status)) stores)
     store_open = store_of ∙ w.chain s _ q
 
@@ -177,7 +177,7 @@ module _ (p : Plate) (s : State) (codes : List ℕ) (t : ℕ) (m d : List ℕ) (
           ∙ own-reads _ refl ∙ sym (read-reached h k)
 
       -- stored there, and lent back
-      own-stores : (b : Bool) → ltb (bytes_of (blocks v.status)) (arg d 1 + arg d 2) ≡ b → length (drop 4 d) ≡ arg d 2 → (x x₂ : List ℕ) (r : Answer) (own₂ : List ℕ)
+      own-stores : (b : Bool) → ltb (bytes_of (blocks v.status)) (arg d 1 + arg d 2) ≡ b → length (drop 4 d) ≡ arg d 2 → (x x₂ : List ℕ) (r : ToldAnswer) (own₂ : List ℕ)
           → Works (error 0x11 b (accept (named d) s (put own (arg d 1) (drop 4 d)))) own x r own₂ x₂
           → Works (error 0x11 b (accept (named d) s (put m (bytes_of v.first + arg d 1) (drop 4 d)))) m x r (put_mid from (to - from) m own₂) x₂
       unfolding error
@@ -193,7 +193,7 @@ module _ (p : Plate) (s : State) (codes : List ℕ) (t : ℕ) (m d : List ℕ) (
             room = y.room;
           }
 
-      pub store_own_lem : writable st ≡ true → length (drop 4 d) ≡ arg d 2 → (x x₂ : List ℕ) (r : Answer) (own₂ : List ℕ)
+      pub store_own_lem : writable st ≡ true → length (drop 4 d) ≡ arg d 2 → (x x₂ : List ℕ) (r : ToldAnswer) (own₂ : List ℕ)
           → Works (store_own own d s) own x r own₂ x₂ → Works (store_field p s m d) m x r (put_mid from (to - from) m own₂) x₂
       store_own_lem h len x x₂ r own₂ y =
           subst (λ (a : meaning.Answer). Works a m x r (put_mid from (to - from) m own₂) x₂) (sym (store_reached h))

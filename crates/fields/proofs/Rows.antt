@@ -14,7 +14,7 @@ use Rattle.meaning.specs.Fields.{Survey, survey}
 use Rattle.meaning.specs.Commands as meaning
 use Rattle.meaning.specs.Commands.{asked, row, length_fits, refuse, accept, error, on_field, field_status, memory_status, free_byte, c4a, c4b, c4c, c4d}
 use Rattle.wire.specs.declared.codes.ErrorCode.{ErrorCode}
-use Rattle.wire.specs.Answers.{Answer, told, data_in, memory_after, Works}
+use Rattle.wire.specs.Answers.{ToldAnswer, told, data_in, memory_after, Works}
 use Rattle.fields.specs.Replies.{Replied}
 use Rattle.fields.specs.Found.{FoundIn}
 use Rattle.fields.specs.declared.find.Field.{Field}
@@ -28,13 +28,13 @@ works-refuse {m = m} {w = w} q = record {
 }
 
 -- .. and so does one that is passed on
-pub works-passed : {a : meaning.Answer} {m w : List ℕ} (r : Answer) (e : ErrorCode) → IsErrAnd r (λ x. x ≡ e) → a ≡ refuse e.byte → Works a m w r m w
+pub works-passed : {a : meaning.Answer} {m w : List ℕ} (r : ToldAnswer) (e : ErrorCode) → IsErrAnd r (λ x. x ≡ e) → a ≡ refuse e.byte → Works a m w r m w
 works-passed r e k q =
     let p = err_from_is_err_and r k in
     rw (p.1, p.2) (works-refuse q)
 
 -- reply data stands in the room
-pub works-accept : {a : meaning.Answer} {m w d : List ℕ} {s : State} {m₂ : List ℕ} {r : Answer} {w₂ : List ℕ} → a ≡ accept d s m₂ → Replied d w r w₂ → Works a m w r m₂ w₂
+pub works-accept : {a : meaning.Answer} {m w d : List ℕ} {s : State} {m₂ : List ℕ} {r : ToldAnswer} {w₂ : List ℕ} → a ≡ accept d s m₂ → Replied d w r w₂ → Works a m w r m₂ w₂
 works-accept {m = m} {w = w} q y = record {
   answer = y.answer ∙ ap told (sym q);
   memory = ap (λ (x : meaning.Answer). memory_after x m) (sym q);

@@ -7,11 +7,11 @@ use Rattle.wire.specs.declared.codes.ErrorCode.{ErrorCode}
 use Rattle.fields.specs.declared.find.Field.{Field}
 
 -- a look comes to the field, or to the error code
-abbrev pub Found : Type 0
-Found = Result Field ErrorCode
+abbrev pub Look : Type 0
+Look = Result Field ErrorCode
 
 -- what follows where the field is there, else the error code
-abbrev pub or_else : Found → Answer → Answer
+abbrev pub or_else : Look → Answer → Answer
 or_else (Ok field) a = a
 or_else (Err e) a = refuse e.byte
 
@@ -22,16 +22,16 @@ pub record Lies (t : ℕ) (v : Survey) (field : Field) : Type 0 where
   pub within : field.to ≤ data_bytes t
   pub status : field.status ≡ v.status
 
-abbrev pub Placed : ℕ → Survey → Found → Type 0
+abbrev pub Placed : ℕ → Survey → Look → Type 0
 Placed t v (Ok field) = Lies t v field
 Placed t v (Err e) = Unit
 
 -- 03h; 12h: whatever follows, this is what it comes to
-pub record FoundIn (t : ℕ) (m : List ℕ) (f : ℕ) (r : Found) : Type 0 where
+pub record FoundIn (t : ℕ) (m : List ℕ) (f : ℕ) (r : Look) : Type 0 where
   pub chain : (a : Answer) → on_field (survey t m f) f a ≡ or_else r a
   pub place : Placed t (survey t m f) r
 
 -- 03h; 12h; 0Fh: the same with the code c
-pub record OpenTo (codes : List ℕ) (c t : ℕ) (m : List ℕ) (f : ℕ) (r : Found) : Type 0 where
+pub record OpenTo (codes : List ℕ) (c t : ℕ) (m : List ℕ) (f : ℕ) (r : Look) : Type 0 where
   pub chain : (s : State) (a : Answer) → s.codes ≡ codes → on_field (survey t m f) f (error 0x0F (barred s (survey t m f) c) a) ≡ or_else r a
   pub place : Placed t (survey t m f) r

@@ -5,7 +5,7 @@ use Rattle.meaning.specs.State.{State}
 use Rattle.meaning.specs.Fields.{survey}
 use Rattle.meaning.specs.Commands as Commands
 use Rattle.meaning.specs.Commands.{Command, asked, error, accept}
-use Rattle.wire.specs.Answers.{Answer}
+use Rattle.wire.specs.Answers.{ToldAnswer}
 use Rattle.fields.specs.declared.seen.Survey.{Survey}
 use Rattle.fields.specs.Memory.{Lent, survey_of}
 
@@ -33,7 +33,7 @@ pub record Countable (v : Survey) (w : List ℕ) : Type 0 where
   pub room : longest_reply ≤ length w
 
 -- the data d stands in the room w', and is told
-pub record Replied (d w : List ℕ) (r : Answer) (w' : List ℕ) : Type 0 where
+pub record Replied (d w : List ℕ) (r : ToldAnswer) (w' : List ℕ) : Type 0 where
   pub answer : r ≡ Ok (Some (length d))
   pub room : w' ≡ put w 2 d
 

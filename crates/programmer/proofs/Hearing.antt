@@ -16,7 +16,7 @@ use Rattle.meaning.specs.Demands.{contents}
 use Rattle.meaning.proofs.Puts.{put_front}
 use Rattle.std.specs.Prelude.{Ok, Err}
 use Rattle.std.specs.Result.{result_unwrap_or}
-use Rattle.bench.specs.Outcomes.{Written, Judged, written_of, verdict_of, check_number, without_data}
+use Rattle.bench.specs.Outcomes.{Writing, Judging, written_of, verdict_of, check_number, without_data}
 use Rattle.bench.specs.declared.reply.Refusal.{Refusal}
 use Rattle.bench.specs.declared.reply.Verdict.{Verdict}
 use Rattle.bench.specs.declared.reply.Verdict.TheVariants.{Done, DoneWithWarning, ErrorWithWarning}
@@ -40,7 +40,7 @@ module _ (l : Wish) (st : Step) where
   good w a (done w' d) y e h k = k ∙ ap (onto l st) h
   good w a (failed w' x) y e h k = absurd cc
 
-  pub verdict-good : (j : Judged) (x : Verdict) → j ≡ Ok x → (x ≡ Done) ⊎ (x ≡ DoneWithWarning)
+  pub verdict-good : (j : Judging) (x : Verdict) → j ≡ Ok x → (x ≡ Done) ⊎ (x ≡ DoneWithWarning)
       → (a : List ℕ) (v : meaning.Verdict) (y : Standing) → verdict_of j ≡ without_data v → a ≡ contents v → y ≡ onto l st a → y ≡ on_verdict l st v
   verdict-good j x p (inl h) a v y e = good false a v y (rw (p, h) at e)
   verdict-good j x p (inr h) a v y e = good true a v y (rw (p, h) at e)
@@ -51,12 +51,12 @@ module _ (l : Wish) (st : Step) where
   coded w x (done w' d) e = absurd cc
   coded w x (failed w' y) e = let z : x ≡ y = cc in rw z
 
-  pub verdict_code_lem : (j : Judged) (x : Verdict) (n : ℕ) → j ≡ Ok x → (x ≡ bench.Error n) ⊎ (x ≡ ErrorWithWarning n)
+  pub verdict_code_lem : (j : Judging) (x : Verdict) (n : ℕ) → j ≡ Ok x → (x ≡ bench.Error n) ⊎ (x ≡ ErrorWithWarning n)
       → (v : meaning.Verdict) → verdict_of j ≡ without_data v → Failed st (Error n) ≡ on_verdict l st v
   verdict_code_lem j x n p (inl h) v e = coded false n v (rw (p, h) at e)
   verdict_code_lem j x n p (inr h) v e = coded true n v (rw (p, h) at e)
 
-  pub verdict-unfit : (j : Judged) (b : Refusal) (m : ℕ) → j ≡ Err b → m ≡ check_number b
+  pub verdict-unfit : (j : Judging) (b : Refusal) (m : ℕ) → j ≡ Err b → m ≡ check_number b
       → (v : meaning.Verdict) → verdict_of j ≡ without_data v → Failed st (Judgement m) ≡ on_verdict l st v
   unfolding on_verdict
   verdict-unfit j b m p h (refusal k) e = let z : m ≡ k = h ∙ (let q : refusal (check_number b) ≡ refusal k = rw p at e in cc) in rw z
@@ -70,14 +70,14 @@ unfolding after_reply
 heard-at n l x st at q r y e h = rw at (h ∙ ap (λ (z : List ℕ). on_verdict l st (judge z r)) e)
 
 -- what is written is what is sent
-abbrev pub length_written : Written → ℕ
+abbrev pub length_written : Writing → ℕ
 length_written w = result_unwrap_or w 0
 
-pub record Sends (n : ℕ) (l : Wish) (st : Step) (w : Written) (buffer' : List ℕ) : Type 0 where
+pub record Sends (n : ℕ) (l : Wish) (st : Step) (w : Writing) (buffer' : List ℕ) : Type 0 where
   pub within : length_written w ≤ length buffer'
   pub bytes : take (length_written w) buffer' ≡ bytes_due n l (At st)
 
-module _ (n : ℕ) (l : Wish) (st : Step) (w : Written) (buffer buffer' : List ℕ) (long : length buffer ≡ 135)
+module _ (n : ℕ) (l : Wish) (st : Step) (w : Writing) (buffer buffer' : List ℕ) (long : length buffer ≡ 135)
     (h : written_of w buffer' ≡ writes n (due l st).command (due l st).body buffer) where
   abbrev c : ℕ
   c = (due l st).command
@@ -91,7 +91,7 @@ module _ (n : ℕ) (l : Wish) (st : Step) (w : Written) (buffer buffer' : List �
   count_as : length_written w ≡ (written_of w buffer').count
   count_as = go w
     where
-      go : (w : Written) → length_written w ≡ (written_of w buffer').count
+      go : (w : Writing) → length_written w ≡ (written_of w buffer').count
       go (Ok k) = refl
       go (Err R4) = refl
       go (Err R5) = refl
@@ -99,7 +99,7 @@ module _ (n : ℕ) (l : Wish) (st : Step) (w : Written) (buffer buffer' : List �
   buffer_as : buffer' ≡ (written_of w buffer').buffer
   buffer_as = go w
     where
-      go : (w : Written) → buffer' ≡ (written_of w buffer').buffer
+      go : (w : Writing) → buffer' ≡ (written_of w buffer').buffer
       go (Ok k) = refl
       go (Err R4) = refl
       go (Err R5) = refl

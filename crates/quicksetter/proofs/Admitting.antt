@@ -18,20 +18,20 @@ use Rattle.image.specs.Image.{is_ours, state_in, core_in, plate_of_head, label_i
 use Rattle.quicksetter.specs.declared.refusals.Refusal.{Refusal}
 use Rattle.quicksetter.specs.declared.refusals.Refusal.TheVariants.{R1, R2, R3}
 use Rattle.quicksetter.specs.Calls.{plate_held, Called}
-use Rattle.quicksetter.specs.Cores.{possible, refusal_in, number_of, refusal_told, image_refusal, Unrefused, ImageUnrefused}
+use Rattle.quicksetter.specs.Cores.{possible, refusal_in, refused_number, refusal_told, image_refusal, Unrefused, ImageUnrefused}
 use Rattle.quicksetter.proofs.Heads.{ours-length, ours-label, lent-core, not_ours, called_of}
 use Rattle.quicksetter.proofs.Refusing.{impossible, unsound, none_applies, refused_as_lem, refused-alone, unrefused}
 use Rattle.quicksetter.proofs.Wholes.{joined}
 
-pub some_number : (e : Refusal) → number_of e ≡ 0 → ⊥
+pub some_number : (e : Refusal) → refused_number e ≡ 0 → ⊥
 some_number R1 z = omega (arith, z)
 some_number R2 z = omega (arith, z)
 some_number R3 z = omega (arith, z)
 
 -- a refusal that is handed on
-pub told-on : (r : Result line.Plate Refusal) (e : Refusal) → IsErrAnd r (λ x. x ≡ e) → refusal_told r ≡ number_of e
+pub told-on : (r : Result line.Plate Refusal) (e : Refusal) → IsErrAnd r (λ x. x ≡ e) → refusal_told r ≡ refused_number e
 told-on (Ok p) e h = absurd h
-told-on (Err x) e h = ap number_of h
+told-on (Err x) e h = ap refused_number h
 
 -- R1, by the tests in their order
 pub told-strange : (img : List ℕ) (m w : ℕ) → is_ours img ≡ false → 1 ≡ image_refusal img m w

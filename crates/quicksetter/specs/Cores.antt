@@ -50,15 +50,15 @@ pub record Unrefused (p : meaning.Plate) (core : List ℕ) (memory room : ℕ) :
   pub wide : longest_reply ≤ room
 
 -- a refusal by its number
-abbrev pub number_of : Refusal → ℕ
-number_of R1 = 1
-number_of R2 = 2
-number_of R3 = 3
+abbrev pub refused_number : Refusal → ℕ
+refused_number R1 = 1
+refused_number R2 = 2
+refused_number R3 = 3
 
 -- .. of the tests' result, 0 for none
 abbrev pub refusal_told : Result Plate Refusal → ℕ
 refusal_told (Ok p) = 0
-refusal_told (Err e) = number_of e
+refusal_told (Err e) = refused_number e
 
 -- R1 to R3 of an image, 0 for none
 unfoldable pub image_refusal : List ℕ → ℕ → ℕ → ℕ

@@ -4,7 +4,7 @@ use Rattle.meaning.specs.Bytes.{pick, longest_reply}
 use Rattle.meaning.specs.Bench as meaning
 use Rattle.bench.specs.declared.request.Unwritten.TheVariants.{R4, R5}
 use Rattle.bench.specs.declared.reply.Verdict.TheVariants.{Done, DoneWithWarning, Error, ErrorWithWarning}
-use Rattle.bench.specs.Outcomes.{Written, Judged, check_number}
+use Rattle.bench.specs.Outcomes.{Writing, Judging, check_number}
 use Rattle.bench.specs.Lengths.{Expected, expected_length}
 
 -- a request's length, or 256 + n for Rn
@@ -24,12 +24,12 @@ verdict_number (meaning.failed false e) = 256 + e
 verdict_number (meaning.failed true e) = 512 + e
 
 -- the same of the code's cases
-abbrev pub written_number : Written → ℕ
+abbrev pub written_number : Writing → ℕ
 written_number (Ok n) = n
 written_number (Err R4) = 260
 written_number (Err R5) = 261
 
-abbrev pub verdict_code : Judged → ℕ
+abbrev pub verdict_code : Judging → ℕ
 verdict_code (Ok Done) = 0
 verdict_code (Ok DoneWithWarning) = 1
 verdict_code (Ok (Error e)) = 256 + e

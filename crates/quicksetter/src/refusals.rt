@@ -4,7 +4,7 @@ ghost use Rattle.meaning.specs.Bytes.{longest_reply};
 ghost use Rattle.meaning.specs.Fields.{memory_length};
 ghost use Rattle.image.specs.Image.{plate_of_head};
 ghost use Rattle.quicksetter.specs.Calls.{plate_held};
-ghost use Rattle.quicksetter.specs.Cores.{number_of, refusal_told, image_refusal};
+ghost use Rattle.quicksetter.specs.Cores.{refused_number, refusal_told, image_refusal};
 
 use crate::events::{is_possible, is_sound};
 use crate::given::{REFUSED, REFUSED_ANSWER};
@@ -22,14 +22,14 @@ pub(crate) enum Refusal {
 
 impl Refusal {
     pub(crate) fn number(self) -> usize
-        ensures { result ≡ 256 + number_of self }
+        ensures { result ≡ 256 + refused_number self }
     {
         REFUSED + self as usize
     }
 
     // That of a character and a poll.
     pub(crate) fn answer(self) -> u64
-        ensures { result ≡ 0xFFFFFFFE00000100 + number_of self }
+        ensures { result ≡ 0xFFFFFFFE00000100 + refused_number self }
     {
         REFUSED_ANSWER + self as u64
     }

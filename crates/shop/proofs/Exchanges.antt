@@ -17,7 +17,7 @@ use Rattle.meaning.proofs.Choices.{told-true}
 use Rattle.meaning.proofs.Plates.{whole-label}
 use Rattle.meaning.proofs.Puts.{put_front}
 use Rattle.board.specs.Board.{state_of}
-use Rattle.exchange.specs.Passing.{board_after, refusal_for, reached, answer_to, passed}
+use Rattle.exchange.specs.Passing.{board_heard, refusal_for, reached, answer_to, passed}
 use Rattle.programmer.specs.Wishes.{Wish, wish_of}
 use Rattle.programmer.specs.Steps.{due}
 use Rattle.programmer.specs.Running.{at_first, hears}
@@ -102,7 +102,7 @@ exchange_is_one p b n l x st spacing q kept m w r q' kept' m' w' k j v P e = go 
     o = answer_to p (resting (state_of b kept)) m (address_for n) c d
 
     go : (t : Bool) → eqb (refusal_for p b n c d spacing q kept m w) 0 ≡ t
-        → ◌≡◌ {A = Scene} (record { programmer = hears l x (take j w'); state = state_of (board_after b r) kept'; memory = m' }) (record { programmer = hears l x o.reply; state = o.state; memory = o.memory })
+        → ◌≡◌ {A = Scene} (record { programmer = hears l x (take j w'); state = state_of (board_heard b r) kept'; memory = m' }) (record { programmer = hears l x o.reply; state = o.state; memory = o.memory })
     go true f =
         let y = rw f at P.ended in
         let z : j ≡ length o.reply = cc in

@@ -7,7 +7,7 @@ use Rattle.meaning.specs.Frames.{resting}
 use Rattle.meaning.specs.Bench.{Verdict, address_ok, address_for}
 use Rattle.board.specs.Board.{state_of}
 use Rattle.board.specs.declared.limits.Board.{Board}
-use Rattle.exchange.specs.Passing.{Answer, heard, ended_of, board_after, reached, answer_to, Passes}
+use Rattle.exchange.specs.Passing.{Exchanged, heard, ended_of, board_heard, reached, answer_to, Passes}
 use Rattle.programmer.specs.Wishes.{Wish, good, checked_tape, wish_of}
 use Rattle.programmer.specs.Steps.{due, in_all}
 use Rattle.programmer.specs.Running.{at_first, hears}
@@ -33,9 +33,9 @@ exchanged_on p n l (suc k) x = exchanged_on p n l k (exchanged_at p n l x.progra
 -- .. and that is what a call of `exchange` leaves, by its contract alone (exchange, `Passes`), where it was not refused: the reply's j bytes stand at the front
 -- of the room, and the board, its kept bytes lent, has the new state
 abbrev pub ExchangeIsOne : Type 0
-ExchangeIsOne = (p : board.Plate) (b : Board) (n : ℕ) (l : Wish) (x : Programmer) (st : Step) (spacing : ℕ) (q kept m w : List ℕ) (r : Answer) (q' kept' m' w' : List ℕ) (k j : ℕ) (v : Verdict)
+ExchangeIsOne = (p : board.Plate) (b : Board) (n : ℕ) (l : Wish) (x : Programmer) (st : Step) (spacing : ℕ) (q kept m w : List ℕ) (r : Exchanged) (q' kept' m' w' : List ℕ) (k j : ℕ) (v : Verdict)
     → Passes p b n (due l st).command (due l st).body spacing q kept m w r q' kept' m' w' → ended_of r ≡ heard k j v
-    → ◌≡◌ {A = Scene} (record { programmer = hears l x (take j w'); state = state_of (board_after b r) kept'; memory = m' })
+    → ◌≡◌ {A = Scene} (record { programmer = hears l x (take j w'); state = state_of (board_heard b r) kept'; memory = m' })
     (exchanged_at p n l (At st) (record { programmer = x; state = state_of b kept; memory = m }))
 
 -- our board, a sound memory, the tape's codes in force, fields that fit, the programmer told the board's address (or broadcast): as many exchanges as `in_all`

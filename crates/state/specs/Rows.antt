@@ -3,7 +3,7 @@ use Rattle.std.specs.Prelude.{ℕ, ◌≡◌, Bool, true, false, List, Result, O
 use Rattle.meaning.specs.State.{Plate, Line}
 use Rattle.meaning.specs.Commands.{Command, worked}
 use Rattle.wire.specs.declared.codes.ErrorCode.{ErrorCode}
-use Rattle.wire.specs.Answers.{Answer, told, data_in, state_after}
+use Rattle.wire.specs.Answers.{ToldAnswer, told, data_in, state_after}
 use Rattle.state.specs.declared.state.State.{State}
 use Rattle.state.specs.declared.rows.Worked.{Worked}
 use Rattle.state.specs.declared.effects.Effect.{Effect}
@@ -17,7 +17,7 @@ refused_if true e = Err (record { byte = e })
 refused_if false e = Ok tt
 
 -- what a row comes to, of which the reply is told, and what it changes: 01, "An error reply .. changes nothing else"
-abbrev pub answer_in : Result Worked ErrorCode → Answer
+abbrev pub answer_in : Result Worked ErrorCode → ToldAnswer
 answer_in (Ok w) = Ok w.reply
 answer_in (Err e) = Err e
 

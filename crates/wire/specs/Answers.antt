@@ -6,10 +6,10 @@ use Rattle.meaning.specs.Commands as meaning
 use Rattle.wire.specs.declared.codes.ErrorCode.{ErrorCode}
 
 -- so many bytes of reply data; no reply; the error code that is replied
-abbrev pub Answer : Type 0
-Answer = Result (Option ℕ) ErrorCode
+abbrev pub ToldAnswer : Type 0
+ToldAnswer = Result (Option ℕ) ErrorCode
 
-abbrev pub told : meaning.Answer → Answer
+abbrev pub told : meaning.Answer → ToldAnswer
 told (meaning.refuse e) = Err (record { byte = e })
 told (meaning.accept d s m) = Ok (Some (length d))
 told (meaning.quiet s m) = Ok None
@@ -32,7 +32,7 @@ state_after (meaning.accept d s' m) s = s'
 state_after (meaning.quiet s' m) s = s'
 
 -- the answer a, worked on memory m and a room: what is returned, and what memory and room hold then
-pub record Works (a : meaning.Answer) (m w : List ℕ) (r : Answer) (m' w' : List ℕ) : Type 0 where
+pub record Works (a : meaning.Answer) (m w : List ℕ) (r : ToldAnswer) (m' w' : List ℕ) : Type 0 where
   pub answer : r ≡ told a
   pub memory : m' ≡ memory_after a m
   pub room : w' ≡ data_in a w
