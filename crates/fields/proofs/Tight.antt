@@ -21,11 +21,11 @@ pub survey_tight : (t : ℕ) (m : List ℕ) (f : ℕ) (a b : Survey) → Saw t m
 survey_tight t m f a b p q = one_outcome tells survey_back (λ v. refl) (t, meaning.survey t m f) a b (cc) (cc)
 
 -- no two differing outcomes satisfy a row's contract
-pub works_tight : {a : Answer} {m w : List ℕ} {r r₂ : wire.Answer} {m₁ m₂ w₁ w₂ : List ℕ} → Works a m w r m₁ w₁ → Works a m w r₂ m₂ w₂ → (r ≡ r₂) × (m₁ ≡ m₂) × (w₁ ≡ w₂)
+pub works_tight : {a : Answer} {m w : List ℕ} {r r₂ : wire.ToldAnswer} {m₁ m₂ w₁ w₂ : List ℕ} → Works a m w r m₁ w₁ → Works a m w r₂ m₂ w₂ → (r ≡ r₂) × (m₁ ≡ m₂) × (w₁ ≡ w₂)
 works_tight x y = (x.answer ∙ sym y.answer, x.memory ∙ sym y.memory, x.room ∙ sym y.room)
 
 -- .. for every plate with these blocks and every state with these codes: there are such
-pub field-row_tight : (row : Plate → State → Answer) (t : ℕ) (codes m w : List ℕ) (r r₂ : wire.Answer) (m₁ m₂ w₁ w₂ : List ℕ)
+pub field-row_tight : (row : Plate → State → Answer) (t : ℕ) (codes m w : List ℕ) (r r₂ : wire.ToldAnswer) (m₁ m₂ w₁ w₂ : List ℕ)
     → ((p : Plate) (s : State) → p.total ≡ t → s.codes ≡ codes → Works (row p s) m w r m₁ w₁)
     → ((p : Plate) (s : State) → p.total ≡ t → s.codes ≡ codes → Works (row p s) m w r₂ m₂ w₂) → (r ≡ r₂) × (m₁ ≡ m₂) × (w₁ ≡ w₂)
 unfolding with_codes
@@ -35,7 +35,7 @@ field-row_tight row t codes m w r r₂ m₁ m₂ w₁ w₂ x y =
     works_tight (x p s refl refl) (y p s refl refl)
 
 -- .. for every memory that the survey is of: there is one
-pub told-row_tight : (row : Plate → State → List ℕ → Answer) (v : meaning.Survey) (t : ℕ) (m : List ℕ) (f : ℕ) → v ≡ meaning.survey t m f → (w : List ℕ) (r r₂ : wire.Answer) (w₁ w₂ : List ℕ)
+pub told-row_tight : (row : Plate → State → List ℕ → Answer) (v : meaning.Survey) (t : ℕ) (m : List ℕ) (f : ℕ) → v ≡ meaning.survey t m f → (w : List ℕ) (r r₂ : wire.ToldAnswer) (w₁ w₂ : List ℕ)
     → ((p : Plate) (s : State) (m : List ℕ) → v ≡ meaning.survey p.total m f → Works (row p s m) m w r m w₁)
     → ((p : Plate) (s : State) (m : List ℕ) → v ≡ meaning.survey p.total m f → Works (row p s m) m w r₂ m w₂) → (r ≡ r₂) × (w₁ ≡ w₂)
 told-row_tight row v t m f e w r r₂ w₁ w₂ x y =
