@@ -1,5 +1,5 @@
 -- The code's board as the meaning's state, and what a call leaves (01, "Named refusals"). Assumes nothing.
-use Rattle.std.specs.Prelude.{ℕ, ◌≤◌, ◌≡◌, Bool, true, false, List, Option, Some, None, Result, Ok, Err, eqb, leb, length, drop}
+use Rattle.std.specs.Prelude.{ℕ, ◌≤◌, ◌≡◌, Bool, true, false, List, Option, Some, None, Result, Ok, Err, unwrap_or, eqb, leb, length, drop}
 use Rattle.meaning.specs.Bytes.{pick, both, longest_request, put, arg}
 use Rattle.meaning.specs.State.{Plate, State, plate_ok, state_ok, with_queue}
 use Rattle.meaning.specs.Run as run
@@ -54,6 +54,10 @@ taken_if fine x = pick fine (Ok x) (Err R1)
 -- 01, "Named refusals", in the code's cases; the number of reply bytes, 0 being silence, where the call closes a frame, as `over` says
 unfoldable pub outcome_of : Held → Bool → Result (Option ℕ) Refusal
 outcome_of h over = refused_as h.refusal (pick over (Some h.count) None)
+
+-- how many reply bytes stand at the room's front: 0 is silence, or that no frame closed
+abbrev pub reply_length : Stepped → ℕ
+reply_length r = unwrap_or r.reply 0
 
 -- what an answer tells: a refusal, or the reply
 abbrev pub told_of : Result Stepped Refusal → Result (Option ℕ) Refusal

@@ -6,7 +6,7 @@ ghost use Rattle.meaning.specs.State as meaning;
 ghost use Rattle.meaning.specs.State.{last_address};
 ghost use Rattle.meaning.specs.Run as run;
 ghost use Rattle.line.specs.Line.{plate_of};
-ghost use Rattle.board.specs.Board.{state_of, unheard, Steps};
+ghost use Rattle.board.specs.Board.{state_of, reply_length, unheard, Steps};
 
 use crate::closing::close;
 use crate::limits::{Board, refusal, within_limits};
@@ -28,6 +28,15 @@ pub struct Stepped {
     pub board: Board,
     pub reply: Option<usize>,
     pub remaining: Option<u64>,
+}
+
+impl Stepped {
+    // How many reply bytes stand at the room's front: 0 is silence, or that no frame closed.
+    pub fn reply_length(self) -> usize
+        ensures { result ≡ reply_length self }
+    {
+        self.reply.unwrap_or(0)
+    }
 }
 
 // 01, "Fresh state", with the plate's address, whatever the label bytes are. Any other number of the plate that is beyond its limits is told by the

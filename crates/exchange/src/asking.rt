@@ -87,7 +87,7 @@ fn converse(
     let sent = send(plate, label, board, tick, apart, asked, kept, memory, room);
     let over = line::stamp_after(sent.last, plate.full_pause() as u32);
     let closed = board::poll(plate, label, sent.board, over, kept, memory, room).unwrap();
-    let reply = closed.reply.unwrap_or(0);
+    let reply = closed.reply_length();
     let verdict = bench::judge(asked, &room[..reply]);
     Heard {
         board: closed.board,

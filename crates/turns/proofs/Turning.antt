@@ -20,7 +20,7 @@ use Rattle.board.specs.declared.limits.Board.{Board}
 use Rattle.board.specs.declared.calls.Refusal.{Refusal}
 use Rattle.board.specs.declared.calls.Stepped.{Stepped}
 use Rattle.board.specs.Board as board
-use Rattle.board.specs.Board.{state_of, fits_in, refusal_on}
+use Rattle.board.specs.Board.{state_of, fits_in, reply_length, refusal_on}
 use Rattle.board.specs.Promises.{DoesStep}
 use Rattle.board.specs.Quick.{TakesIn, ClosesNone}
 use Rattle.board.proofs.Quickening.{quiet_step, taken-quickly, polled-quickly, quick_steps}
@@ -37,7 +37,7 @@ use Rattle.tape.specs.Reader.{said_of, said_in, Printed}
 use Rattle.tape.specs.Passes.{longest_line}
 use Rattle.tape.proofs.Outputs.{put-nil}
 use Rattle.turns.specs.Openings.{tape_plate}
-use Rattle.turns.specs.Turns.{Sound, runs, quickly, Quiet, CallsBoard, NotCalled, Turns, reply_length, Fitting, Answered}
+use Rattle.turns.specs.Turns.{Sound, runs, quickly, Quiet, CallsBoard, NotCalled, Turns, Fitting, Answered}
 use Rattle.turns.specs.declared.answering.Called.{Called}
 use Rattle.turns.specs.declared.answering.Turned.{Turned}
 

@@ -1,5 +1,5 @@
 -- One record of a running board. Assumes nothing.
-use Rattle.std.specs.Prelude.{ℕ, ◌+◌, ◌≤◌, ◌≡◌, Bool, true, false, not, List, [], Option, None, Some, Result, Ok, Err, is_err, unwrap_or, length, take}
+use Rattle.std.specs.Prelude.{ℕ, ◌+◌, ◌≤◌, ◌≡◌, Bool, true, false, not, List, [], Option, None, Some, Result, Ok, Err, is_err, length, take}
 use Rattle.meaning.specs.Bytes.{put, longest_reply}
 use Rattle.meaning.specs.State as meaning
 use Rattle.meaning.specs.Characters.{over}
@@ -8,7 +8,7 @@ use Rattle.line.specs.declared.plate.Plate.{Plate}
 use Rattle.board.specs.declared.limits.Board.{Board}
 use Rattle.board.specs.declared.calls.Stepped.{Stepped}
 use Rattle.board.specs.Board as board
-use Rattle.board.specs.Board.{state_of, fits_in}
+use Rattle.board.specs.Board.{state_of, fits_in, reply_length}
 use Rattle.board.specs.Promises.{Within}
 use Rattle.tape.specs.Kinds.{Said, plate, call, unfit}
 use Rattle.tape.specs.Answers as answers
@@ -109,10 +109,6 @@ pub record NotCalled (x : Said) (kept m w kept' m' w' : List ℕ) : Type 0 where
 abbrev pub Calls : Plate → Board → Said → List ℕ → List ℕ → List ℕ → Option Called → List ℕ → List ℕ → List ℕ → Type 0
 Calls p b x kept m w None kept' m' w' = NotCalled x kept m w kept' m' w'
 Calls p b x kept m w (Some r) kept' m' w' = CallsBoard p b x kept m w r kept' m' w'
-
--- how many reply bytes stand at the room's front
-abbrev pub reply_length : Stepped → ℕ
-reply_length s = unwrap_or s.reply 0
 
 -- a reply, at the front of its room, has space as a line
 pub record Fitting (s : Stepped) (w out : List ℕ) (used : ℕ) : Type 0 where

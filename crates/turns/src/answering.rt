@@ -56,7 +56,7 @@ fn answered(called: Called, reply: &[u8], out: &mut [u8], used: usize) -> Turned
     ensures { Answered called reply.now out.old used result out.new }
 {
     let board = called.stepped.board;
-    let n = called.stepped.reply.unwrap_or(0);
+    let n = called.stepped.reply_length();
     if n == 0 {
         return Turned { board, used };
     }

@@ -13,13 +13,13 @@ unwrap-closed-requires c = poll-answered _ _ _ _ _ _ _ _ c.requires c.send-sent.
 
 pub slice_bounds-judge-end : goal.slice_bounds-judge-end
 slice_bounds-judge-end c =
-    rw c.unwrap_or-reply.ensures (reply-fits _ _ _ _ _ _ _ _ c.requires c.send-sent.ensures _ c.unwrap-closed.ensures c.poll.ensures)
+    rw c.reply_length-reply.ensures (reply-fits _ _ _ _ _ _ _ _ c.requires c.send-sent.ensures _ c.unwrap-closed.ensures c.poll.ensures)
 
 pub slice_bounds-judge-end-2 : goal.slice_bounds-judge-end-2
 slice_bounds-judge-end-2 c =
-    sym (length-take-le _ _ (rw c.unwrap_or-reply.ensures (reply-fits _ _ _ _ _ _ _ _ c.requires c.send-sent.ensures _ c.unwrap-closed.ensures c.poll.ensures)))
+    sym (length-take-le _ _ (rw c.reply_length-reply.ensures (reply-fits _ _ _ _ _ _ _ _ c.requires c.send-sent.ensures _ c.unwrap-closed.ensures c.poll.ensures)))
 
 pub returns : goal.returns
 returns c = λ n k d h.
     let at = c.stamp_after-over.ensures ∙ ap (λ (x : ℕ). (c.send-sent.result.last + x) % 2 ^ 32) (c.full_pause.ensures c.args.label.now) in
-    converses _ _ _ _ _ _ _ _ c.requires c.send-sent.ensures _ c.unwrap-closed.ensures c.poll.ensures c.ranges.tick.fits at n k d h c.unwrap_or-reply.ensures c.judge-verdict.ensures
+    converses _ _ _ _ _ _ _ _ c.requires c.send-sent.ensures _ c.unwrap-closed.ensures c.poll.ensures c.ranges.tick.fits at n k d h c.reply_length-reply.ensures c.judge-verdict.ensures
