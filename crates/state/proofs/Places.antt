@@ -34,10 +34,6 @@ no_more_one c (x ∷ q) = go (eqb c 0)
     go true = refl
     go false = refl
 
-in_pairs : (a b c : Bool) → either a (either b c) ≡ either (either a b) c
-in_pairs true b c = refl
-in_pairs false b c = refl
-
 -- `|` of the code, for the four places
 four_either : (a b c d : Bool) → ((a || b) || c) || d ≡ either a (either b (either c d))
 four_either true b c d = refl
@@ -59,11 +55,17 @@ waits_one c (x ∷ q) = go (eqb c 0)
     go false = refl
 
 -- a code waits, if one place is not 00h
-pub some_wait : (f : Faults) → ((not (eqb f.first 0) || not (eqb f.second 0)) || not (eqb f.third 0)) || not (eqb f.fourth 0) ≡ waits (queue_of f)
+pub some_wait : (f : Faults) → waits (queue_of f) ≡ either (not (eqb f.first 0)) ((not (eqb f.second 0) || not (eqb f.third 0)) || not (eqb f.fourth 0))
 unfolding queue_of waits
 some_wait f =
-    four_either (not (eqb f.first 0)) (not (eqb f.second 0)) (not (eqb f.third 0)) (not (eqb f.fourth 0))
-    ∙ sym (rw (waits_one f.first (waiting f.second (waiting f.third (waiting f.fourth []))), waits_one f.second (waiting f.third (waiting f.fourth [])), waits_one f.third (waiting f.fourth []), waits_one f.fourth [], either-false (not (eqb f.fourth 0))))
+    rw (
+      waits_one f.first (waiting f.second (waiting f.third (waiting f.fourth []))),
+      waits_one f.second (waiting f.third (waiting f.fourth [])),
+      waits_one f.third (waiting f.fourth []),
+      waits_one f.fourth [],
+      either-false (not (eqb f.fourth 0)),
+    )
+    (ap (either (not (eqb f.first 0))) (sym (four_either false (not (eqb f.second 0)) (not (eqb f.third 0)) (not (eqb f.fourth 0)))))
 
 positive : (c : ℕ) → eqb c 0 ≡ false → 0 < c
 positive c e = omega (arith, eqb-false c 0 e)
@@ -115,12 +117,12 @@ among_three : (c x y z : ℕ) → 0 < c
     → among c (waiting x (waiting y (waiting z []))) ≡ either (eqb c x) (either (eqb c y) (eqb c z))
 among_three c x y z h = rw (among-more c x (waiting y (waiting z [])) h, among-more c y (waiting z []) h, among_one c z h)
 
-pub among_four : (f : Faults) (c : ℕ) → 0 < c → among c (queue_of f) ≡ either (either (eqb c f.first) (eqb c f.second)) (either (eqb c f.third) (eqb c f.fourth))
+pub among_four : (f : Faults) (c : ℕ) → 0 < c → ((eqb c f.first || eqb c f.second) || eqb c f.third) || eqb c f.fourth ≡ among c (queue_of f)
 unfolding queue_of
 among_four f c h =
-    among-more c f.first (waiting f.second (waiting f.third (waiting f.fourth []))) h
-    ∙ ap (either (eqb c f.first)) (among_three c f.second f.third f.fourth h)
-    ∙ in_pairs (eqb c f.first) (eqb c f.second) (either (eqb c f.third) (eqb c f.fourth))
+    four_either (eqb c f.first) (eqb c f.second) (eqb c f.third) (eqb c f.fourth)
+    ∙ sym (among-more c f.first (waiting f.second (waiting f.third (waiting f.fourth []))) h
+    ∙ ap (either (eqb c f.first)) (among_three c f.second f.third f.fourth h))
 
 -- 01, "22h and 24h lock the position": one test for both, computed for every byte
 one_test : ℕ → Bool

@@ -53,7 +53,7 @@ impl Faults {
         requires { 0 < code }
         ensures { result ≡ among code (queue_of self) }
     {
-        is_among(code, self.first, self.second) || is_among(code, self.third, self.fourth)
+        (code == self.first) | (code == self.second) | (code == self.third) | (code == self.fourth)
     }
 
     // 01, "a queue of four, oldest first; one already waiting, or a fifth, is dropped". That none waits is told at once.
@@ -167,12 +167,11 @@ impl Faults {
         }
     }
 
-    // Whether a code waits.
-    #[tactic(auto, using(crate::proofs::Places::some_wait))]
+    // Whether a code waits: mostly the first place tells it.
     pub fn waits(self) -> bool
         ensures { result ≡ waits (queue_of self) }
     {
-        (self.first != 0) | (self.second != 0) | (self.third != 0) | (self.fourth != 0)
+        self.first != 0 || (self.second != 0) | (self.third != 0) | (self.fourth != 0)
     }
 
     // 01, "State limits": whether codes wait, and all different, none of them 00h, 22h or 24h. Each is held to those before it, and two are told at once.
