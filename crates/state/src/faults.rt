@@ -167,6 +167,13 @@ impl Faults {
         }
     }
 
+    // 01, "Power-on empties the queue .. and unlocks".
+    pub(crate) fn power_on(self) -> Faults
+        ensures { result ≡ no_faults }
+    {
+        Faults::none()
+    }
+
     // Whether a code waits: mostly the first place tells it.
     pub fn waits(self) -> bool
         ensures { result ≡ waits (queue_of self) }

@@ -110,7 +110,7 @@ impl State {
         ensures { (l : Line) → state_with result none ≡ powered_on (state_with self l) }
     {
         State {
-            faults: Faults::none(),
+            faults: self.faults.power_on(),
             ..self
         }
     }
