@@ -1,4 +1,5 @@
 // What the host calls: a character, a poll, a measured position, a fault, power-on (01, "characters and times in").
+// What is lent stays apart: the clauses would name a struct that holds a reference as `x.entry`, and for each `&mut` in it say that it is the caller's.
 ghost use Rattle.std.specs.Prelude.{◌≡◌, List, ℕ, ◌≤◌, length};
 ghost use Rattle.meaning.specs.Bytes.{longest_request};
 ghost use Rattle.meaning.specs.State as meaning;
@@ -42,7 +43,6 @@ pub fn fresh(plate: Plate) -> Board
     }
 }
 
-// What is lent stays apart: the clauses would name a struct that holds a reference as `x.entry`, and for each `&mut` in it say that it is the caller's.
 // A poll: an open frame that is over is closed, and nothing else changes.
 pub fn poll(
     plate: Plate,
