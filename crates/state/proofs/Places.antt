@@ -16,7 +16,7 @@ use Rattle.state.specs.declared.faults.Faults.{Faults}
 use Rattle.state.specs.declared.faults.Oldest.{Oldest}
 use Rattle.state.specs.declared.faults.Noting.{Noting}
 use Rattle.state.specs.declared.faults.Noting.TheVariants.{Ignored, Locks, First, Second, Third, Fourth}
-use Rattle.state.specs.Queue.{waiting, queue_of, holding, Queues, Reads}
+use Rattle.state.specs.Queue.{waiting, queue_of, no_faults, holding, Queues, Reads}
 use Rattle.state.specs.Effects.{place_at, place_for, noting_of, noted_as}
 use Rattle.meaning.proofs.Choices.{both_true, both_false, either-false}
 use Rattle.meaning.proofs.Every.{alike, as_told, every, at}
@@ -304,6 +304,10 @@ pub oldest_first : (f : Faults) (r : Oldest Faults) → r.code ≡ f.first
     → r.rest ≡ (record { first = f.second; second = f.third; third = f.fourth; fourth = 0; locked = f.locked }) → Reads f r
 unfolding queue_of
 oldest_first f r e k = record { oldest = e ∙ sym (front f.first _); rest = record { queue = rw k (moved f); lock = rw k } }
+
+pub emptied : (f : Faults) {r : Faults} → r ≡ no_faults → Queues f [] (record { first = r.first; second = r.second; third = r.third; fourth = r.fourth; locked = f.locked })
+unfolding queue_of waiting
+emptied f e = record { queue = rw e; lock = refl }
 
 -- 01, "Bit 7 of every reply's command byte"
 pub unmarked : (c : ℕ) (q : List ℕ) → waits q ≡ false → c % 128 ≡ warned c q
