@@ -28,7 +28,7 @@ fn reply_from(state: State, command: u8, answer: Answer, room: &mut [u8]) -> u8
     send(own, state.faults.waits(), command, answer, room)
 }
 
-// A frame that is no request is answered by its error code; 00h is silence. The reply's length comes back.
+// A frame that is no request is answered by its error code; 00h is silence (`fault_reply`), so that the code comes as a byte. The reply's length comes back.
 pub fn refuse(state: State, code: u8, room: &mut [u8]) -> u8
     requires { Answerable state room.old }
     ensures { Refused state code room.old result room.new }

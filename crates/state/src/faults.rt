@@ -28,7 +28,7 @@ pub enum Noting {
     Fourth,
 }
 
-// The oldest code, or 00h, and what is left without it: the queue, the state, the board.
+// The oldest code, or 00h, and what is left without it: the queue, the state, the board. No Option: 00h is what 50h tells where none waits (`Reads`).
 #[derive(Clone, Copy)]
 pub struct Oldest<T> {
     pub code: u8,

@@ -24,6 +24,7 @@ pub struct Row {
 }
 
 // 53h has no reply (000, "Encoder Reset"). 52h, 55h and 56h by 000, tables 28, 30 and 31 (02, Req 01). None: an unknown command.
+// A command stays the byte of the wire, and no enum: every byte is asked about here, `on_memory`, `on_state` and `send` promise their answers by it, and a reply repeats it.
 #[tactic(auto, unfolding(meaning::specs::Commands::command_of, meaning::specs::Commands::row))]
 pub fn row_of(command: u8) -> Option<Row>
     ensures { row_of result ≡ row (command_of command) }
