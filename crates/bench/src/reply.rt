@@ -43,7 +43,7 @@ impl fmt::Display for Refusal {
     }
 }
 
-// An error has its code.
+// An error has its code, as the byte that came: it is told on as a number, and no code is asked for by its name here. With a warning and without are two verdicts, as 01 has them.
 #[derive(Clone, Copy, PartialEq, Eq, Debug)]
 pub enum Verdict {
     Done,

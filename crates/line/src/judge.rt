@@ -6,7 +6,7 @@ ghost use Rattle.line.specs.Judge.{is_silent, judgement_of, code_to_answer, addr
 use crate::characters::OpenFrame;
 use wire::codes::{BROADCAST, ErrorCode};
 
-// Too short; for another address; an error code to answer; a command, as its byte, whose data has its row's length.
+// An enum, as 01 has the judge answer: each case has a sequel of its own. Too short; for another address; an error code to answer; a command, as its byte, whose data has its row's length.
 #[derive(Clone, Copy, PartialEq, Eq)]
 pub enum Judgement {
     Short,

@@ -39,7 +39,8 @@ impl Step {
 }
 
 // Why a request failed, in the order of the refusals: the check B0 to B6 by its number; the error code; what was read back differs.
-// The check is kept as a number, not as the bench's own kind: whether a programmer is possible is answered for the numbers over 6 as well (R1).
+// The check is kept as a number, not as the bench's own kind: whether a programmer is possible is answered for the numbers over 6 as well (R1). An
+// error code is the byte that came, as the bench tells it.
 #[derive(Clone, Copy, PartialEq, Eq, Debug)]
 pub enum Why {
     Judgement(u8),
