@@ -42,7 +42,8 @@ pub fn closes_none(plate: Plate, board: Board, event: Event) -> bool
     ensures { (kept : List ℕ) → result ≡ quickly (tape_plate plate) (state_of board kept) (said_of event) }
 {
     match event {
-        Event::Character { tick, .. } | Event::Poll { tick } => !closes(plate, board, tick),
+        Event::Character { tick, .. } => !closes(plate, board, tick),
+        Event::Poll { tick } => !closes(plate, board, tick),
         _ => false,
     }
 }
