@@ -2,7 +2,7 @@
 ghost use Rattle.std.specs.Prelude.{◌≡◌, List, ℕ, ◌+◌, ◌≤◌, ◌<◌, ◌^◌, length};
 ghost use Rattle.tape.specs.Passes.{closing};
 ghost use Rattle.tape.specs.Text.{longest_bad_line};
-ghost use Rattle.tape.specs.Reader.{Printed, said_in};
+ghost use Rattle.tape.specs.Reader.{Printed, said_of};
 ghost use Rattle.turns.specs.Turns.{Quiet};
 ghost use Rattle.passes.specs.Sessions.{stage_of, TakesQuickly, eaten_by, pass_at, lent_at, Plays, Playable, Lends, GoesOn, EndsBad, ReadyForPass, Eats};
 
@@ -43,13 +43,10 @@ fn halt(board: Board, at: usize, used: usize, stop: Stop) -> Played
 }
 
 // A record that closes no frame: a character is taken in, a poll changes nothing.
-fn taken_in(plate: Plate, board: Board, event: Option<Event>, kept: &mut [u8]) -> Board
-    requires { TakesQuickly plate board (said_in event) kept.old }
-    ensures { Quiet plate board kept.old (said_in event) result kept.new }
+fn taken_in(plate: Plate, board: Board, event: Event, kept: &mut [u8]) -> Board
+    requires { TakesQuickly plate board (said_of event) kept.old }
+    ensures { Quiet plate board kept.old (said_of event) result kept.new }
 {
-    let Some(event) = event else {
-        return board;
-    };
     let Event::Character {
         tick,
         value,

@@ -13,11 +13,7 @@ said_of (event.Poll t) = call (poll t)
 said_of (event.Measured n) = call (measured n)
 said_of (event.Fault c) = call (fault c)
 said_of event.PowerOn = call power_on
-
--- nothing where the record fits no kind
-abbrev pub said_in : Option Event → Said
-said_in None = unfit
-said_in (Some e) = said_of e
+said_of event.Unfit = unfit
 
 -- the number of a body of four bytes
 unfoldable pub number_of : List ℕ → Option ℕ

@@ -5,7 +5,7 @@ ghost use Rattle.std.specs.Prelude.{◌≡◌};
 ghost use Rattle.meaning.specs.Bytes.{arg};
 ghost use Rattle.meaning.specs.Run as run;
 ghost use Rattle.tape.specs.Kinds.{plate, call, plate_in, character_in, sized, call_of};
-ghost use Rattle.tape.specs.Reader.{said_in, number_of};
+ghost use Rattle.tape.specs.Reader.{said_of, number_of};
 
 use wire::codes::LABEL_LENGTH;
 
@@ -15,7 +15,8 @@ pub const LONGEST_RECORD: u16 = 8;
 // 02, Req 01: the label bytes "on the tape .. are all zero".
 pub const NO_LABEL: [u8; LABEL_LENGTH] = [0; LABEL_LENGTH];
 
-// What a record says.
+// What a record says; Unfit where it fits no kind. This is a case here and no Option round the event: what is read of the tape is an Option already, and
+// one in another costs a kept character 40 instructions more.
 #[derive(Clone, Copy)]
 pub enum Event {
     Plate {
@@ -40,22 +41,23 @@ pub enum Event {
         code: u8,
     },
     PowerOn,
+    Unfit,
 }
 
 // 01, "plate (T, P, a, ticks per bit, pause, a byte each)".
-fn plate_in(body: &[u8]) -> Option<Event>
-    ensures { said_in result ≡ sized 5 body.now (plate (plate_in body.now)) }
+fn plate_in(body: &[u8]) -> Event
+    ensures { said_of result ≡ sized 5 body.now (plate (plate_in body.now)) }
 {
     let &[total, bits, address, ticks, pause] = body else {
-        return None;
+        return Event::Unfit;
     };
-    Some(Event::Plate {
+    Event::Plate {
         total,
         bits,
         address,
         ticks,
         pause,
-    })
+    }
 }
 
 // A tick or a position: four bytes, and no more.
@@ -69,53 +71,58 @@ fn number_in(body: &[u8]) -> Option<u32>
 }
 
 // 01, "character (tick 4, value, parity fault 0 or 1)".
-fn character_in(body: &[u8]) -> Option<Event>
-    ensures { said_in result ≡ sized 6 body.now (character_in body.now) }
+fn character_in(body: &[u8]) -> Event
+    ensures { said_of result ≡ sized 6 body.now (character_in body.now) }
 {
     let &[a, b, c, d, value, fault] = body else {
-        return None;
+        return Event::Unfit;
     };
     if 1 < fault {
-        return None;
+        return Event::Unfit;
     }
-    Some(Event::Character {
+    Event::Character {
         tick: u32::from_le_bytes([a, b, c, d]),
         value,
         parity: fault == 1,
-    })
+    }
 }
 
-fn fault_in(body: &[u8]) -> Option<Event>
-    ensures { said_in result ≡ sized 1 body.now (call (run.fault (arg body.now 0))) }
+fn fault_in(body: &[u8]) -> Event
+    ensures { said_of result ≡ sized 1 body.now (call (run.fault (arg body.now 0))) }
 {
     let &[code] = body else {
-        return None;
+        return Event::Unfit;
     };
-    Some(Event::Fault { code })
+    Event::Fault { code }
 }
 
-fn power_on_in(body: &[u8]) -> Option<Event>
-    ensures { said_in result ≡ sized 0 body.now (call run.power_on) }
+fn power_on_in(body: &[u8]) -> Event
+    ensures { said_of result ≡ sized 0 body.now (call run.power_on) }
 {
-    body.is_empty().then_some(Event::PowerOn)
+    if !body.is_empty() {
+        return Event::Unfit;
+    }
+    Event::PowerOn
 }
 
-// What a record of that kind says. Any kind and any body are taken: what 01 calls "fits none of this" says nothing.
+// What a record of that kind says. Any kind and any body are taken: 01, "fits none of this", is Unfit.
 #[tactic(auto, unfolding(crate::specs::Kinds::call_of))]
-pub fn event_of(kind: u16, body: &[u8]) -> Option<Event>
-    ensures { said_in result ≡ call_of kind body.now }
+pub fn event_of(kind: u16, body: &[u8]) -> Event
+    ensures { said_of result ≡ call_of kind body.now }
 {
     match kind {
         1 => plate_in(body),
         2 => character_in(body),
-        3 => Some(Event::Poll {
-            tick: number_in(body)?,
-        }),
-        4 => Some(Event::Measured {
-            position: number_in(body)?,
-        }),
+        3 => match number_in(body) {
+            Some(tick) => Event::Poll { tick },
+            None => Event::Unfit,
+        },
+        4 => match number_in(body) {
+            Some(position) => Event::Measured { position },
+            None => Event::Unfit,
+        },
         5 => fault_in(body),
         6 => power_on_in(body),
-        _ => None,
+        _ => Event::Unfit,
     }
 }

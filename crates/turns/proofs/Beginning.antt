@@ -4,7 +4,7 @@ use mathlib.Core.Path.{◌≡◌, refl, sym, ap, subst, ◌∙◌}
 use mathlib.Core.Bool.{Bool, true, false}
 use mathlib.Core.List.{List}
 use native.Mathlib.Nat.{zero-add}
-use Rattle.std.specs.Prelude.{Option, None, Some, Result, Ok, Err}
+use Rattle.std.specs.Prelude.{Result, Ok, Err}
 use Rattle.records.specs.declared.record.Unread.{Unread}
 use Rattle.records.specs.declared.record.Unread.TheVariants.{Bad}
 use Rattle.meaning.specs.Bytes.{pick, zeros}
@@ -16,7 +16,7 @@ use Rattle.tape.specs.declared.kinds.Event.{Event}
 use Rattle.tape.specs.declared.kinds.Event.TheVariants as event
 use Rattle.tape.specs.Kinds.{Said, plate, call, unfit}
 use Rattle.tape.specs.Answers.{turn, begun}
-use Rattle.tape.specs.Reader.{said_in}
+use Rattle.tape.specs.Reader.{said_of}
 use Rattle.tape.specs.Passes.{next_record, says}
 use Rattle.tape.proofs.Events.{no_label}
 use Rattle.turns.specs.Hearing.{Readout, not_yet, tells, readout_at, Past, Hears}
@@ -25,25 +25,25 @@ use Rattle.turns.specs.declared.opening.Opened.{Opened}
 use Rattle.turns.proofs.Hearing.{hears}
 
 -- a record that is no plate begins nothing
-pub not-plate : (e : Option Event) (next : ℕ) → ((t p a b u : ℕ) → e ≡ Some (event.Plate t p a b u) → ⊥) → Err Bad ≡ begun_by (said_in e) next
-not-plate (Some (event.Plate t p a b u)) next k = absurd (k t p a b u refl)
-not-plate (Some (event.Character t v f)) next k = refl
-not-plate (Some (event.Poll t)) next k = refl
-not-plate (Some (event.Measured n)) next k = refl
-not-plate (Some (event.Fault c)) next k = refl
-not-plate (Some event.PowerOn) next k = refl
-not-plate None next k = refl
+pub not-plate : (e : Event) (next : ℕ) → ((t p a b u : ℕ) → e ≡ event.Plate t p a b u → ⊥) → Err Bad ≡ begun_by (said_of e) next
+not-plate (event.Plate t p a b u) next k = absurd (k t p a b u refl)
+not-plate (event.Character t v f) next k = refl
+not-plate (event.Poll t) next k = refl
+not-plate (event.Measured n) next k = refl
+not-plate (event.Fault c) next k = refl
+not-plate event.PowerOn next k = refl
+not-plate event.Unfit next k = refl
 
 -- and one that is a plate begins by its numbers
-module _ (e : Option Event) (f : Event) (next : ℕ) {t b a k u : ℕ} (p : Plate) (some : e ≡ Some f) (is : f ≡ event.Plate t b a k u)
+module _ (e : Event) (next : ℕ) {t b a k u : ℕ} (p : Plate) (is : e ≡ event.Plate t b a k u)
     (same : p ≡ record { total = t; bits = b; address = a; ticks = k; pause = u }) where
-  pub plate-begins : plate_ok (tape_plate p) ≡ true → Ok (record { plate = p; next = next }) ≡ begun_by (said_in e) next
+  pub plate-begins : plate_ok (tape_plate p) ≡ true → Ok (record { plate = p; next = next }) ≡ begun_by (said_of e) next
   unfolding checked
-  plate-begins h = rw (some, is, same, rw same at h)
+  plate-begins h = rw (is, same, rw same at h)
 
-  pub plate-refused : plate_ok (tape_plate p) ≡ false → Err Bad ≡ begun_by (said_in e) next
+  pub plate-refused : plate_ok (tape_plate p) ≡ false → Err Bad ≡ begun_by (said_of e) next
   unfolding checked
-  plate-refused h = rw (some, is, rw same at h)
+  plate-refused h = rw (is, rw same at h)
 
 -- a plate or a call is not unfit
 abbrev fitting : Said → Type 0

@@ -33,7 +33,7 @@ use Rattle.tape.specs.Text as text
 use Rattle.tape.specs.Text.{bad_line}
 use Rattle.tape.specs.Answers as answers
 use Rattle.tape.specs.Answers.{running, turn, stepped, printed_of}
-use Rattle.tape.specs.Reader.{said_of, said_in, Printed}
+use Rattle.tape.specs.Reader.{said_of, Printed}
 use Rattle.tape.specs.Passes.{longest_line}
 use Rattle.tape.proofs.Outputs.{put-nil}
 use Rattle.turns.specs.Openings.{tape_plate}
@@ -75,32 +75,25 @@ quick_open : (t : Bool) → not t ≡ true → t ≡ false
 quick_open true e = absurd (not-both (sym e))
 quick_open false e = refl
 
-pub quiet-character : (p : Plate) (b : Board) (kept : List ℕ) (e : Option Event) (f : Event) (t v : ℕ) (bad : Bool) {b' : Board} {kept' : List ℕ}
-    → quickly (tape_plate p) (state_of b kept) (said_in e) ≡ true → e ≡ Some f → f ≡ event.Character t v bad → TakesIn b kept t v bad b' kept' → Quiet p b kept (said_in e) b' kept'
+pub quiet-character : (p : Plate) (b : Board) (kept : List ℕ) (e : Event) (t v : ℕ) (bad : Bool) {b' : Board} {kept' : List ℕ}
+    → quickly (tape_plate p) (state_of b kept) (said_of e) ≡ true → e ≡ event.Character t v bad → TakesIn b kept t v bad b' kept' → Quiet p b kept (said_of e) b' kept'
 unfolding closes
-quiet-character p b kept e f t v bad q i k x =
-    let o : over (tape_plate p) (state_of b kept) t ≡ false = quick_open (over (tape_plate p) (state_of b kept) t) (rw (i, k) at q) in
-    rw (i, k) (went_quiet p b kept (character t v bad) refl (taken-quickly (tape_plate p) b kept t o x))
+quiet-character p b kept e t v bad q k x =
+    let o : over (tape_plate p) (state_of b kept) t ≡ false = quick_open (over (tape_plate p) (state_of b kept) t) (rw k at q) in
+    rw k (went_quiet p b kept (character t v bad) refl (taken-quickly (tape_plate p) b kept t o x))
 
 -- a quick record that is no character is a poll, and changes nothing
-polled : (p : Plate) (b : Board) (kept : List ℕ) (e : Event) → quickly (tape_plate p) (state_of b kept) (said_of e) ≡ true
+pub quiet-poll : (p : Plate) (b : Board) (kept : List ℕ) (e : Event) → quickly (tape_plate p) (state_of b kept) (said_of e) ≡ true
     → ((t v : ℕ) (bad : Bool) → e ≡ event.Character t v bad → ⊥) → fits_in b kept ≡ true → Quiet p b kept (said_of e) b kept
 unfolding closes
-polled p b kept (event.Plate t q a u w) k i f = absurd (not-both (sym k))
-polled p b kept (event.Character t v bad) k i f = absurd (i t v bad refl)
-polled p b kept (event.Poll t) k i f =
+quiet-poll p b kept (event.Plate t q a u w) k i f = absurd (not-both (sym k))
+quiet-poll p b kept (event.Character t v bad) k i f = absurd (i t v bad refl)
+quiet-poll p b kept (event.Poll t) k i f =
     went_quiet p b kept (poll t) refl (polled-quickly (tape_plate p) b kept t (quick_open (over (tape_plate p) (state_of b kept) t) k) f)
-polled p b kept (event.Measured n) k i f = absurd (not-both (sym k))
-polled p b kept (event.Fault c) k i f = absurd (not-both (sym k))
-polled p b kept event.PowerOn k i f = absurd (not-both (sym k))
-
-pub quiet-poll : (p : Plate) (b : Board) (kept : List ℕ) (e : Option Event) (f : Event) → quickly (tape_plate p) (state_of b kept) (said_in e) ≡ true
-    → e ≡ Some f → ((t v : ℕ) (bad : Bool) → f ≡ event.Character t v bad → ⊥) → fits_in b kept ≡ true → Quiet p b kept (said_in e) b kept
-quiet-poll p b kept e f k i j l = rw i (polled p b kept f (rw i at k) j l)
-
--- one that fits no kind is not quick
-pub unfit-slow : (p : Plate) (b : Board) (kept : List ℕ) (e : Option Event) {b' : Board} {kept' : List ℕ} → quickly (tape_plate p) (state_of b kept) (said_in e) ≡ true → e ≡ None → Quiet p b kept (said_in e) b' kept'
-unfit-slow p b kept e k i = absurd (not-both (sym (rw i at k)))
+quiet-poll p b kept (event.Measured n) k i f = absurd (not-both (sym k))
+quiet-poll p b kept (event.Fault c) k i f = absurd (not-both (sym k))
+quiet-poll p b kept event.PowerOn k i f = absurd (not-both (sym k))
+quiet-poll p b kept event.Unfit k i f = absurd (not-both (sym k))
 
 printed-line : (tick : ℕ) (l : List ℕ) → 0 < length l → printed_of (poll tick) l ≡ text.reply_line tick l
 unfolding printed_of

@@ -5,7 +5,7 @@ use Rattle.records.specs.declared.record.Unread.TheVariants.{More, Bad}
 use Rattle.records.specs.Records.{whole_length}
 use Rattle.tape.specs.Kinds.{Said, unfit, call_of}
 use Rattle.records.specs.Reader.{Whole, read_at}
-use Rattle.tape.specs.Reader.{said_in}
+use Rattle.tape.specs.Reader.{said_of}
 use Rattle.tape.specs.Passes as passes
 use Rattle.tape.specs.Passes.{longest_record}
 use Rattle.turns.specs.declared.reading.Heard.{Heard}
@@ -17,7 +17,7 @@ pub data Readout : Type 0 where
 
 abbrev pub readout_of : Option Heard → Readout
 readout_of None = not_yet
-readout_of (Some h) = tells (said_in h.event) h.next
+readout_of (Some h) = tells (said_of h.event) h.next
 
 -- where no record begins, what stands there fits nothing and has no end
 unfoldable pub readout_by : ℕ → Result Whole Unread → Readout

@@ -2,7 +2,7 @@
 ghost use Rattle.std.specs.Prelude.{◌≡◌, None, Some, List, ℕ, ◌+◌, ◌≤◌, length};
 ghost use Rattle.meaning.specs.Characters.{over};
 ghost use Rattle.board.specs.Board.{state_of};
-ghost use Rattle.tape.specs.Reader.{said_in};
+ghost use Rattle.tape.specs.Reader.{said_of};
 ghost use Rattle.tape.specs.Passes.{longest_line};
 ghost use Rattle.turns.specs.Openings.{tape_plate};
 ghost use Rattle.turns.specs.Turns.{Sound, quickly, Calls, Turns, Fitting, Answered};
@@ -38,14 +38,12 @@ fn closes(plate: Plate, board: Board, tick: u32) -> bool
 }
 
 // Most records are characters inside a frame, or polls: what closes no frame need not be turned here, since it prints nothing.
-pub fn closes_none(plate: Plate, board: Board, event: Option<Event>) -> bool
-    ensures { (kept : List ℕ) → result ≡ quickly (tape_plate plate) (state_of board kept) (said_in event) }
+pub fn closes_none(plate: Plate, board: Board, event: Event) -> bool
+    ensures { (kept : List ℕ) → result ≡ quickly (tape_plate plate) (state_of board kept) (said_of event) }
 {
-    let Some(event) = event else {
-        return false;
-    };
     match event {
-        Event::Character { tick, .. } | Event::Poll { tick } => !closes(plate, board, tick),
+        Event::Character { tick, .. } => !closes(plate, board, tick),
+        Event::Poll { tick } => !closes(plate, board, tick),
         _ => false,
     }
 }
@@ -81,18 +79,18 @@ fn unheard(board: Board) -> Option<Called>
 fn ask(
     plate: Plate,
     board: Board,
-    event: Option<Event>,
+    event: Event,
     kept: &mut [u8],
     memory: &mut [u8],
     reply: &mut [u8],
 ) -> Option<Called>
     requires { Sound plate board kept.old memory.old reply.old }
-    ensures { Calls plate board (said_in event) kept.old memory.old reply.old result kept.new memory.new reply.new }
+    ensures { Calls plate board (said_of event) kept.old memory.old reply.old result kept.new memory.new reply.new }
 {
     // 02, Req 01: the label bytes, "on the tape they are all zero".
     let none = &NO_LABEL;
-    match event? {
-        Event::Plate { .. } => None,
+    match event {
+        Event::Plate { .. } | Event::Unfit => None,
         Event::Character {
             tick,
             value,
@@ -121,7 +119,7 @@ pub fn turn(
     plate: Plate,
     board: Board,
     place: u64,
-    event: Option<Event>,
+    event: Event,
     kept: &mut [u8],
     memory: &mut [u8],
     reply: &mut [u8],
@@ -130,7 +128,7 @@ pub fn turn(
 ) -> Result<Turned, BadRecord>
     requires within_limits { Sound plate board kept.old memory.old reply.old }
     requires line_fits { used + longest_line ≤ length out.old }
-    ensures { Turns plate board memory.old place (said_in event) kept.old reply.old out.old used result kept.new memory.new reply.new out.new }
+    ensures { Turns plate board memory.old place (said_of event) kept.old reply.old out.old used result kept.new memory.new reply.new out.new }
 {
     let Some(called) = ask(plate, board, event, kept, memory, reply) else {
         let used = tape::bad_line(place, out, used);

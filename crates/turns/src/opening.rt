@@ -20,15 +20,13 @@ pub fn open(window: &[u8]) -> Result<Opened, Unread>
     ensures { result ≡ opened_by (readout_at 0 window.now) }
 {
     let heard = hear(window, 0).ok_or(Unread::More)?;
-    let Some(
-        Event::Plate {
-            total,
-            bits,
-            address,
-            ticks,
-            pause,
-        },
-    ) = heard.event
+    let Event::Plate {
+        total,
+        bits,
+        address,
+        ticks,
+        pause,
+    } = heard.event
     else {
         return Err(Unread::Bad);
     };

@@ -5,10 +5,10 @@ ghost use Rattle.turns.specs.Hearing.{readout_of, readout_at};
 use records::{Cursor, Unread};
 use tape::{Event, LONGEST_RECORD};
 
-// What a record says, and the place past it; no event where it fits no kind, or where no record begins.
+// What a record says, and the place past it; where no record begins it is unfit.
 #[derive(Clone, Copy)]
 pub struct Heard {
-    pub event: Option<Event>,
+    pub event: Event,
     pub next: usize,
 }
 
@@ -23,7 +23,7 @@ pub fn hear(window: &[u8], at: usize) -> Option<Heard>
             next: record.next.at,
         }),
         Err(Unread::Bad) => Some(Heard {
-            event: None,
+            event: Event::Unfit,
             next: at,
         }),
         Err(Unread::More) => None,

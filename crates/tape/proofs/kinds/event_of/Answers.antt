@@ -5,19 +5,18 @@ use Rattle.tape.specs.Kinds.{call, call_of}
 use Rattle.tape.proofs.Events.{number-said, number-unsaid}
 use Rattle.tape.proofs.kinds.event_of.Goals as goal
 
-pub returns-in_err-number_in-in-3 : goal.returns-in_err-number_in-in-3
+pub returns-in-Some : goal.returns-in-Some
 unfolding call_of
-returns-in_err-number_in-in-3 c = rw (c.in-3.is, c.from_residual.ensures) (number-unsaid _ _ (sym c.number_in.ensures ∙ c.in_err-number_in-in-3.was))
+returns-in-Some c = rw c.in-3.is (number-said _ _ (λ (k : ℕ). call (poll k)) (sym c.number_in.ensures ∙ c.in-Some.is))
 
-pub returns-in_err-number_in-in-4 : goal.returns-in_err-number_in-in-4
+pub returns-in-None : goal.returns-in-None
 unfolding call_of
-returns-in_err-number_in-in-4 c =
-    rw (c.in-4.is, c.from_residual-in_err-number_in-in-4.ensures) (number-unsaid _ _ (sym c.number_in-in-4.ensures ∙ c.in_err-number_in-in-4.was))
+returns-in-None c = rw c.in-3.is (number-unsaid _ _ (sym c.number_in.ensures ∙ c.in-None.is))
 
-pub returns-in_ok-number_in-in-3 : goal.returns-in_ok-number_in-in-3
+pub returns-in-Some-number_in : goal.returns-in-Some-number_in
 unfolding call_of
-returns-in_ok-number_in-in-3 c = rw c.in-3.is (number-said _ _ (λ (k : ℕ). call (poll k)) (sym c.number_in.ensures ∙ c.in_ok-number_in-in-3.was))
+returns-in-Some-number_in c = rw c.in-4.is (number-said _ _ (λ (k : ℕ). call (measured k)) (sym c.number_in-in-4.ensures ∙ c.in-Some-number_in.is))
 
-pub returns-in_ok-number_in-in-4 : goal.returns-in_ok-number_in-in-4
+pub returns-in-None-number_in : goal.returns-in-None-number_in
 unfolding call_of
-returns-in_ok-number_in-in-4 c = rw c.in-4.is (number-said _ _ (λ (k : ℕ). call (measured k)) (sym c.number_in-in-4.ensures ∙ c.in_ok-number_in-in-4.was))
+returns-in-None-number_in c = rw c.in-4.is (number-unsaid _ _ (sym c.number_in-in-4.ensures ∙ c.in-None-number_in.is))
