@@ -38,7 +38,7 @@ fn digit(n: u8) -> u8
     if n < 10 { b'0' + n } else { b'A' - 10 + n }
 }
 
-// Each byte as a space and two digits.
+// Each byte as a space and two digits. By place and not by `write!`: the space is shown beforehand, and a formatter would bring an error that cannot come.
 fn hex(s: &[u8], out: &mut [u8], at: usize) -> usize
     requires { at + 3 * length s.now ≤ length out.old }
     ensures { Printed (hex_of s.now) out.old at result out.new }
