@@ -15,8 +15,8 @@ pub const LONGEST_RECORD: u16 = 8;
 // 02, Req 01: the label bytes "on the tape .. are all zero".
 pub const NO_LABEL: [u8; LABEL_LENGTH] = [0; LABEL_LENGTH];
 
-// What a record says; Unfit where it fits no kind. This is a case here and no Option round the event: what is read of the tape is an Option already, and
-// one in another costs a kept character 40 instructions more.
+// What a record says; Unfit where it fits no kind. That is a case here and no Option round the event: one in the Option that `hear` of turns gives takes
+// 122 instructions an event of a tape of 128-byte reads and stores, and this takes 87.
 #[derive(Clone, Copy)]
 pub enum Event {
     Plate {

@@ -41,6 +41,7 @@ fn closes(plate: Plate, board: Board, tick: u32) -> bool
 pub fn closes_none(plate: Plate, board: Board, event: Event) -> bool
     ensures { (kept : List ℕ) → result ≡ quickly (tape_plate plate) (state_of board kept) (said_of event) }
 {
+    // In two arms: one for both costs a kept character 28 instructions more.
     match event {
         Event::Character { tick, .. } => !closes(plate, board, tick),
         Event::Poll { tick } => !closes(plate, board, tick),

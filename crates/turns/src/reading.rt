@@ -13,6 +13,7 @@ pub struct Heard {
 }
 
 // What stands at a place of the window; None where that is not yet a whole record.
+// Inlined: as a call it costs a kept character 77 instructions more.
 #[inline(always)]
 pub fn hear(window: &[u8], at: usize) -> Option<Heard>
     ensures { readout_of result ≡ readout_at at window.now }
