@@ -14,8 +14,7 @@ use Rattle.meaning.specs.Bytes.{pick, both}
 use Rattle.meaning.specs.Fields.{writable}
 use Rattle.meaning.specs.Bench.{address_ok}
 use Rattle.meaning.proofs.Steps.{both_0, both_1}
-use Rattle.programmer.specs.Wishes.{Field, Wish, no_field, wanted, fields_from}
-use Rattle.programmer.proofs.Reading.{all-few}
+use Rattle.programmer.specs.Wishes.{Field, Wish, no_field, wanted}
 use Rattle.programmer.specs.Steps.{requests_for, in_all, answered, answered_at}
 use Rattle.programmer.specs.Reading.{FoundField}
 use Rattle.programmer.specs.Running.{progress_of, can_stand, is_possible}
@@ -53,28 +52,10 @@ unfolding requests_for
 summed [] = refl
 summed (f ∷ fs) = omega (arith, summed fs, sum_by-cons (λ (x : ℕ). x) (cost_of f) (map cost_of fs))
 
--- the next field is counted, or none is to be counted any more
-module _ (left : List Field) (many counter : ℕ) where
-  pub none_left : left ≡ [] → requests_for (take (many - counter) left) ≡ 0
-  unfolding requests_for
-  none_left e = rw e (go (many - counter))
-    where
-      go : (n : ℕ) → requests_for (take n []) ≡ 0
-      go zero = refl
-      go (suc n) = refl
-
-  pub none_due : many ≤ counter → requests_for (take (many - counter) left) ≡ 0
-  unfolding requests_for
-  none_due h = let e : many - counter ≡ 0 = omega arith in rw e
-
-  module _ (f : Field) (rest : List Field) (e : left ≡ f ∷ rest) where
-    pub one_counted : requests_for left ≡ cost_of f + requests_for rest
-    unfolding requests_for
-    one_counted = rw e (omega arith)
-
-    pub first_counted : counter < many → requests_for (take (many - counter) left) ≡ cost_of f + requests_for (take (many - (counter + 1)) rest)
-    unfolding requests_for
-    first_counted h = let k : many - counter ≡ suc (many - (counter + 1)) = omega arith in rw (e, k) (omega arith)
+-- the next of the first fields is counted
+pub next_counted : (f : Field) (rest : List Field) (many counter : ℕ) → counter < many → requests_for (take (many - counter) (f ∷ rest)) ≡ cost_of f + requests_for (take (many - (counter + 1)) rest)
+unfolding requests_for
+next_counted f rest many counter h = let k : many - counter ≡ suc (many - (counter + 1)) = omega arith in rw k (omega arith)
 
 -- ---- what is wanted, by what is found
 
@@ -104,10 +85,6 @@ pub requests_few : (fs : List Field) → requests_for fs ≤ 4 * length fs
 unfolding requests_for
 requests_few [] = omega arith
 requests_few (f ∷ fs) = omega (arith, requests_few fs, cost_few (writable f.status))
-
--- so the fields of a tape take few
-pub few_requests : (n : ℕ) (t : List ℕ) → n ≤ 256 → requests_for (fields_from n t) ≤ 1024
-few_requests n t h = omega (arith, requests_few (fields_from n t), all-few n t)
 
 answered-few : (l : Wish) (p : ℕ) (st : Step) → answered l p st ≤ 4 + (2 * p + requests_for l.fields)
 answered-few l p Count = omega arith

@@ -26,8 +26,8 @@ fn cost(status: u8) -> usize
     if wire::is_writable(status) { 3 } else { 4 }
 }
 
-// The requests for the first `many` fields; the others are left.
-#[tactic(auto, using(crate::proofs::Counting::one_counted, crate::proofs::Counting::first_counted, crate::proofs::Counting::none_left, crate::proofs::Counting::none_due))]
+// The requests for the first `many` fields; the others are left. Not by `take`: its contract does not say what it leaves once it has given `many`.
+#[tactic(auto, using(crate::proofs::Counting::next_counted), unfolding(crate::specs::Steps::requests_for))]
 fn requests_before(fields: &mut Fields<'_>, many: usize) -> usize
     requires { steps.requests_for (fields_left fields.now) ≤ 1024 }
     ensures first { result ≡ steps.requests_for (take many (fields_left fields.old)) }
@@ -83,7 +83,7 @@ fn in_all(present: u32, wanted: usize) -> usize
     1 + 2 * (present as usize) + wanted
 }
 
-#[tactic(auto, using(crate::proofs::Reading::all_of, crate::proofs::Counting::few_requests))]
+#[tactic(auto, using(crate::proofs::Reading::all_of, crate::proofs::Counting::requests_few, crate::proofs::Reading::all_few))]
 fn stood(tape: &[u8], present: u32, step: Step) -> Progress
     ensures { result ≡ record { answered = steps.answered (wish_of tape.now) present step; all = in_all (wish_of tape.now) present } }
 {
@@ -96,7 +96,7 @@ fn stood(tape: &[u8], present: u32, step: Step) -> Progress
 }
 
 impl Programmer {
-    #[tactic(auto, using(crate::proofs::Reading::all_of, crate::proofs::Counting::few_requests), unfolding(crate::specs::Running::progress_of))]
+    #[tactic(auto, using(crate::proofs::Reading::all_of, crate::proofs::Counting::requests_few, crate::proofs::Reading::all_few), unfolding(crate::specs::Running::progress_of))]
     pub fn progress(self, tape: &[u8]) -> Progress
         ensures { result ≡ progress_of (wish_of tape.now) self }
     {
