@@ -1,5 +1,5 @@
 -- Laws of counting the requests, and of what a run can have left. Assumes nothing.
-use Prim.Native.Nat.{ℕ, zero, suc, ◌+◌, ◌*◌, ◌≤◌, ◌<◌}
+use Prim.Native.Nat.{ℕ, zero, suc, ◌+◌, ◌-◌, ◌*◌, ◌≤◌, ◌<◌}
 use mathlib.Core.Path.{◌≡◌, refl, sym}
 use mathlib.Core.Bool.{Bool, true, false, not}
 use mathlib.Core.List.{List, [], ◌∷◌, map}
@@ -51,6 +51,11 @@ pub summed : (fs : List Field) → requests_for fs ≡ sum (map cost_of fs)
 unfolding requests_for
 summed [] = refl
 summed (f ∷ fs) = omega (arith, summed fs, sum_by-cons (λ (x : ℕ). x) (cost_of f) (map cost_of fs))
+
+-- the next of the first fields is counted
+pub next_counted : (f : Field) (rest : List Field) (many counter : ℕ) → counter < many → requests_for (take (many - counter) (f ∷ rest)) ≡ cost_of f + requests_for (take (many - (counter + 1)) rest)
+unfolding requests_for
+next_counted f rest many counter h = let k : many - counter ≡ suc (many - (counter + 1)) = omega arith in rw k (omega arith)
 
 -- ---- what is wanted, by what is found
 

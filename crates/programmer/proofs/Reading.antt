@@ -184,10 +184,10 @@ all_fit (suc n) t = go (is_field (record_at t)) (of_its_size (body_of (record_at
     go true false e s h = tt
     go false q e s h = tt
 
-pub all-few : (n : ℕ) (t : List ℕ) → length (fields_from n t) ≤ n
+pub all_few : (n : ℕ) (t : List ℕ) → length (fields_from n t) ≤ n
 unfolding fields_from
-all-few zero t = omega arith
-all-few (suc n) t = go (both (is_field (record_at t)) (of_its_size (body_of (record_at t)))) (all-few n (drop (whole_length t) t))
+all_few zero t = omega arith
+all_few (suc n) t = go (both (is_field (record_at t)) (of_its_size (body_of (record_at t)))) (all_few n (drop (whole_length t) t))
   where
     go : (p : Bool) → length (fields_from n (drop (whole_length t) t)) ≤ n → length (pick p (field_in (body_of (record_at t)) ∷ fields_from n (drop (whole_length t) t)) []) ≤ suc n
     go true h = omega arith
@@ -216,11 +216,11 @@ first_of k s = go (dec_lt k 256)
   where
     go : Dec (k < 256) → fields_from (min k 256) (drop 8 s) ≡ take k (fields_from 256 (drop 8 s))
     go (yes h) = let e : min k 256 ≡ k = omega arith in rw e (fewer k 256 (drop 8 s) (omega arith))
-    go (no h) = let e : min k 256 ≡ 256 = omega arith in rw e (sym (take_all k (fields_from 256 (drop 8 s)) (omega (arith, all-few 256 (drop 8 s)))))
+    go (no h) = let e : min k 256 ≡ 256 = omega arith in rw e (sym (take_all k (fields_from 256 (drop 8 s)) (omega (arith, all_few 256 (drop 8 s)))))
 
 pub all_of : (s : List ℕ) → take 256 (wish_of s).fields ≡ (wish_of s).fields
 unfolding wish_of
-all_of s = take_all 256 (fields_from 256 (drop 8 s)) (all-few 256 (drop 8 s))
+all_of s = take_all 256 (fields_from 256 (drop 8 s)) (all_few 256 (drop 8 s))
 
 -- wanted field i, by its place among them
 placed : (fs : List Field) (i : ℕ) (f : Field) → Some f ≡ slice_get fs i → (i < length fs) × (get_or fs i no_field ≡ f)
@@ -247,5 +247,5 @@ finds s i (Some w) e =
       there = h.0;
       is = h.1;
       few = rw h.1 at (few_bytes l i (all_fit 256 (drop 8 s)) h.0);
-      low = omega (arith, h.0, all-few 256 (drop 8 s));
+      low = omega (arith, h.0, all_few 256 (drop 8 s));
     }

@@ -17,7 +17,7 @@ use Rattle.records.proofs.Bytes.{length_part}
 use Rattle.programmer.specs.Wishes.{field_in, body_of, is_codes, is_field, of_its_size, first_wrong, Checked, good, checked_from, checked_tape, fields_from, wish_of}
 use Rattle.programmer.specs.Promises.{span_of, WholeTape, GoodIsWhole}
 use Rattle.programmer.specs.declared.wish.TapeFault.TheVariants.{BadRecord, WrongSize}
-use Rattle.programmer.proofs.Reading.{short-length, all_fit, all-few}
+use Rattle.programmer.proofs.Reading.{short-length, all_fit, all_few}
 
 some-body : (b : List ℕ) → leb 128 (arg b 0) ≡ true → 1 ≤ length b
 some-body [] e = absurd (false≢true e)
@@ -96,7 +96,7 @@ good-is-whole t e = go (is_codes (record_at t)) refl e
         let h = head_spans t (record_at t) refl f in
         record {
           four = length_part t 4 4 h;
-          few = all-few 256 (drop 8 t);
+          few = all_few 256 (drop 8 t);
           fit = all_fit 256 (drop 8 t);
           all = omega (arith, h, (all_read 256 good 8 (drop 8 t) e).1, length-drop 8 t);
         }

@@ -26,9 +26,26 @@ fn cost(status: u8) -> usize
     if wire::is_writable(status) { 3 } else { 4 }
 }
 
-fn requests_for(fields: Fields) -> usize
-    requires { fields.left ≤ 256 }
-    ensures { (result ≡ steps.requests_for (fields_left fields.entry)) × (result ≤ 1024) }
+// The requests for the first `many` fields; the others are left. Not by `take`: its contract does not say what it leaves once it has given `many`.
+#[tactic(auto, using(crate::proofs::Counting::next_counted), unfolding(crate::specs::Steps::requests_for))]
+fn requests_before(fields: &mut Fields<'_>, many: usize) -> usize
+    requires { steps.requests_for (fields_left fields.now) ≤ 1024 }
+    ensures first { result ≡ steps.requests_for (take many (fields_left fields.old)) }
+    ensures rest { result + steps.requests_for (fields_left fields.new) ≡ steps.requests_for (fields_left fields.old) }
+{
+    let mut requests = 0;
+    for _ in 0..many {
+        let Some(field) = fields.next() else {
+            return requests;
+        };
+        requests += cost(field.status);
+    }
+    requests
+}
+
+fn requests_for(fields: Fields<'_>) -> usize
+    requires { steps.requests_for (fields_left fields) ≤ 1024 }
+    ensures { result ≡ steps.requests_for (fields_left fields.entry) }
 {
     fields.map(|field| cost(field.status)).sum()
 }
@@ -57,32 +74,36 @@ fn answered(present: u32, step: Step, before: usize) -> usize
     }
 }
 
-#[tactic(auto, using(crate::proofs::Reading::all_of), unfolding(crate::specs::Steps::in_all))]
-fn in_all(tape: &[u8], present: u32) -> usize
-    ensures { result ≡ in_all (wish_of tape.now) present }
+// `wanted` is the number of requests for all wanted fields.
+#[tactic(auto, unfolding(crate::specs::Steps::in_all))]
+fn in_all(present: u32, wanted: usize) -> usize
+    requires { wanted ≤ 1024 }
+    ensures { (l : Wish) → wanted ≡ steps.requests_for l.fields → result ≡ in_all l present }
 {
-    1 + 2 * (present as usize) + requests_for(first_fields(tape, MOST_FIELDS))
+    1 + 2 * (present as usize) + wanted
 }
 
+#[tactic(auto, using(crate::proofs::Reading::all_of, crate::proofs::Counting::requests_few, crate::proofs::Reading::all_few))]
 fn stood(tape: &[u8], present: u32, step: Step) -> Progress
     ensures { result ≡ record { answered = steps.answered (wish_of tape.now) present step; all = in_all (wish_of tape.now) present } }
 {
-    let before = requests_for(first_fields(tape, step.wanted_field()));
+    let mut fields = first_fields(tape, MOST_FIELDS);
+    let before = requests_before(&mut fields, step.wanted_field());
     Progress {
         answered: answered(present, step, before),
-        all: in_all(tape, present),
+        all: in_all(present, before + requests_for(fields)),
     }
 }
 
 impl Programmer {
-    #[tactic(auto, unfolding(crate::specs::Running::progress_of))]
+    #[tactic(auto, using(crate::proofs::Reading::all_of, crate::proofs::Counting::requests_few, crate::proofs::Reading::all_few), unfolding(crate::specs::Running::progress_of))]
     pub fn progress(self, tape: &[u8]) -> Progress
         ensures { result ≡ progress_of (wish_of tape.now) self }
     {
         match self.standing {
             Standing::At(step) | Standing::Failed(step, _) => stood(tape, self.present, step),
             Standing::Done => {
-                let all = in_all(tape, self.present);
+                let all = in_all(self.present, requests_for(first_fields(tape, MOST_FIELDS)));
                 Progress { answered: all, all }
             }
         }
