@@ -2,13 +2,14 @@
 use Prim.Native.Nat.{ℕ, suc, ◌+◌, ◌/◌, ◌%◌, ◌≤◌, ◌<◌}
 use mathlib.Core.Path.{◌≡◌, refl, sym, ap, ◌∙◌}
 use mathlib.Core.Bool.{true, false}
-use mathlib.Core.List.{List, [], ◌∷◌, ◌++◌}
+use mathlib.Core.List.{List, [], ◌∷◌, ◌++◌, append-nil}
 use native.Mathlib.Omega.{arith}
 use lib.ListN.{length, take, drop, get_or-eq_default}
 use lib.Seq.{take_at}
 use borrow.Author.Tests.{lt-ltb, le-ltb, eqb-false}
-use Rattle.meaning.specs.Bytes.{arg, same}
+use Rattle.meaning.specs.Bytes.{arg, put, same}
 use Rattle.meaning.specs.Fields.{code_no, writable}
+use Rattle.meaning.proofs.Puts.{put_front}
 use Rattle.records.proofs.Bytes.{part-byte}
 use Rattle.programmer.specs.Wishes.{Field, Wish, no_field, wanted, code_for, wish_of}
 use Rattle.programmer.specs.Steps.{due, making, locking, onto}
@@ -56,11 +57,11 @@ module _ (l : Wish) (i : ℕ) (w : Wanted) (W : Wants l i w) (c : ℕ) (e : c �
   abbrev n : ℕ
   n = length w.bytes.now
 
-  pub store_body : (last rest : List ℕ) → last ≡ w.bytes.now → take (4 + n) (i ∷ 0 ∷ n ∷ c ∷ (last ++ rest)) ≡ (due l (Store i)).body
+  pub store_body : (d last : List ℕ) → last ≡ put d 0 w.bytes.now → take (4 + n) (i ∷ 0 ∷ n ∷ c ∷ (last ++ [])) ≡ (due l (Store i)).body
   unfolding due
-  store_body last rest q =
+  store_body d last q =
       let z : 4 + n ≡ suc (suc (suc (suc n))) = omega arith in
-      rw (W.status_is, W.bytes_are, z, q, take_at w.bytes.now rest n refl, e)
+      rw (W.status_is, W.bytes_are, z, append-nil, q, put_front d w.bytes.now, take_at w.bytes.now (drop n d) n refl, e)
 
 module _ (l : Wish) (i : ℕ) (w : Wanted) (W : Wants l i w) where
   pub read_differs : (d : List ℕ) → same (drop 3 d) w.bytes.now ≡ false → Failed (Read i) Differs ≡ onto l (Read i) d

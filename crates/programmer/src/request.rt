@@ -66,8 +66,7 @@ fn look(address: u32, field: u8, buffer: &mut [u8]) -> Result<usize, Unwritten>
     bench::write_request(address, 0x4C, &body, buffer)
 }
 
-// 4Bh of a whole field.
-#[tactic(auto, using(crate::proofs::Asking::store_body))]
+// 4Bh of a whole field. By `fill`: copy_from_slice looks at addresses of 64 bits, which a Cortex-M has not.
 fn store(address: u32, tape: &[u8], field: u8, buffer: &mut [u8]) -> Result<usize, Unwritten>
     ensures { written_of result buffer.new ≡ writes address 0x4B (due (wish_of tape.now) (Step.Store field)).body buffer.old }
 {
@@ -77,8 +76,8 @@ fn store(address: u32, tape: &[u8], field: u8, buffer: &mut [u8]) -> Result<usiz
     body[0] = field;
     body[2] = count as u8;
     body[3] = code_for(tape, wanted.status);
+    wire::fill(wanted.bytes, &mut body[4..]);
     let len = 4 + count;
-    body[4..len].copy_from_slice(wanted.bytes);
     bench::write_request(address, 0x4B, &body[..len], buffer)
 }
 
