@@ -60,7 +60,7 @@ impl fmt::Display for Refusal {
     }
 }
 
-// The board afterwards; the lengths of request and reply, which stand at the fronts of their buffers; and what the bench makes of the reply.
+// The board afterwards; the lengths of request and reply, which stand at the fronts of their buffers, lent on by then; and what the bench makes of the reply.
 #[derive(Clone, Copy)]
 pub struct Heard {
     pub board: Board,

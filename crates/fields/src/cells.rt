@@ -3,7 +3,7 @@ ghost use Rattle.std.specs.Prelude.{◌≡◌, length};
 
 // 02, Req 05, "Write only cells that change": a write wears a memory part, so a cell that holds its byte already is read and not written. A contract tells what
 // the cells hold afterwards and cannot tell this: it is read here, and shown by running.
-// By index: of cells lent by iter_mut a proof knows no bytes afterwards.
+// By index: of cells lent by a zip over iter_mut a proof knows no bytes afterwards.
 pub(crate) fn set_cells(cells: &mut [u8], wanted: &[u8])
     requires { length cells.old ≡ length wanted.now }
     ensures { cells.new ≡ wanted.now }

@@ -7,7 +7,7 @@ ghost use Rattle.fields.specs.Shape.{Chargeable, Settable, stored_as};
 use crate::cells::set_cells;
 use crate::sizes::{BLOCK, bytes_of};
 
-// The run of blocks to be cleared: the first of them, and the one past the last.
+// The run of blocks to be cleared: the first of them, and the one past the last. No Range, which is used up by being read.
 #[derive(Clone, Copy)]
 pub struct Change {
     pub from: usize,
@@ -39,7 +39,7 @@ pub(crate) fn lacks_room(free: usize, new: u8, old: u8) -> bool
 }
 
 // A block at a time, then what is over, and only the cells that are not 00h (02, Req 05).
-// By index: of pieces lent by chunks_mut a proof knows no bytes afterwards.
+// By `set_cells`, where all cells are written, and by index: of pieces lent by chunks_mut a proof knows no bytes afterwards.
 fn clear(part: &mut [u8])
     ensures { part.new ≡ zeros (length part.old) }
 {

@@ -5,6 +5,7 @@ ghost use Rattle.fields.specs.Replies.{Repeatable, Replied, named};
 
 use wire::Answer;
 
+// Two bytes, stored where they belong: no slice of them is made to be filled in.
 pub(crate) fn reply_two(first: u8, second: u8, room: &mut [u8]) -> Answer
     requires { longest_reply ≤ length room.old }
     ensures { Replied (first ∷ second ∷ []) room.old result room.new }
@@ -15,7 +16,7 @@ pub(crate) fn reply_two(first: u8, second: u8, room: &mut [u8]) -> Answer
 }
 
 // Field, offset and count, as the request has them.
-// Byte by byte: copy_from_slice first looks whether the two overlap, which costs more than the three stores.
+// Three stores: copy_from_slice looks first whether the two overlap, 4 to 5 instructions more a call, and a fill is a loop.
 pub(crate) fn repeat_three(request: &[u8], room: &mut [u8])
     requires { Repeatable request.now room.old }
     ensures { room.new ≡ put room.old 2 (named request.now) }

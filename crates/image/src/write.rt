@@ -68,6 +68,7 @@ fn put_number(number: u32, place: &mut [u8])
     wire::fill(&wire::bytes_of(number), place);
 }
 
+// One function for each part that is written alone: each names its own part in its clause, and the work is `put_number`'s or `fill`'s.
 pub fn put_measured(measured: u32, core: &mut [u8])
     requires { HoldsState core.old }
     ensures { PutsState (measured_set (state_in core.old) measured) core.old core.new }
@@ -90,7 +91,7 @@ pub fn put_faults(faults: Faults, core: &mut [u8])
     wire::fill(&row, &mut core[WAITING..FRAME]);
 }
 
-// A noted code, in place: the lock, or one of the four places (01, "The host notes codes").
+// A noted code, in place, as `Faults::note` has it by value: C lends bytes. The lock, or one of the four places (01, "The host notes codes").
 pub fn note(code: u8, core: &mut [u8])
     requires { HoldsState core.old }
     ensures { NotesIn code core.old core.new }
@@ -121,7 +122,7 @@ fn put_offset(offset: u32, core: &mut [u8])
     put_number(offset, &mut core[OFFSET..MEASURED]);
 }
 
-// What a command changes, in place: nothing is written that does not change. The codes are the core's first bytes.
+// What a command changes, in place, as `State::after` has it by value: C lends bytes, and nothing is written that does not change. The codes are the core's first bytes.
 pub fn put_effect(effect: Effect, core: &mut [u8])
     requires bounded { Bounded effect }
     requires holds_state { HoldsState core.old }
@@ -193,7 +194,7 @@ fn put_stamp(parity: u8, tick: u32, sum: u8, core: &mut [u8])
     wire::fill(&row, &mut core[PARITY..COUNT]);
 }
 
-// One more character of an open frame: nothing is written that does not change.
+// One more character of an open frame, in place, as `OpenFrame::with_character` has it by value: C lends bytes, and nothing is written that does not change.
 fn go_on(tick: u32, value: u8, parity: bool, core: &mut [u8])
     requires { Open core.old }
     ensures { Takes (more (line_of (frame_in core.old) (kept_in core.old)) tick value parity) core.old core.new }

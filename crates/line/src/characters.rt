@@ -9,7 +9,7 @@ use crate::stamps::gap;
 use wire::codes::LONGEST_REQUEST;
 
 // Whether a frame is open, the stamp of its last character, how many of its bytes are kept, the XOR of all of them, whether more than
-// 135 came, and whether a character had a parity fault. `begun` stands beside the numbers, since an image keeps the unused ones too (`frame_in`
+// 135 came, and whether a character had a parity fault. The kept bytes are lent by C in places of their own, so that their number stands here. `begun` stands beside the numbers, since an image keeps the unused ones too (`frame_in`
 // and `put_frame` of image).
 #[derive(Clone, Copy)]
 pub struct OpenFrame {

@@ -16,7 +16,7 @@ pub enum Judgement {
 }
 
 impl Judgement {
-    // The error code to answer, 00h where there is none.
+    // The error code to answer, 00h where there is none, which `board::refuse` answers with silence.
     pub fn code(self) -> u8
         ensures { result ≡ code_to_answer self }
     {

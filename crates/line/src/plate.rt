@@ -48,7 +48,7 @@ impl Plate {
     }
 }
 
-// A power of two has one bit set: told so in fewer instructions than by a list of the seven.
+// A power of two has one bit set: told so in fewer instructions than by a list of the seven, which puts a kept character over its limit.
 #[tactic(auto, using(crate::proofs::Powers::one_bit, crate::proofs::Powers::too_few, crate::proofs::Powers::too_many))]
 fn ticks_ok(ticks: u32) -> bool
     ensures { result ≡ among ticks (1 ∷ 2 ∷ 4 ∷ 8 ∷ 16 ∷ 32 ∷ 64 ∷ []) }

@@ -1,4 +1,4 @@
-// Stamps of the tick count, a 32-bit number that wraps around (01, "The tick count").
+// Stamps of the tick count, a 32-bit number that wraps around (01, "The tick count"): the library's wrapping numbers, in the words of the contracts.
 ghost use Rattle.std.specs.Prelude.{◌≡◌, ◌+◌, ◌%◌, ◌^◌};
 ghost use Rattle.meaning.specs.Characters as characters;
 

@@ -30,7 +30,7 @@ pub struct Eaten {
     pub stop: Stop,
 }
 
-// Written as literals the three ends of `play` would take more lines than all else in it.
+// Written as literals the three ends of `play` would make it half as long again.
 fn halt(board: Board, at: usize, used: usize, stop: Stop) -> Played
     ensures { result ≡ record { board = board; at = at; used = used; stop = stop } }
 {
@@ -58,7 +58,8 @@ fn taken_in(plate: Plate, board: Board, event: Event, kept: &mut [u8]) -> Board
     board.with_character(tick, value, parity, kept)
 }
 
-// `place` is that of the window's first byte; the records are taken from where the board works on.
+// `place` is that of the window's first byte; the records are taken from where the board works on, while there is space for a line: the loop counts
+// nothing, its place goes from record to record.
 fn play(
     begun: Begun,
     place: u64,
@@ -190,6 +191,7 @@ pub fn eat(
     }
     match begin(window, out.len() - used) {
         Ok(begun) => go_on(begun, place, window, kept, memory, reply, out, used),
+        // By a test: after an arm for Stop::Over a proof does not know of the next that it is another.
         Err(stop) => {
             if stop == Stop::Over {
                 return refuse(place, out, used);

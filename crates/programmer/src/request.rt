@@ -1,4 +1,4 @@
-// The request that is due at a step (02, Req 04). Address and buffer go by themselves: they are the bench's own arguments, and a struct of both would be taken apart at each call.
+// The request that is due at a step (02, Req 04). The tape goes as the host lends it, at every call: a struct round it would be made anew at each. Address and buffer go by themselves: they are the bench's own arguments, and a struct of both would be taken apart at each call.
 ghost use Rattle.std.specs.Prelude.{◌≡◌, ◌∷◌, []};
 ghost use Rattle.meaning.specs.Bench.{writes};
 ghost use Rattle.bench.specs.Outcomes.{written_of};
@@ -11,7 +11,7 @@ use crate::step::Step;
 use crate::wish::{Wanted, find};
 use bench::Unwritten;
 
-// A wanted field, or status 00h and no bytes past the last.
+// A wanted field, or status 00h and no bytes past the last, as `Wishes.wanted` has it for every number.
 #[tactic(auto, using(crate::proofs::Asking::wants_found, crate::proofs::Asking::wants_none))]
 pub fn wanted(tape: &[u8], field: u8) -> Wanted<'_>
     ensures { Wants (wish_of tape.now) field result }

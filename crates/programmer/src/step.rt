@@ -18,7 +18,7 @@ pub enum Step {
 }
 
 impl Step {
-    // The wanted field of which the step is, 0 where it is of none.
+    // The wanted field of which the step is, 0 where it is of none, as `field_of` has it: none is counted before it then.
     pub(crate) fn wanted_field(self) -> usize
         ensures { result ≡ field_of self }
     {

@@ -95,6 +95,7 @@ pub fn on_verdict(
 {
     match judged {
         Err(refusal) => Standing::Failed(step, Why::Judgement(refusal.number())),
+        // One match in the other: in a nested pattern a proof no longer knows which of the two verdicts it was.
         Ok(verdict) => match verdict {
             Verdict::Done | Verdict::DoneWithWarning => onto(tape, step, answer),
             Verdict::Error(code) | Verdict::ErrorWithWarning(code) => {

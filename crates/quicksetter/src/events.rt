@@ -81,7 +81,7 @@ fn own(core: &[u8]) -> u8
     wire::own_byte(core[ADDRESS])
 }
 
-// A request, worked on the state that the image's core holds; `len` bytes of it are kept. Only what changes of the state is written. The plate is
+// As board's `serve`, but in place: C lends the state as bytes, and what does not change of them is not written. A request, worked on the state that the image's core holds; `len` bytes of it are kept. Only what changes of the state is written. The plate is
 // read where it is needed, so that no call hands it on.
 fn served(image: &mut [u8], command: u8, len: usize, memory: &mut [u8], room: &mut [u8]) -> u8
     requires { ImageServable command (kept_at + len) image.old memory.old room.old }

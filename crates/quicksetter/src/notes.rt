@@ -1,4 +1,4 @@
-// What a host tells besides characters and the time: a measured position, a fault code and power-on (01, "Faults"). Each writes what it changes.
+// What a host tells besides characters and the time: a measured position, a fault code and power-on (01, "Faults"). Each writes what it changes. They are C's entries, and what they share is `sound_plate`.
 ghost use Rattle.std.specs.Prelude.{List, ℕ};
 ghost use Rattle.meaning.specs.Run as run;
 ghost use Rattle.state.specs.Queue.{no_faults};

@@ -12,7 +12,7 @@ use image::{CORE, LENGTH};
 use line::Plate;
 use wire::codes::LONGEST_REPLY;
 
-// An impossible image, plate or state; memory of another length; too little room for a reply.
+// An impossible image, plate or state; memory of another length; too little room for a reply. Not board's `Refusal`: these have the numbers that C is told.
 #[derive(Clone, Copy)]
 pub(crate) enum Refusal {
     R1 = 1,

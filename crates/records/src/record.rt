@@ -2,13 +2,13 @@
 ghost use Rattle.std.specs.Prelude.{◌≡◌, drop};
 ghost use Rattle.records.specs.Reader.{read_as, read_at};
 
-// The place of the next record in the part of the tape that is at hand.
+// The place of the next record in the part of the tape that is at hand. It goes beside the part and holds no slice of it: the part is filled anew between two reads.
 #[derive(Clone, Copy)]
 pub struct Cursor {
     pub at: usize,
 }
 
-// A whole record: its kind, where its body starts, for a caller that keeps places and not bytes, the body, and the place past it.
+// A whole record: its kind, where its body starts, as `read_at` promises it, the body, and the place past it.
 #[derive(Clone, Copy)]
 pub struct Record<'a> {
     pub kind: u16,

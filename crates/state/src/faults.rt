@@ -167,7 +167,7 @@ impl Faults {
         }
     }
 
-    // 01, "Power-on empties the queue .. and unlocks".
+    // 01, "Power-on empties the queue .. and unlocks"; a method as note and read are, by 01's form.
     pub(crate) fn power_on(self) -> Faults
         ensures { result ≡ no_faults }
     {

@@ -1,4 +1,4 @@
-// The commands that tell the plate's label bytes, which are lent (02, Req 01). Reply data goes to place 2 of the room on.
+// The commands that tell the plate's label bytes, which are lent (02, Req 01). Room and label come as the caller has them, as in rows.rt. Reply data goes to place 2 of the room on.
 ghost use Rattle.std.specs.Prelude.{◌≡◌, List, ℕ, ◌≤◌, length};
 ghost use Rattle.meaning.specs.Bytes.{longest_reply};
 ghost use Rattle.meaning.specs.State.{Plate, Line, label_length};

@@ -1,4 +1,4 @@
-// The board's state but for the open frame (01, "Fresh state"). State values are made in this file only.
+// The board's state but for the open frame (01, "Fresh state"). A host's bytes are made into one by image's `state_in` and `lasting_in`. Its limits are no invariant: `is_ok` tells of any numbers whether they keep them (R1).
 ghost use Rattle.std.specs.Prelude.{◌≡◌, ◌≤◌, ◌<◌, ◌^◌, length, ltb};
 ghost use Rattle.meaning.specs.Bytes.{longest_request};
 ghost use Rattle.meaning.specs.State.{Plate, Line, fresh, state_ok, with_measured, none, noted, powered_on};
@@ -77,6 +77,8 @@ impl State {
         }
     }
 
+    // note, read and power_on: 01 has them of queue, state and board, as methods that take self and hand the new value back.
+
     // 01, "The host notes codes".
     #[tactic(auto, unfolding(crate::specs::Queue::holding, meaning::specs::State::with_lock, meaning::specs::State::with_queue))]
     pub fn note(self, code: u8) -> State
@@ -142,7 +144,7 @@ pub fn offset_fits(offset: u32, bits: u32) -> bool
     32 < bits || u64::from(offset) < size(bits)
 }
 
-// 2 to the number of position bits.
+// 2 to the number of position bits, as a number of 64 bits: said once, for four uses.
 pub(crate) fn size(bits: u32) -> u64
     requires { bits ≤ 32 }
     ensures { result ≡ 2 ^ bits }

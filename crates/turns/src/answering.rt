@@ -41,7 +41,7 @@ fn closes(plate: Plate, board: Board, tick: u32) -> bool
 pub fn closes_none(plate: Plate, board: Board, event: Event) -> bool
     ensures { (kept : List ℕ) → result ≡ quickly (tape_plate plate) (state_of board kept) (said_of event) }
 {
-    // In two arms: one for both costs a kept character 28 instructions more.
+    // In two arms: one for both costs a kept character 28 instructions more, and the answer program is to take no more than it did.
     match event {
         Event::Character { tick, .. } => !closes(plate, board, tick),
         Event::Poll { tick } => !closes(plate, board, tick),
@@ -63,7 +63,7 @@ fn answered(called: Called, reply: &[u8], out: &mut [u8], used: usize) -> Turned
     Turned { board, used }
 }
 
-// A call that brings no line.
+// A call that brings no line, so that its tick is not looked at.
 fn unheard(board: Board) -> Option<Called>
     ensures { result ≡ Some (record { stepped = record { board = board; reply = None; remaining = None }; tick = 0 }) }
 {

@@ -30,6 +30,7 @@ pub fn open(window: &[u8]) -> Result<Opened, Unread>
     else {
         return Err(Unread::Bad);
     };
+    // Field by field: the tape has bytes, the plate is wide enough for any number of a host.
     let plate = Plate {
         total: u32::from(total),
         bits: u32::from(bits),

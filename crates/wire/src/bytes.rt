@@ -30,7 +30,7 @@ pub fn data_part(frame: &[u8]) -> &[u8]
     &frame[2..end]
 }
 
-// B6 and read-back: two lists compared.
+// B6 and read-back: two lists compared. A function, for bench and programmer have it in their contracts' words.
 pub fn same(a: &[u8], b: &[u8]) -> bool
     ensures { result ≡ bytes.same a.now b.now }
 {

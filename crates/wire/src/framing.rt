@@ -9,7 +9,7 @@ pub fn fill(src: &[u8], dst: &mut [u8])
     requires { length src.now ≤ length dst.old }
     ensures { dst.new ≡ put dst.old 0 src.now }
 {
-    // By index: copy_from_slice becomes a call of memmove, and the board's C library needs nothing from outside.
+    // By index: copy_from_slice becomes a call of memmove, and the board's C library needs nothing from outside; of a zip over iter_mut a proof knows nothing.
     for i in 0..src.len() {
         dst[i] = src[i];
     }

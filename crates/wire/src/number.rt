@@ -1,4 +1,4 @@
-// A number from its four bytes and back, the low byte first (01, "Numbers little-endian").
+// A number from its four bytes and back, the low byte first (01, "Numbers little-endian"): the library's, in the words of the contracts.
 ghost use Rattle.std.specs.Prelude.{◌≡◌, ◌∷◌, [], ◌+◌, ◌≤◌, length};
 ghost use Rattle.meaning.specs.Bytes.{part, little};
 ghost use Rattle.wire.specs.Numbers.{low4};
