@@ -34,34 +34,37 @@ use Rattle.programmer.specs.declared.run.Programmer.{Programmer}
 
 -- what was judged, without its data, and the verdict
 module _ (l : Wish) (st : Step) where
-  good : (w : Bool) (a : List ℕ) (v : meaning.Verdict) (y : Standing) → done w [] ≡ without_data v → a ≡ contents v → y ≡ onto l st a → y ≡ on_verdict l st v
+  pub verdict-good : (w : Bool) (a : List ℕ) (v : meaning.Verdict) (y : Standing) → done w [] ≡ without_data v → a ≡ contents v → y ≡ onto l st a → y ≡ on_verdict l st v
   unfolding on_verdict contents
-  good w a (refusal n) y e h k = absurd cc
-  good w a (done w' d) y e h k = k ∙ ap (onto l st) h
-  good w a (failed w' x) y e h k = absurd cc
+  verdict-good w a (refusal n) y e h k = absurd cc
+  verdict-good w a (done w' d) y e h k = k ∙ ap (onto l st) h
+  verdict-good w a (failed w' x) y e h k = absurd cc
 
-  pub verdict-good : (j : Judging) (x : Verdict) → j ≡ Ok x → (x ≡ Done) ⊎ (x ≡ DoneWithWarning)
+  pub told-good : (j : Judging) (x : Verdict) → j ≡ Ok x → (x ≡ Done) ⊎ (x ≡ DoneWithWarning)
       → (a : List ℕ) (v : meaning.Verdict) (y : Standing) → verdict_of j ≡ without_data v → a ≡ contents v → y ≡ onto l st a → y ≡ on_verdict l st v
-  verdict-good j x p (inl h) a v y e = good false a v y (rw (p, h) at e)
-  verdict-good j x p (inr h) a v y e = good true a v y (rw (p, h) at e)
+  told-good j x p (inl h) a v y e = verdict-good false a v y (rw (p, h) at e)
+  told-good j x p (inr h) a v y e = verdict-good true a v y (rw (p, h) at e)
 
-  coded : (w : Bool) (x : ℕ) (v : meaning.Verdict) → failed w x ≡ without_data v → Failed st (Error x) ≡ on_verdict l st v
+  pub verdict_code_lem : (w : Bool) (x : ℕ) (v : meaning.Verdict) → failed w x ≡ without_data v → Failed st (Error x) ≡ on_verdict l st v
   unfolding on_verdict
-  coded w x (refusal n) e = absurd cc
-  coded w x (done w' d) e = absurd cc
-  coded w x (failed w' y) e = let z : x ≡ y = cc in rw z
+  verdict_code_lem w x (refusal n) e = absurd cc
+  verdict_code_lem w x (done w' d) e = absurd cc
+  verdict_code_lem w x (failed w' y) e = let z : x ≡ y = cc in rw z
 
-  pub verdict_code_lem : (j : Judging) (x : Verdict) (n : ℕ) → j ≡ Ok x → (x ≡ bench.Error n) ⊎ (x ≡ ErrorWithWarning n)
+  pub told-code : (j : Judging) (x : Verdict) (n : ℕ) → j ≡ Ok x → (x ≡ bench.Error n) ⊎ (x ≡ ErrorWithWarning n)
       → (v : meaning.Verdict) → verdict_of j ≡ without_data v → Failed st (Error n) ≡ on_verdict l st v
-  verdict_code_lem j x n p (inl h) v e = coded false n v (rw (p, h) at e)
-  verdict_code_lem j x n p (inr h) v e = coded true n v (rw (p, h) at e)
+  told-code j x n p (inl h) v e = verdict_code_lem false n v (rw (p, h) at e)
+  told-code j x n p (inr h) v e = verdict_code_lem true n v (rw (p, h) at e)
 
-  pub verdict-unfit : (j : Judging) (b : Refusal) (m : ℕ) → j ≡ Err b → m ≡ check_number b
-      → (v : meaning.Verdict) → verdict_of j ≡ without_data v → Failed st (Judgement m) ≡ on_verdict l st v
+  pub verdict-unfit : (n m : ℕ) (v : meaning.Verdict) → refusal n ≡ without_data v → m ≡ n → Failed st (Judgement m) ≡ on_verdict l st v
   unfolding on_verdict
-  verdict-unfit j b m p h (refusal k) e = let z : m ≡ k = h ∙ (let q : refusal (check_number b) ≡ refusal k = rw p at e in cc) in rw z
-  verdict-unfit j b m p h (done w d) e = let q : refusal (check_number b) ≡ done w [] = rw p at e in absurd cc
-  verdict-unfit j b m p h (failed w x) e = let q : refusal (check_number b) ≡ failed w x = rw p at e in absurd cc
+  verdict-unfit n m (refusal k) e h = let q : n ≡ k = cc in rw (h ∙ q)
+  verdict-unfit n m (done w d) e h = absurd cc
+  verdict-unfit n m (failed w x) e h = absurd cc
+
+  pub told-unfit : (j : Judging) (b : Refusal) (m : ℕ) → j ≡ Err b → m ≡ check_number b
+      → (v : meaning.Verdict) → verdict_of j ≡ without_data v → Failed st (Judgement m) ≡ on_verdict l st v
+  told-unfit j b m p h v e = verdict-unfit (check_number b) m v (rw p at e) h
 
 -- where the request is due that was judged
 pub heard-at : (n : ℕ) (l : Wish) (x : Standing) (st : Step) → x ≡ At st
