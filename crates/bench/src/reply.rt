@@ -133,10 +133,7 @@ fn address_fits(request: &[u8], reply: &[u8]) -> bool
     requires { (3 ≤ length request.now) × (3 ≤ length reply.now) }
     ensures { result ≡ right_address request.now reply.now }
 {
-    if request[1] != 0x55 {
-        return from_asked(request[0], reply[0]);
-    }
-    if reply[1] % 128 != 0x55 {
+    if request[1] != 0x55 || reply[1] % 128 != 0x55 {
         return from_asked(request[0], reply[0]);
     }
     from_new(request[2], reply[0])

@@ -1,6 +1,6 @@
 -- A frame is closed: what its work, its reply and its close ask and leave (01, "Characters become frames"). Assumes nothing.
 use Rattle.std.specs.Prelude.{ℕ, ◌≤◌, ◌≡◌, Bool, true, false, List, [], ◌∷◌, Some, None, Result, Ok, Err, eqb, leb, length}
-use Rattle.meaning.specs.Bytes.{pick, both, either, longest_reply, part, put}
+use Rattle.meaning.specs.Bytes.{pick, both, longest_reply, part, put}
 use Rattle.meaning.specs.State as meaning
 use Rattle.meaning.specs.State.{label_length, last_address, none, last_count, plate_ok}
 use Rattle.meaning.specs.Fields.{memory_length}
@@ -60,13 +60,7 @@ pub record Tells (a : commands.Answer) (s : meaning.State) (m w : List ℕ) (r :
   pub works : Works a m w r m' w'
   pub state : state_after a s ≡ s
 
--- what 52h and 56h ask: the label bytes
-pub record LabelLent (label : List ℕ) (c : ℕ) (w : List ℕ) : Type 0 where
-  pub all : length label ≡ label_length
-  pub room : longest_reply ≤ length w
-  pub tells : either (eqb c 0x52) (eqb c 0x56) ≡ true
-
--- what the other rows ask
+-- what the rows on the state and the label bytes ask
 pub record Changeable (n : ℕ) (label : List ℕ) (s : State) (c : ℕ) (d w : List ℕ) : Type 0 where
   pub bits : n ≤ 32
   pub label_bytes : length label ≡ label_length

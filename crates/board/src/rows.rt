@@ -2,8 +2,7 @@
 ghost use Rattle.std.specs.Prelude.{◌≡◌, List, ℕ};
 ghost use Rattle.meaning.specs.State as meaning;
 ghost use Rattle.meaning.specs.Commands.{command_of, worked};
-ghost use Rattle.state.specs.declared.state.State.{State};
-ghost use Rattle.board.specs.Work.{MemoryLent, LabelLent, Changeable, WorksOn, on_memory, Tells};
+ghost use Rattle.board.specs.Work.{MemoryLent, Changeable, WorksOn, on_memory, Tells};
 
 use state::{State, Worked};
 use wire::Answer;
@@ -41,17 +40,6 @@ pub fn on_memory(
     }
 }
 
-// 52h and 56h.
-fn on_label(label: &[u8], command: u8, room: &mut [u8]) -> Result<Worked, ErrorCode>
-    requires { LabelLent label.now command room.old }
-    ensures { (p : meaning.Plate) (s : State) (d m : List ℕ) → p.label ≡ label.now → WorksOn (command_of command) p s d m room.old result m room.new }
-{
-    if command == 0x52 {
-        return state::read_label(label, room);
-    }
-    state::read_version(label, room)
-}
-
 // The rows on the state, whose changes are left to who holds it; the memory stays as it is.
 pub fn on_state(
     bits: u32,
@@ -72,8 +60,9 @@ pub fn on_state(
         0x49 => state::clear_counter(state, request),
         0x4F => state::set_code(state, request, room),
         0x50 => state::read_fault(state, room),
+        0x52 => state::read_label(label, room),
         0x53 => state::reset(state),
         0x55 => state::set_address(state, request),
-        _ => on_label(label, command, room),
+        _ => state::read_version(label, room),
     }
 }

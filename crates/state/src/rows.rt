@@ -26,14 +26,21 @@ pub(crate) fn accepted(effect: Effect, count: u8) -> Result<Worked, ErrorCode>
     })
 }
 
+// 01, "left to right in the table": where its test holds, a check ends the command with its error code.
+fn refused_if(fails: bool, error: ErrorCode) -> Result<(), ErrorCode>
+    ensures { result ≡ refused_if fails error.byte }
+{
+    if fails {
+        return Err(error);
+    }
+    Ok(())
+}
+
 // 01, "02h if locked".
 fn check_unlocked(state: State) -> Result<(), ErrorCode>
     ensures { result ≡ refused_if state.faults.locked 0x02 }
 {
-    if state.faults.locked {
-        return Err(ErrorCode::POSITION_LOCKED);
-    }
-    Ok(())
+    refused_if(state.faults.locked, ErrorCode::POSITION_LOCKED)
 }
 
 // 01, "0Fh unless".
@@ -41,10 +48,7 @@ fn check_code(codes: [u8; 4], number: usize, given: u8) -> Result<(), ErrorCode>
     requires { number < 4 }
     ensures { result ≡ refused_if (differ given (get_or codes number 0)) 0x0F }
 {
-    if given != codes[number] {
-        return Err(ErrorCode::WRONG_CODE);
-    }
-    Ok(())
+    refused_if(given != codes[number], ErrorCode::WRONG_CODE)
 }
 
 // 01, row 43h, "0Dh if position ≥ 2^P".
@@ -52,30 +56,21 @@ fn check_position(bits: u32, wanted: u32) -> Result<(), ErrorCode>
     requires { bits ≤ 32 }
     ensures { result ≡ refused_if (leb (2 ^ bits) wanted) 0x0D }
 {
-    if size(bits) <= u64::from(wanted) {
-        return Err(ErrorCode::WRONG_ARGUMENT);
-    }
-    Ok(())
+    refused_if(size(bits) <= u64::from(wanted), ErrorCode::WRONG_ARGUMENT)
 }
 
 // 01, row 4Fh, "0Dh if number over 3".
 fn check_number(number: u8) -> Result<(), ErrorCode>
     ensures { result ≡ refused_if (ltb 3 number) 0x0D }
 {
-    if 3 < number {
-        return Err(ErrorCode::WRONG_ARGUMENT);
-    }
-    Ok(())
+    refused_if(3 < number, ErrorCode::WRONG_ARGUMENT)
 }
 
 // 000, table 30, "40...5Fh".
 fn check_address(byte: u8) -> Result<(), ErrorCode>
     ensures { result ≡ refused_if (not (board_byte byte)) 0x0D }
 {
-    if !wire::is_board(byte) {
-        return Err(ErrorCode::WRONG_ARGUMENT);
-    }
-    Ok(())
+    refused_if(!wire::is_board(byte), ErrorCode::WRONG_ARGUMENT)
 }
 
 // 01, "Position is (measured + offset) mod 2^P".
