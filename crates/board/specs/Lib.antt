@@ -3,3 +3,4 @@ pub mod Board
 pub mod Work
 pub mod Quick
 pub mod Promises
+pub mod Words

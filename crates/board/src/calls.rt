@@ -12,6 +12,7 @@ use crate::closing::close;
 use crate::limits::{Board, refusal, within_limits};
 use line::{OpenFrame, Plate};
 use state::State;
+use std::fmt;
 
 // 01, "Named refusals": R1 to R3, and nothing is changed.
 #[derive(Clone, Copy, PartialEq, Eq, Debug)]
@@ -19,6 +20,21 @@ pub enum Refusal {
     R1,
     R2,
     R3,
+}
+
+impl fmt::Display for Refusal {
+    ghost use Rattle.std.specs.Prelude.{Some};
+    ghost use Rattle.board.specs.Words.{refusal_text};
+
+    ghost output = { λ why. Some (refusal_text why) };
+
+    fn fmt<W: fmt::Write>(&self, f: &mut fmt::Formatter<W>) -> fmt::Result {
+        match self {
+            Refusal::R1 => f.write_str("R1"),
+            Refusal::R2 => f.write_str("R2"),
+            Refusal::R3 => f.write_str("R3"),
+        }
+    }
 }
 
 // The board after a call; where a frame closed, how many reply bytes stand at the room's front, 0 being silence; and 02, Req 03: how many ticks

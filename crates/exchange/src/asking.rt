@@ -50,9 +50,7 @@ impl fmt::Display for Refusal {
 
     fn fmt<W: fmt::Write>(&self, f: &mut fmt::Formatter<W>) -> fmt::Result {
         match *self {
-            Refusal::Board(board::Refusal::R1) => f.write_str("R1"),
-            Refusal::Board(board::Refusal::R2) => f.write_str("R2"),
-            Refusal::Board(board::Refusal::R3) => f.write_str("R3"),
+            Refusal::Board(why) => write!(f, "{why}"),
             Refusal::FrameOpen => f.write_str("a frame is open"),
             Refusal::TooSlow => f.write_str("too slow"),
             Refusal::Bench(why) => write!(f, "{why}"),

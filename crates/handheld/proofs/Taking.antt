@@ -14,6 +14,7 @@ use Rattle.std.specs.Prelude.{Ok, Err}
 use Rattle.programmer.specs.Wishes.{Checked, good, checked_tape, wish_of}
 use Rattle.programmer.specs.Running.{at_first, started_by, progress_of, is_possible}
 use Rattle.programmer.specs.declared.run.Programmer.{Programmer}
+use Rattle.programmer.specs.declared.run.StartRefusal.{StartRefusal}
 use Rattle.programmer.specs.declared.run.StartRefusal.TheVariants as start
 use Rattle.programmer.specs.declared.wish.TapeFault.{TapeFault}
 use Rattle.programmer.specs.declared.wish.TapeFault.TheVariants.{BadRecord, WrongSize}
@@ -21,7 +22,7 @@ use Rattle.programmer.specs.declared.count.Progress.{Progress}
 use Rattle.programmer.proofs.Whole.{good-is-whole, place_in, low-place}
 use Rattle.programmer.proofs.Counting.{few_present, progress-few}
 use Rattle.handheld.specs.Numbers.{run_number, run_in, is_run}
-use Rattle.handheld.specs.Entries.{Given, place_of, given_with, given_by}
+use Rattle.handheld.specs.Entries.{Given, place_of, start_refusal, given_with, given_by}
 use Rattle.handheld.specs.declared.given.Refusal.{Refusal}
 use Rattle.handheld.specs.declared.given.Refusal.TheVariants.{Tape, R3}
 
@@ -32,8 +33,9 @@ module _ (t : List ℕ) (B : (i : ℕ) → get_or t i 0 < 256) where
   placed_low (BadRecord at) e = omega (arith, low-place t B, ap place_in e)
   placed_low (WrongSize at) e = omega (arith, low-place t B, ap place_in e)
 
-  pub started_low : (n : ℕ) (f : TapeFault) → Err (start.Tape f) ≡ started_by n (checked_tape t) → place_of (Tape f) < 0x100000000
-  started_low n f e = go (checked_tape t) refl e
+  pub started_low : (n : ℕ) (w : StartRefusal) → Err w ≡ started_by n (checked_tape t) → place_of (start_refusal w) < 0x100000000
+  started_low n start.R5 e = omega arith
+  started_low n (start.Tape f) e = go (checked_tape t) refl e
     where
       none : {A : Type 0} (q : Bool) → Err (start.Tape f) ≡ pick q (Ok (at_first n)) (Err start.R5) → A
       none true e = absurd cc

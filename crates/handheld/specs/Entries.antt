@@ -2,12 +2,15 @@
 use Rattle.std.specs.Prelude.{ℕ, ◌+◌, ◌*◌, ◌/◌, ◌%◌, ◌≤◌, ◌≡◌, List, [], ◌∷◌, T, eqb, ltb, length, Some, None, Result, Ok, Err}
 use Rattle.meaning.specs.Bytes.{pick, both, longest_request}
 use Rattle.meaning.specs.Bench.{address_ok, Written}
+use Rattle.bench.specs.declared.request.Unwritten.{Unwritten}
 use Rattle.bench.specs.declared.request.Unwritten.TheVariants as unwritten
 use Rattle.programmer.specs.Wishes.{Checked, good, Wish, checked_tape, wish_of}
 use Rattle.programmer.specs.Running.{AskedFor, at_first, asks, hears, progress_of, is_possible}
 use Rattle.programmer.specs.Promises.{after_replies, AllBytes}
 use Rattle.programmer.specs.declared.count.Progress.{Progress}
 use Rattle.programmer.specs.declared.run.Programmer.{Programmer}
+use Rattle.programmer.specs.declared.run.StartRefusal.{StartRefusal}
+use Rattle.programmer.specs.declared.run.StartRefusal.TheVariants as start
 use Rattle.programmer.specs.declared.wish.TapeFault.TheVariants.{BadRecord, WrongSize}
 use Rattle.handheld.specs.Numbers.{run_number, run_in, is_run}
 use Rattle.handheld.specs.declared.given.Refusal.{Refusal}
@@ -15,6 +18,15 @@ use Rattle.handheld.specs.declared.given.Refusal.TheVariants.{Tape, R3, R4, R5}
 
 abbrev pub refused_with : ℕ → ℕ  -- bit 31 is set in no run, length or progress
 refused_with n = 0x80000000 + n
+
+-- why a run is not started, or a request not written, as a refusal of these calls
+abbrev pub start_refusal : StartRefusal → Refusal
+start_refusal (start.Tape fault) = Tape fault
+start_refusal start.R5 = R5
+
+abbrev pub unwritten_refusal : Unwritten → Refusal
+unwritten_refusal unwritten.R4 = R4
+unwritten_refusal unwritten.R5 = R5
 
 -- a refusal as C is told it: of "bad tape record; body not the field's size" the record's place in the high 32 bits
 abbrev pub told_number : Refusal → ℕ

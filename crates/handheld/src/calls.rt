@@ -6,7 +6,7 @@ ghost use Rattle.handheld.specs.Entries.{tape_number, start_number, asked_number
 use crate::given::{Refusal, taken, tape_number};
 use crate::number::run_number;
 use bench::Unwritten;
-use programmer::{Programmer, Progress, StartRefusal};
+use programmer::{Programmer, Progress};
 use wire::codes::LONGEST_REQUEST;
 
 #[unsafe(no_mangle)]
@@ -23,8 +23,7 @@ pub extern "C" fn qp_start(address: u32, tape: &[u8]) -> u64
 {
     match Programmer::start(address, tape) {
         Ok(run) => run_number(run),
-        Err(StartRefusal::Tape(fault)) => Refusal::Tape(fault).number(),
-        Err(StartRefusal::R5) => Refusal::R5.number(),
+        Err(why) => Refusal::from(why).number(),
     }
 }
 
@@ -34,8 +33,7 @@ fn request_number(asked: Result<Option<usize>, Unwritten>) -> u64
     match asked {
         Ok(Some(len)) => len as u64,
         Ok(None) => 0,
-        Err(Unwritten::R4) => Refusal::R4.number(),
-        Err(Unwritten::R5) => Refusal::R5.number(),
+        Err(why) => Refusal::from(why).number(),
     }
 }
 

@@ -1,11 +1,12 @@
 // What a host hands in, and why a call is refused.
 ghost use Rattle.std.specs.Prelude.{◌≡◌, ◌<◌};
 ghost use Rattle.programmer.specs.Wishes.{checked_tape};
-ghost use Rattle.handheld.specs.Entries.{place_of, told_number, tape_number, given_by};
+ghost use Rattle.handheld.specs.Entries.{place_of, told_number, tape_number, start_refusal, unwritten_refusal, given_by};
 ghost use Rattle.handheld.specs.declared.given.Refusal.TheVariants.{Tape};
 
 use crate::number::{run_in, run_number};
-use programmer::{Programmer, TapeFault};
+use bench::Unwritten;
+use programmer::{Programmer, StartRefusal, TapeFault};
 
 // The tape's fault; a number that no run of this tape has; a buffer that is too short; an address that the bench does not write.
 #[derive(Clone, Copy, PartialEq, Eq, Debug)]
@@ -21,6 +22,28 @@ impl From<TapeFault> for Refusal {
 
     fn from(fault: TapeFault) -> Refusal {
         Refusal::Tape(fault)
+    }
+}
+
+impl From<StartRefusal> for Refusal {
+    ghost from_gives = { λ why refusal. refusal ≡ start_refusal why };
+
+    fn from(why: StartRefusal) -> Refusal {
+        match why {
+            StartRefusal::Tape(fault) => Refusal::Tape(fault),
+            StartRefusal::R5 => Refusal::R5,
+        }
+    }
+}
+
+impl From<Unwritten> for Refusal {
+    ghost from_gives = { λ why refusal. refusal ≡ unwritten_refusal why };
+
+    fn from(why: Unwritten) -> Refusal {
+        match why {
+            Unwritten::R4 => Refusal::R4,
+            Unwritten::R5 => Refusal::R5,
+        }
     }
 }
 

@@ -48,19 +48,13 @@ fn standing_bytes(standing: Standing) -> [u8; 5]
     }
 }
 
-fn low_byte(n: u32) -> u8
-    ensures { result ≡ n % 256 }
-{
-    (n % 256) as u8
-}
-
 #[tactic(auto, using(crate::proofs::Numbers::number_of))]
 pub(crate) fn run_number(run: Programmer) -> u64
     ensures { result ≡ run_number run }
 {
     let [stage, field, status, why, number] = standing_bytes(run.standing);
-    let present = low_byte(run.present);
-    let address = low_byte(run.address);
+    let [present, ..] = run.present.to_le_bytes();
+    let [address, ..] = run.address.to_le_bytes();
     u64::from_le_bytes([stage, field, status, why, number, present, address, 0])
 }
 

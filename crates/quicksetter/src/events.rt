@@ -153,12 +153,6 @@ fn polled(image: &mut [u8], tick: u32, pause: u64, memory: &mut [u8], room: &mut
     0
 }
 
-fn is_fault(parity: u8) -> bool
-    ensures { result ≡ differ parity 0 }
-{
-    parity != 0
-}
-
 // 02, Req 03: the character is then the last one, so that the full pause remains.
 #[unsafe(no_mangle)]
 pub extern "C" fn qs_character(
@@ -177,7 +171,7 @@ pub extern "C" fn qs_character(
     };
     let full = plate.full_pause();
     let sent = polled(image, tick, full, memory, room);
-    image::take_character(tick, value, is_fault(parity), &mut image[CORE..LENGTH]);
+    image::take_character(tick, value, parity != 0, &mut image[CORE..LENGTH]);
     answer_number(full, sent)
 }
 

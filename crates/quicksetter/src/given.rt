@@ -13,5 +13,5 @@ pub(crate) fn answer_number(sleep: u64, reply: u8) -> u64
     requires { sleep < 0x100000000 }
     ensures { result ≡ sleep * 0x100000000 + reply }
 {
-    sleep * 0x100000000 + reply as u64
+    sleep * 0x100000000 + u64::from(reply)
 }

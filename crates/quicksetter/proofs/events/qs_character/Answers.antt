@@ -1,5 +1,5 @@
 -- What is left to show of `quicksetter::events::qs_character`: R1 to R3 in their order, then what is over and the character.
-use Rattle.std.proofs.Common.{rules, ℕ, ◌<◌, arith}
+use Rattle.std.proofs.Common.{rules, ℕ, ◌<◌, arith, refl}
 use Rattle.meaning.specs.Bytes.{arg}
 use Rattle.quicksetter.proofs.Refusing.{lends-character}
 use Rattle.quicksetter.proofs.Admitting.{some_number, image_unrefused, refused_so}
@@ -38,5 +38,5 @@ returns c =
     let u = image_unrefused _ _ _ c.in-Ok.ensures.refusal in
     let full = pause_so _ c.in-Ok.ensures.plate c.full_pause-full.ensures in
     let bytes : (i : ℕ) → arg c.polled-sent.new.image i < 256 = λ i. search rules in
-    let whole = character-whole _ _ _ u _ c.polled-sent.ensures _ c.is_fault.ensures bytes c.take_character.ensures in
+    let whole = character-whole _ _ _ u _ c.polled-sent.ensures _ refl bytes c.take_character.ensures in
     rw (c.answer_number.ensures, full) (with_sleep _ _ _ _ whole (full-sleep _ _ _ u _ _ _))
