@@ -24,9 +24,9 @@ pub enum Refusal {
 
 impl fmt::Display for Refusal {
     ghost use Rattle.std.specs.Prelude.{Some};
-    ghost use Rattle.board.specs.Words.{refusal_text};
+    ghost use Rattle.board.specs.Words.{board_refusal_text};
 
-    ghost output = { λ why. Some (refusal_text why) };
+    ghost output = { λ why. Some (board_refusal_text why) };
 
     fn fmt<W: fmt::Write>(&self, f: &mut fmt::Formatter<W>) -> fmt::Result {
         match self {
