@@ -1,8 +1,8 @@
--- A walk over status bytes from the front. `drop i l` is what is left at place i; each law says what one more byte, the fours of the front, or the end does to
+-- A walk over status bytes from the front. `drop i l` is what is left at place i; each law says what one more byte, four more, or the end does to
 -- a definition of the meaning on what is left. Assumes nothing.
 use Prim.Native.Nat.{ℕ, zero, suc, ◌+◌, ◌-◌, ◌*◌, ◌≤◌, ◌<◌}
-use mathlib.Core.Bool.{Bool, true, false, false≢true}
-use mathlib.Core.Path.{◌≡◌, refl, sym, ap, subst, ◌∙◌}
+use mathlib.Core.Bool.{Bool, true, false}
+use mathlib.Core.Path.{◌≡◌, refl, sym, ap, ◌∙◌}
 use mathlib.Core.List.{List, [], ◌∷◌}
 use native.Mathlib.Numerals.{add-one}
 use native.Mathlib.Omega.{arith}
@@ -49,6 +49,18 @@ rest-is l a = take_all (length l - a) (drop a l) (omega (arith, length-drop a l)
 pub rest_at : (l : List ℕ) (a i n : ℕ) → n ≡ a + i → get_or (take (length l - a) (drop a l)) i 0 ≡ get_or l n 0
 rest_at l a i n e = ap (λ (r : List ℕ). get_or r i 0) (rest-is l a) ∙ get_or-drop a l i 0 ∙ ap (λ (k : ℕ). get_or l k 0) (sym e)
 
+-- .. cut into fours
+four_is : (k : ℕ) (l : List ℕ) (i : ℕ) → i < k → get_or (first_chunks 4 k l) i [] ≡ take 4 (drop (4 * i) l)
+four_is zero l i h = absurd (omega arith)
+four_is (suc k) l zero h = refl
+four_is (suc k) l (suc i) h =
+    let n : 4 + 4 * i ≡ 4 * suc i = omega arith in
+    four_is k (drop 4 l) i (omega arith) ∙ ap (take 4) (drop-drop (4 * i) 4 l ∙ ap (λ (j : ℕ). drop j l) n)
+
+pub four_part : (k : ℕ) (l r : List ℕ) (fours : List (List ℕ)) (i : ℕ) → r ≡ l → fours ≡ first_chunks 4 k r → i < k → part (get_or fours i []) 0 4 ≡ part l (4 * i) 4
+unfolding part
+four_part k l r fours i e f h = rw (f, four_is k r i h, e) (take-take 4 4 (drop (4 * i) l) (omega arith))
+
 -- all bytes are 00h, one by one
 blank_all : (l : List ℕ) → EachIndex l (λ k. get_or l k 0 ≡ 0) → blank l ≡ true
 unfolding blank
@@ -71,45 +83,20 @@ blank_each false l k = go (blank l) refl
     go true e = k.1 (blank_at l e)
     go false e = refl
 
--- a list is blank where its first four bytes are, read as a number, and what is left
-blank-four : (l : List ℕ) → blank l ≡ both (eqb (little (part (take 4 l) 0 4)) 0) (blank (drop 4 l))
-unfolding part
-blank-four l =
-    let first : eqb (little (take 4 (take 4 l))) 0 ≡ blank (take 4 l) = ap (λ (x : List ℕ). eqb (little x) 0) (take-take 4 4 l (omega arith)) ∙ little-zero (take 4 l) in
-    blank_split 4 l ∙ ap (λ (b : Bool). both b (blank (drop 4 l))) (sym first)
-
--- each of the fours at the front of a list is the number 0
-abbrev pub Zeros : List (List ℕ) → Type 0
-Zeros fours = EachIndex fours (λ k. little (part (get_or fours k []) 0 4) ≡ 0)
-
-zeros_in : (k : ℕ) (l : List ℕ) → blank l ≡ true → Zeros (first_chunks 4 k l)
-zeros_in zero l e i h = absurd (omega arith)
-zeros_in (suc k) l e zero h = eqb-true (little (part (take 4 l) 0 4)) 0 (both_left _ (blank (drop 4 l)) (sym (blank-four l) ∙ e))
-zeros_in (suc k) l e (suc i) h = zeros_in k (drop 4 l) (both_right (eqb (little (part (take 4 l) 0 4)) 0) _ (sym (blank-four l) ∙ e)) i (omega arith)
-
-left_of : (k : ℕ) (l : List ℕ) → Zeros (first_chunks 4 k l) → blank l ≡ blank (drop (k * 4) l)
-left_of zero l z = refl
-left_of (suc k) l z =
-    let n : 4 + k * 4 ≡ suc k * 4 = omega arith in
-    let first : little (part (take 4 l) 0 4) ≡ 0 = z 0 (omega arith) in
-    blank-four l ∙ ap (λ (b : Bool). both b (blank (drop 4 l))) (eq-eqb (little (part (take 4 l) 0 4)) 0 first)
-    ∙ left_of k (drop 4 l) (λ i h. z (suc i) (omega arith)) ∙ ap blank (drop-drop (k * 4) 4 l ∙ ap (λ (j : ℕ). drop j l) n)
-
--- .. so where they all are, what is left tells; and where one is not, the list is not blank
-module _ (k : ℕ) (l r : List ℕ) (fours : List (List ℕ)) (e : r ≡ l) (f : fours ≡ first_chunks 4 k r) where
-  pub zeros_left : Zeros fours → blank l ≡ blank (drop (k * 4) r)
-  zeros_left z = ap blank (sym e) ∙ left_of k r (subst Zeros f z)
-
-  pub zeros_stop : (a : Bool) → IsTrue a ↔ Zeros fours → a ≡ false → blank l ≡ false
-  zeros_stop a z x = go (blank r) refl
-    where
-      go : (b : Bool) → blank r ≡ b → blank l ≡ false
-      go true p = absurd (false≢true (sym x ∙ z.1 (subst Zeros (sym f) (zeros_in k r p))))
-      go false p = ap blank (sym e) ∙ p
-
 module _ (l : List ℕ) (i : ℕ) where
   pub next : i < length l → drop i l ≡ get_or l i 0 ∷ drop (i + 1) l
   next h = rw (add-one, drop-cons l i 0)
+
+  -- four bytes as a number, and what is left
+  blank-four : blank (drop i l) ≡ both (eqb (little (part l i 4)) 0) (blank (drop (i + 4) l))
+  unfolding part
+  blank-four = blank_split 4 (drop i l) ∙ rw (little-zero (take 4 (drop i l)), drop-drop 4 i l)
+
+  pub four-more : little (part l i 4) ≡ 0 → blank (drop i l) ≡ blank (drop (i + 4) l)
+  four-more e = blank-four ∙ ap (λ (b : Bool). both b (blank (drop (i + 4) l))) (eq-eqb (little (part l i 4)) 0 e)
+
+  pub four-stop : (little (part l i 4) ≡ 0 → ⊥) → blank (drop i l) ≡ false
+  four-stop e = blank-four ∙ ap (λ (b : Bool). both b (blank (drop (i + 4) l))) (ne_eqb (little (part l i 4)) 0 e)
 
   pub count-more : i < length l → exists (get_or l i 0) ≡ true → field_count (drop i l) ≡ suc (field_count (drop (i + 1) l))
   unfolding field_count

@@ -36,7 +36,12 @@ fn is_blank_from(statuses: &[u8], place: usize) -> bool
     ensures { result ≡ blank (drop place statuses.now) }
 {
     let (fours, rest) = statuses[place..].as_chunks::<4>();
-    fours.iter().all(|four| wire::number_at(four, 0) == 0) && rest.iter().all(|&status| status == 0)
+    for four in fours {
+        if wire::number_at(four, 0) != 0 {
+            return false;
+        }
+    }
+    rest.iter().all(|&status| status == 0)
 }
 
 // The walk halts at the named field, to note where it starts, and goes on from there: no status is passed twice.
