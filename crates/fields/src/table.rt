@@ -30,7 +30,7 @@ fn count_on(statuses: &[u8], from: Tally) -> Tally
     counted
 }
 
-// 01, "the rest are 00h": four bytes at a time, and then what is left.
+// 01, "the rest are 00h": four bytes at a time, and then what is left. A `for` over the fours: with `all` over both, four kinds of calls are over their limit.
 fn is_blank_from(statuses: &[u8], place: usize) -> bool
     requires { place ≤ length statuses.now }
     ensures { result ≡ blank (drop place statuses.now) }
