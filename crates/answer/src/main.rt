@@ -30,7 +30,7 @@ fn is_over(session: Session) -> bool
     session.place >= 1 << 63 || matches!(session.phase, Phase::Ended(_))
 }
 
-// Eats what the window has, and writes the output whenever it is full. Each pass that is stopped for want of space has read a record, so the
+// The buffers go one by one, as `passes` takes them. Eats what the window has, and writes the output whenever it is full. Each pass that is stopped for want of space has read a record, so the
 // window's length bounds the turns. Where the output cannot be written, no more is eaten.
 fn feed(
     rt: HostRuntime,
@@ -96,6 +96,7 @@ fn run(
     requires { Buffers window.old kept.old memory.old reply.old out.old }
 {
     let mut session = Session::start();
+    // So many bytes stand at the window's front: `have` and no slice, for the window is filled and moved between.
     let mut have = 0;
     let mut used = tape::first_line(out, 0);
     // The turns are counted only because a loop has to end.

@@ -189,7 +189,7 @@ fn done_verdict(request: &[u8], reply: &[u8]) -> Result<Verdict, Refusal>
     Ok(Verdict::DoneWithWarning)
 }
 
-// 01, "Checks in order: B0 to B6".
+// 01, "Checks in order: B0 to B6". Request and reply are two lent slices, by 01's form of the judge, here and in each check.
 #[tactic(auto, unfolding(meaning::specs::Bench::judge, meaning::specs::Bench::written, meaning::specs::Bench::bad, meaning::specs::Bench::bare, meaning::specs::Bench::error_reply, meaning::specs::Frames::command_byte))]
 pub fn judge(request: &[u8], reply: &[u8]) -> Result<Verdict, Refusal>
     ensures { verdict_of result ≡ without_data (meaning.judge request.now reply.now) }

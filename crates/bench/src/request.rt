@@ -36,6 +36,7 @@ pub fn address_ok(address: u32) -> bool
     address <= u32::from(LAST_ADDRESS) || address == 255
 }
 
+// By meaning's `address_for`: wire's `own_byte` speaks of a board and its address in force.
 #[tactic(auto, using(crate::proofs::Laws::address_small), unfolding(meaning::specs::Bench::address_for))]
 fn address_byte(address: u32) -> u8
     requires { address_ok address ≡ true }
@@ -64,7 +65,7 @@ pub(crate) fn is_allowed(command: u8, body: &[u8]) -> bool
     }
 }
 
-// R4 before R5. `address` is 0 to 31, or 255 for broadcast. The length of the request that fills the front of the buffer.
+// Address, command and body go by themselves, as C hands them in. R4 before R5. `address` is 0 to 31, or 255 for broadcast. The length of the request that fills the front of the buffer.
 #[tactic(auto, using(crate::proofs::Laws::request_fits, crate::proofs::Laws::request_length), unfolding(meaning::specs::Bench::writes, meaning::specs::Bench::request))]
 pub fn write_request(
     address: u32,

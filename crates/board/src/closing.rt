@@ -114,6 +114,7 @@ pub(crate) fn close(
     requires { Ready plate label.now state frame kept.now memory.old room.old }
     ensures { Closes (plate_of plate label.now) state frame kept.now memory.old room.old result memory.new room.new }
 {
+    // `as`: usize::from would be a call whose value each proof below has to name.
     let len = frame.len as usize;
     let bytes = &kept[..len];
     let judgement = frame.judged(wire::own_byte(state.address), bytes);

@@ -9,7 +9,7 @@ use crate::sizes::bytes_of;
 use crate::status::is_barred;
 use wire::codes::ErrorCode;
 
-// A field's own part of memory, from its first byte up to the one past its last, and its status.
+// A field's own part of memory, from its first byte up to the one past its last, and its status. Two places and no slice, for memory is lent on to be written.
 #[derive(Clone, Copy)]
 pub struct Field {
     pub from: usize,

@@ -204,6 +204,7 @@ fn go_on(tick: u32, value: u8, parity: bool, core: &mut [u8])
     let faulty = core[PARITY] | u8::from(parity);
     put_stamp(faulty, tick, sum, core);
     if count < LONGEST_REQUEST as u8 {
+        // `as`: usize::from would be a call whose value the proof has to name.
         core[KEPT + count as usize] = value;
         core[COUNT] = count + 1;
         return;

@@ -99,7 +99,8 @@ impl OpenFrame {
         }
     }
 
-    // One more character: where there is room its byte goes to the next of the lent places.
+    // One more character: where there is room its byte goes to the next of the lent places. Tick, value and parity go by themselves, as C hands them in and
+    // meaning's `more` takes them.
     pub fn with_character(self, tick: u32, value: u8, parity: bool, kept: &mut [u8]) -> OpenFrame
         requires { Fits self kept.old }
         ensures { Extends (more (pick self.begun (line_of self kept.old) none) tick value parity) kept.old result kept.new }

@@ -1,4 +1,4 @@
-// A character and a poll of an image (01, "Characters become frames").
+// A character and a poll of an image (01, "Characters become frames"). Image, memory and room go one by one, as C lends them.
 ghost use Rattle.std.specs.Prelude.{◌≡◌, List, ℕ, ◌+◌, ◌≤◌, length};
 ghost use Rattle.meaning.specs.Bytes.{differ};
 ghost use Rattle.meaning.specs.State as meaning;
@@ -116,6 +116,7 @@ fn answered(image: &mut [u8], memory: &mut [u8], room: &mut [u8]) -> u8
 {
     let core = &image[CORE..LENGTH];
     let frame = image::frame_in(core);
+    // `as`, as in board's `close`.
     let len = frame.len as usize;
     let end = KEPT + len;
     let own = own(core);

@@ -1,4 +1,4 @@
-// The image of a fresh board, and that of a board that was off (01, "Fresh state", "Power-on").
+// The image of a fresh board, and that of a board that was off (01, "Fresh state", "Power-on"). C hands the plate's five numbers in one by one, at both.
 ghost use Rattle.std.specs.Prelude.{◌≡◌, ◌≤◌, length, true, eqb};
 ghost use Rattle.meaning.specs.Bytes.{both, longest_request, zeros};
 ghost use Rattle.meaning.specs.State.{last_count, none, plate_ok};
