@@ -1,5 +1,5 @@
 // The reader of records: length (2 bytes, little-endian, counting what follows), kind (2 bytes), body. It knows no kinds.
-ghost use Rattle.std.specs.Prelude.{◌≡◌, drop};
+ghost use Rattle.std.specs.Prelude.{◌≡◌, ◌+◌, drop, IfOk};
 ghost use Rattle.records.specs.Reader.{read_as, read_at};
 
 // The place of the next record in the part of the tape that is at hand. It goes beside the part and holds no slice of it: the part is filled anew between two reads.
@@ -27,12 +27,14 @@ pub enum Unread {
 impl Cursor {
     // A length over the longest that the caller's kinds have is bad at once, so that no more than that has to be at hand.
     pub fn read(self, s: &[u8], longest: u16) -> Result<Record<'_>, Unread>
-        ensures { read_as result ≡ read_at longest self.at (drop self.at s.now) }
+        ensures value { read_as result ≡ read_at longest self.at (drop self.at s.now) }
+        ensures place { IfOk result (λ r. r.body.ref_ptr ≡ (s.entry.ref_ptr.0, r.start + s.entry.ref_ptr.1)) }
     {
         let at = self.at;
-        let Some(rest) = s.get(at..) else {
+        if s.len() < at {
             return Err(Unread::More);
-        };
+        }
+        let rest = &s[at..];
         let [low, high, kind_low, kind_high, ..] = rest else {
             return Err(Unread::More);
         };
@@ -41,13 +43,13 @@ impl Cursor {
             return Err(Unread::Bad);
         }
         let size = 2 + usize::from(counted);
-        let Some(body) = rest.get(4..size) else {
+        if rest.len() < size {
             return Err(Unread::More);
-        };
+        }
         Ok(Record {
             kind: u16::from_le_bytes([*kind_low, *kind_high]),
             start: at + 4,
-            body,
+            body: &rest[4..size],
             next: Cursor { at: at + size },
         })
     }

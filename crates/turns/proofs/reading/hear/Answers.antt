@@ -6,12 +6,12 @@ use Rattle.turns.proofs.reading.hear.Goals as goal
 
 pub returns-in-Ok : goal.returns-in-Ok
 unfolding readout_by
-returns-in-Ok c = rw (← c.read.ensures, c.in-Ok.is) (ap (λ (x : Said). tells x c.in-Ok.record.next.at) c.event_of.ensures)
+returns-in-Ok c = rw (← c.read.ensures.value, c.in-Ok.is) (ap (λ (x : Said). tells x c.in-Ok.record.next.at) c.event_of.ensures)
 
 pub returns-in-Err-Bad : goal.returns-in-Err-Bad
 unfolding readout_by
-returns-in-Err-Bad c = rw (← c.read.ensures, c.in-Err-Bad.is, c.in-Err-Bad.field-0-is)
+returns-in-Err-Bad c = rw (← c.read.ensures.value, c.in-Err-Bad.is, c.in-Err-Bad.field-0-is)
 
 pub returns-in-Err-More : goal.returns-in-Err-More
 unfolding readout_by
-returns-in-Err-More c = rw (← c.read.ensures, c.in-Err-More.is, c.in-Err-More.field-0-is)
+returns-in-Err-More c = rw (← c.read.ensures.value, c.in-Err-More.is, c.in-Err-More.field-0-is)
