@@ -48,7 +48,7 @@ KEPT_RATIO_LIMIT = 0.92
 
 # The code of an older kit met these. Today's makes the pointer of each slice that an export is lent one that is never null, and keeps more in registers and on the stack
 # for it: a kept character costs 18 instructions more than it did, a call that closes a frame 32 to 45. So much the worst call of all is over the ratio now, and the dearest kept
-# character over its limit; nothing is to spare.
+# character over its limit; one instruction is to spare.
 KIT_ADDS = 24
 KEPT_KIT_ADDS = 16
 

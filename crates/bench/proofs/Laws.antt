@@ -19,7 +19,7 @@ use Rattle.wire.specs.Table.{length_of, row_of}
 use Rattle.wire.specs.declared.table.Row.{Row}
 use Rattle.bench.specs.Outcomes.{written_of}
 use Rattle.bench.specs.declared.request.Unwritten.TheVariants.{R4, R5}
-use Rattle.std.specs.Prelude.{Some, None, Ok, Err}
+use Rattle.std.specs.Prelude.{Option, Some, None, Ok, Err}
 use Rattle.meaning.proofs.Choices.{both_left}
 
 either_cases : (a b : Bool) → either a b ≡ true → b ≡ false → a ≡ true
@@ -112,8 +112,8 @@ pub fits-reply : (r : Row) (q p : List ℕ) (b : Bool) → row_of (Some r) ≡ r
 unfolding right_length
 fits-reply r q p b e h = ap (λ (w : meaning.Row). length_fits w.reply (data_of q) (data_of p)) (sym e) ∙ sym h
 
-pub fits-repeated : (r : Row) (q p : List ℕ) (b : Bool) → row_of (Some r) ≡ row (command_of (command_byte q))
-    → b ≡ same (take r.repeats (data_of p)) (take r.repeats (data_of q)) → repeated q p ≡ b
+pub fits-repeated : (r : Option Row) (q p : List ℕ) (b : Bool) → row_of r ≡ row (command_of (command_byte q))
+    → b ≡ same (take (row_of r).repeats (data_of p)) (take (row_of r).repeats (data_of q)) → repeated q p ≡ b
 unfolding repeated
 fits-repeated r q p b e h = ap (λ (w : meaning.Row). same (take w.repeats (data_of p)) (take w.repeats (data_of q))) (sym e) ∙ sym h
 
@@ -123,10 +123,10 @@ pub right_by_row : (r : Row) (q p x y : List ℕ) (b : Bool) → row_of (Some r)
 right_by_row r q p x y b e f g h =
     fits-reply r q p b e (h (data_of p) (ap (λ (d : List ℕ). length d) (sym g)) ∙ ap (λ (d : List ℕ). length_fits (length_of r.reply) d (data_of p)) f)
 
-pub repeated_by_row : (r : Row) (q p x y u v : List ℕ) (b : Bool) → row_of (Some r) ≡ row (command_of (command_byte q)) → x ≡ data_of q → y ≡ data_of p
-    → u ≡ take r.repeats x → v ≡ take r.repeats y → b ≡ same v u → repeated q p ≡ b
+pub repeated_by_row : (r : Option Row) (q p x y u v : List ℕ) (b : Bool) → row_of r ≡ row (command_of (command_byte q)) → x ≡ data_of q → y ≡ data_of p
+    → u ≡ take (row_of r).repeats x → v ≡ take (row_of r).repeats y → b ≡ same v u → repeated q p ≡ b
 repeated_by_row r q p x y u v b e f g h k l =
-    fits-repeated r q p b e (l ∙ ap₂ same (k ∙ ap (take r.repeats) g) (h ∙ ap (take r.repeats) f))
+    fits-repeated r q p b e (l ∙ ap₂ same (k ∙ ap (take (row_of r).repeats) g) (h ∙ ap (take (row_of r).repeats) f))
 
 module _ (q r : List ℕ) (e : error_reply q r ≡ false) where
   pub wrong_length : right_length q r ≡ false → content q r ≡ refusal 5

@@ -65,7 +65,7 @@ module _ (p : Plate) (b : Board) (tick spacing : ℕ) (q kept m w : List ℕ) (c
         kept-begun (after (suc i)).state (take (suc i) q)
         (begun_then p (state_of b kept) m tick spacing q clear.idle low clear.close clear.short i h) (all_runs (suc i) h).kept
 
-    taken_more : (i : ℕ) → i < length q → {b' : Board} {kept' m' w' : List ℕ} {r : Result Stepped Refusal} {kept'' m'' w'' : List ℕ}
+    pub taken_more : (i : ℕ) → i < length q → {b' : Board} {kept' m' w' : List ℕ} {r : Result Stepped Refusal} {kept'' m'' w'' : List ℕ}
         → Taken p b tick spacing q kept m w i b' kept' m' w'
         → Steps p b' kept' m' w' (character (stamp_of tick spacing i) (arg q i) false) r kept'' m'' w''
         → Taken p b tick spacing q kept m w (suc i) (board_after b' r) kept'' m'' w''

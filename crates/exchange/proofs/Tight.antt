@@ -101,7 +101,7 @@ module _ (p : Plate) (b : Board) (n c : ℕ) (d : List ℕ) (spacing : ℕ) (q k
       rw e (omega (arith, all, put-long kept (request (address_for n) c d)))
 
   -- a refused one leaves the board
-  left-alone : {r : Exchanged} {q' kept' m' w' : List ℕ} → (refusal_for p b n c d spacing q kept m w ≡ 0 → ⊥) → Passes p b n c d spacing q kept m w r q' kept' m' w'
+  pub left-alone : {r : Exchanged} {q' kept' m' w' : List ℕ} → (refusal_for p b n c d spacing q kept m w ≡ 0 → ⊥) → Passes p b n c d spacing q kept m w r q' kept' m' w'
       → board_heard b r ≡ b
   unfolding passed
   left-alone {r} h x =

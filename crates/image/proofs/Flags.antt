@@ -64,7 +64,7 @@ module _ (core : List ℕ) (small : (i : ℕ) → arg core i < 256) where
   tested : bit_and (little (part core 20 4)) 0xFEFEFEFE ≡ ((upper d * 256 + upper c) * 256 + upper b) * 256 + upper a
   tested = ap (λ (x : ℕ). bit_and x 0xFEFEFEFE) (little-at core 20) ∙ word a b c d (small 20) (small 21) (small 22) (small 23)
 
-  flags_fine : bit_and (little (part core 20 4)) 0xFEFEFEFE ≡ 0 → flags_ok core ≡ true
+  pub flags_fine : bit_and (little (part core 20 4)) 0xFEFEFEFE ≡ 0 → flags_ok core ≡ true
   unfolding flags_ok
   flags_fine e =
       let z : Blank (upper a) (upper b) (upper c) (upper d) = blank (upper a) (upper b) (upper c) (upper d) (sym tested ∙ e) in
@@ -74,7 +74,7 @@ module _ (core : List ℕ) (small : (i : ℕ) → arg core i < 256) where
       let s : d ≤ 1 = low_bit d (small 23) z.four in
       rw (le-leb a 1 p, le-leb b 1 q, le-leb c 1 r, le-leb d 1 s)
 
-  flags_bad : (bit_and (little (part core 20 4)) 0xFEFEFEFE ≡ 0 → ⊥) → flags_ok core ≡ false
+  pub flags_bad : (bit_and (little (part core 20 4)) 0xFEFEFEFE ≡ 0 → ⊥) → flags_ok core ≡ false
   unfolding flags_ok
   flags_bad n = go (flags_ok core) refl
     where

@@ -32,6 +32,9 @@ begins core tick v bad {n} {r} {kept} all e x q =
     let y : Extends (more none tick v bad) (kept_in core) r kept = rw e at x in
     takes core (more none tick v bad) all y q
 
+pub nothing-fits : (core : List ℕ) {n : OpenFrame} → length core ≡ 165 → n ≡ no_frame → Fits n (kept_in core)
+nothing-fits core all e = record { few = rw e (omega arith); all = kept-length core all }
+
 set_past : (front ys : List ℕ) (j v : ℕ) → set (front ++ ys) (length front + j) v ≡ front ++ set ys j v
 set_past [] ys j v = rw zero-add
 set_past (x ∷ front) ys j v = rw suc-add (ap (λ (r : List ℕ). x ∷ r) (set_past front ys j v))

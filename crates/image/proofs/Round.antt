@@ -7,7 +7,7 @@ use mathlib.Core.Bool.{Bool, true}
 use mathlib.Core.List.{List, ◌++◌}
 use borrow.Author.Tests.{eqb-true, leb-true}
 use lib.Dec.{eqb, leb}
-use lib.ListN.{length, take, take-append-drop}
+use lib.ListN.{length, take, drop, take-append-drop}
 use lib.Seq.{length-take-le}
 use Rattle.meaning.specs.Bytes.{arg, part, put, both}
 use Rattle.state.specs.declared.state.State.{State}
@@ -92,3 +92,7 @@ module _ (s : State) (f : OpenFrame) (kept : List ℕ) (t : Typed s) (k : f.last
       let r : row ≡ frame_bytes f = line_row f kept fits in
       ap frame_in (written ∙ sym w ∙ ap (put (front ++ (row ++ kept)) 21) r)
       ∙ frame_again f (front ++ (row ++ kept)) (omega (arith, whole_length_lem front row kept a b fits.all)) k
+
+-- the 135 places, lent and come back as they were
+pub lent_back : (core : List ℕ) → take 30 core ++ (kept_in core ++ drop 135 (drop 30 core)) ≡ core
+lent_back core = rw (take-append-drop 135 (drop 30 core)) (take-append-drop 30 core)

@@ -157,7 +157,7 @@ module _ {p : Plate} {place : ℕ} {window : List ℕ} {from : ℕ} {kept₀ m�
       (g.held ∙ held_more g.fuel (length out - used) (place + at) (drop at window) now h e)
 
   -- a bad record
-  ends : {kept' m' w' out' : List ℕ} (b' : Board) (x : Said) (end : ℕ)
+  pub ends : {kept' m' w' out' : List ℕ} (b' : Board) (x : Said) (end : ℕ)
       → longest_line ≤ length out - used → next_record (drop at window) ≡ says x → (done x).stage ≡ ended → Printed (done x).printed out used end out'
       → Sound p b' kept' m' w' → lent_state (runs p b' kept' m') kept' w' ≡ lent_after now (place + at) x
       → Plays p all lent from window out₀ start (record { board = b'; at = at; used = end; stop = Over }) kept' m' w' out'
@@ -233,7 +233,7 @@ module _ {p : Plate} {place : ℕ} {window : List ℕ} {from : ℕ} {kept₀ m�
 
   -- any other record: a bad one, a good one
   module _ {kept' m' w' out' : List ℕ} (x : Said) (q : Result Turned BadRecord) (h : longest_line ≤ length out - used) (e : next_record (drop at window) ≡ says x)
-      (turns : Turns p b m (place + at) x kept w out used q kept' m' w' out') where
+      (turns : Turns p b here (place + at) x kept w out used q kept' m' w' out') where
     holds_after : lent_state (runs p (board_left b q) kept' m') kept' w' ≡ lent_after now (place + at) x
     holds_after = held_parts turns.stage turns.bytes turns.room
 

@@ -46,7 +46,7 @@ module _ (s : List ℕ) (at : ℕ) where
       let r = record_read longest at t _ (sym q) in
       record { record_is = record_whole t r.has_kind r.inside ∙ rw (← r.kind_is, ← r.body_is); past = r.past }
 
-  stands-cut : ((i : ℕ) → get_or s i 0 < 256) → (u : Unread) → read_as (Err u) ≡ read_at 0xFFFF at t → record_at t ≡ cut
+  pub stands-cut : ((i : ℕ) → get_or s i 0 < 256) → (u : Unread) → read_as (Err u) ≡ read_at 0xFFFF at t → record_at t ≡ cut
   unfolding read_at length_at
   stands-cut B u e =
       record_cut t (go (ltb (length t) 4) (ltb (length_at t) 2) (ltb 0xFFFF (length_at t)) (ltb (length t) (whole_length t)) refl refl refl refl e)

@@ -98,9 +98,9 @@ pub fn on_verdict(
         // One match in the other: in a nested pattern a proof no longer knows which of the two verdicts it was.
         Ok(verdict) => match verdict {
             Verdict::Done | Verdict::DoneWithWarning => onto(tape, step, answer),
-            Verdict::Error(code) | Verdict::ErrorWithWarning(code) => {
-                Standing::Failed(step, Why::Error(code))
-            }
+            // An arm for each: the edit goes_on_after_an_error slips in one of them alone.
+            Verdict::Error(code) => Standing::Failed(step, Why::Error(code)),
+            Verdict::ErrorWithWarning(code) => Standing::Failed(step, Why::Error(code)),
         },
     }
 }

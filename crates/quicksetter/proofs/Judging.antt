@@ -1,6 +1,6 @@
 -- The bench's answers as numbers. Assumes nothing.
-use Prim.Native.Nat.{ℕ, ◌+◌, ◌*◌}
-use mathlib.Core.Path.{◌≡◌, refl, sym, ap, ◌∙◌}
+use Prim.Native.Nat.{ℕ, ◌+◌, ◌*◌, ◌≤◌}
+use mathlib.Core.Path.{◌≡◌, refl, sym, ap, subst, ◌∙◌}
 use mathlib.Core.Bool.{true, false}
 use mathlib.Core.List.{List}
 use lib.ListN.{length}
@@ -58,6 +58,9 @@ judged v x e q = q ∙ sym (verdict-is x) ∙ ap verdict_number e ∙ without_da
 module _ (q r : List ℕ) (p : Piece) (v : Judging) (e : verdict_of v ≡ without_data (judge q r)) (h : piece_from p ≡ piece_by (length r) v) where
   piece_handed : piece_from p ≡ meaning.handed q r
   piece_handed = h ∙ sym (handed_by q r v e)
+
+  pub piece_small : (p.from ≤ 2) × (p.count ≤ 131)
+  piece_small = subst (λ (x : meaning.Piece). (x.from ≤ 2) × (x.count ≤ 131)) (sym piece_handed) (piece_fits q r)
 
   pub piece_number_lem : p.from * 0x100000000 + p.count ≡ piece_number (meaning.handed q r)
   unfolding piece_number

@@ -1,18 +1,20 @@
 -- What a call leaves: what is no core; a board written into the core. Assumes nothing.
 use Prim.Native.Nat.{ℕ, ◌≤◌}
 use native.Mathlib.Omega.{arith}
-use mathlib.Core.Path.{◌≡◌, sym, ◌∙◌}
+use mathlib.Core.Path.{◌≡◌, sym, ap, ◌∙◌}
 use mathlib.Core.Bool.{false}
 use mathlib.Core.List.{List}
 use lib.ListN.{length}
 use Rattle.meaning.specs.State as meaning
 use Rattle.meaning.specs.State.{Plate}
+use Rattle.meaning.specs.Characters as characters
+use Rattle.meaning.specs.Characters.{remaining}
 use Rattle.meaning.specs.Run.{Call, Carried}
 use Rattle.line.specs.declared.characters.OpenFrame.{OpenFrame}
 use Rattle.line.specs.Line.{line_of}
 use Rattle.state.specs.declared.state.State.{State}
 use Rattle.state.specs.State.{state_with}
-use Rattle.image.specs.Image.{is_core, kept_in, line_bytes, core_of}
+use Rattle.image.specs.Image.{is_core, frame_in, kept_in, held_in, line_bytes, core_of}
 use Rattle.image.specs.Writes.{frame_bytes, PutsBoard}
 use Rattle.image.proofs.Standing.{line_row}
 use Rattle.image.proofs.Parts.{kept-length}
@@ -41,3 +43,8 @@ module _ (p : Plate) (core m w : List ℕ) (g : Call) where
         memory = rw k;
         room = rw k;
       }
+
+-- what remains of the frame, of the state that the core holds
+pub remaining_in : (p : Plate) (core : List ℕ) (tick : ℕ) {f : OpenFrame} {r : characters.Remaining} → f ≡ frame_in core
+    → ((s : meaning.State) (kept : List ℕ) → s.line ≡ line_of f kept → r ≡ remaining p s tick) → r ≡ remaining p (held_in core) tick
+remaining_in p core tick e o = o (held_in core) (kept_in core) (ap (λ (x : OpenFrame). line_of x (kept_in core)) (sym e))

@@ -25,7 +25,7 @@ code_in (Ok u) = record { byte = 0 }
 code_in (Err e) = e
 
 -- a check that fails hands on its error code, and one that passes was no reason to refuse
-failed : (t : Bool) (e : ℕ) {x : ErrorCode} {r : Result Worked ErrorCode} → Err x ≡ refused_if t e → IsErrAnd r (λ y. y ≡ x) → (t ≡ true) × (r ≡ Err (record { byte = e }))
+pub failed : (t : Bool) (e : ℕ) {x : ErrorCode} {r : Result Worked ErrorCode} → Err x ≡ refused_if t e → IsErrAnd r (λ y. y ≡ x) → (t ≡ true) × (r ≡ Err (record { byte = e }))
 unfolding code_in
 failed true e {r = Err y} h i = (refl, ap Err (i ∙ ap code_in h))
 failed true e {r = Ok y} h i = absurd i
@@ -60,7 +60,7 @@ unfolding bytes4
 put_four w x h e = rw e (stored_is-put w 2 (bytes4 x) (omega arith))
 
 -- the first four bytes of a request, one by one
-first-four : (d : List ℕ) → length d ≡ 5 → take 4 d ≡ get_or d 0 0 ∷ get_or d 1 0 ∷ get_or d 2 0 ∷ get_or d 3 0 ∷ []
+pub first-four : (d : List ℕ) → length d ≡ 5 → take 4 d ≡ get_or d 0 0 ∷ get_or d 1 0 ∷ get_or d 2 0 ∷ get_or d 3 0 ∷ []
 first-four (a ∷ b ∷ c ∷ e ∷ d) h = refl
 first-four [] h = absurd (omega arith)
 first-four (a ∷ []) h = absurd (omega arith)

@@ -78,9 +78,9 @@ same_turned b (Err r) (Err t) i j k = let e : r ≡ t = used j in ap Err e
 same_turned b (Ok r) (Err t) i j k = absurd (not-both (sym k))
 same_turned b (Err r) (Ok t) i j k = absurd (not-both k)
 
-pub turn_tight : (p : Plate) (b : Board) (m : List ℕ) (place : ℕ) (x : Said) (kept w out : List ℕ) (used : ℕ) {r t : Result Turned BadRecord} {kept' kept'' m' m'' w' w'' out' out'' : List ℕ}
-    → Turns p b m place x kept w out used r kept' m' w' out' → Turns p b m place x kept w out used t kept'' m'' w'' out'' → Alike r t kept' kept'' m' m'' w' w'' out' out''
-turn_tight p b m place x kept w out used {r} {t} {kept'} {kept''} a c =
+pub turn_tight : (p : Plate) (b : Board) (v : Stage) (place : ℕ) (x : Said) (kept w out : List ℕ) (used : ℕ) {r t : Result Turned BadRecord} {kept' kept'' m' m'' w' w'' out' out'' : List ℕ}
+    → Turns p b v place x kept w out used r kept' m' w' out' → Turns p b v place x kept w out used t kept'' m'' w'' out'' → Alike r t kept' kept'' m' m'' w' w'' out' out''
+turn_tight p b v place x kept w out used {r} {t} {kept'} {kept''} a c =
     let stage = a.stage ∙ sym c.stage in
     let same : kept' ≡ kept'' = a.bytes ∙ sym c.bytes in
     let state : state_of (board_left b r) kept' ≡ state_of (board_left b t) kept'' = ap (state_in (fresh (tape_plate p))) stage in

@@ -229,7 +229,7 @@ module _ (p : Plate) (b : Board) (x : Said) (kept m w : List ℕ) (r : Called) (
   kept-is = rw (held_on (tape_plate p) b kept m w g (willing p b kept m w sound g)) at steps.stepped.bytes
 
   -- a reply is printed, silence is not
-  pub turns_answered : {q : Turned} {out out' : List ℕ} {used : ℕ} (place : ℕ) → Answered r w' out used q out' → Turns p b m place x kept w out used (Ok q) kept' m' w' out'
+  pub turns_answered : {q : Turned} {out out' : List ℕ} {used : ℕ} (place : ℕ) → Answered r w' out used q out' → Turns p b (runs p b kept m) place x kept w out used (Ok q) kept' m' w' out'
   unfolding turn stepped
   turns_answered place a =
       rw steps.said
@@ -244,7 +244,7 @@ module _ (p : Plate) (b : Board) (x : Said) (kept m w : List ℕ) (r : Called) (
 
 -- a bad record changes nothing
 pub turns_bad : (p : Plate) (b : Board) (x : Said) (kept m w kept' m' w' out out' : List ℕ) (used end place : ℕ) → Sound p b kept m w → NotCalled x kept m w kept' m' w'
-    → Printed (bad_line place) out used end out' → Turns p b m place x kept w out used (Err (record { used = end })) kept' m' w' out'
+    → Printed (bad_line place) out used end out' → Turns p b (runs p b kept m) place x kept w out used (Err (record { used = end })) kept' m' w' out'
 unfolding answers.bad_record
 turns_bad p b x kept m w kept' m' w' out out' used end place sound none printed =
     let t = none.bad p (state_of b kept) m place in

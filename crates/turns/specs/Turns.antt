@@ -81,14 +81,14 @@ abbrev pub used_after : Result Turned BadRecord → ℕ
 used_after (Ok r) = r.used
 used_after (Err e) = e.used
 
--- what a record leaves of a running board, of the lent bytes and of the reply room, and what it prints; an error exactly where it ends the tape
-pub record Turns (p : Plate) (b : Board) (m : List ℕ) (place : ℕ) (x : Said) (kept w out : List ℕ) (used : ℕ) (r : Result Turned BadRecord)
+-- what a record leaves of a board b in the stage v, of the lent bytes and of the reply room, and what it prints; an error exactly where it ends the tape
+pub record Turns (p : Plate) (b : Board) (v : Stage) (place : ℕ) (x : Said) (kept w out : List ℕ) (used : ℕ) (r : Result Turned BadRecord)
     (kept' m' w' out' : List ℕ) : Type 0 where
-  pub printed : Printed (turn (runs p b kept m) place x).printed out used (used_after r) out'
-  pub over : is_err r ≡ is_ended (turn (runs p b kept m) place x).stage
-  pub stage : runs p (board_left b r) kept' m' ≡ last_of (runs p b kept m) (turn (runs p b kept m) place x).stage
-  pub bytes : kept' ≡ put kept 0 (stage_kept (turn (runs p b kept m) place x).stage)
-  pub room : w' ≡ put w 0 (reply_to (runs p b kept m) x)
+  pub printed : Printed (turn v place x).printed out used (used_after r) out'
+  pub over : is_err r ≡ is_ended (turn v place x).stage
+  pub stage : runs p (board_left b r) kept' m' ≡ last_of v (turn v place x).stage
+  pub bytes : kept' ≡ put kept 0 (stage_kept (turn v place x).stage)
+  pub room : w' ≡ put w 0 (reply_to v x)
   pub sound : Sound p (board_left b r) kept' m' w'
 
 -- the board's call for what a record says; a call that brings a reply has its tick

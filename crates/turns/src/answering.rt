@@ -5,7 +5,7 @@ ghost use Rattle.board.specs.Board.{state_of};
 ghost use Rattle.tape.specs.Reader.{said_of};
 ghost use Rattle.tape.specs.Passes.{longest_line};
 ghost use Rattle.turns.specs.Openings.{tape_plate};
-ghost use Rattle.turns.specs.Turns.{Sound, quickly, Calls, Turns, Fitting, Answered};
+ghost use Rattle.turns.specs.Turns.{Sound, runs, quickly, Calls, Turns, Fitting, Answered};
 
 use board::{Board, Stepped};
 use line::Plate;
@@ -129,7 +129,7 @@ pub fn turn(
 ) -> Result<Turned, BadRecord>
     requires within_limits { Sound plate board kept.old memory.old reply.old }
     requires line_fits { used + longest_line ≤ length out.old }
-    ensures { Turns plate board memory.old place (said_of event) kept.old reply.old out.old used result kept.new memory.new reply.new out.new }
+    ensures { Turns plate board (runs plate board kept.old memory.old) place (said_of event) kept.old reply.old out.old used result kept.new memory.new reply.new out.new }
 {
     let Some(called) = ask(plate, board, event, kept, memory, reply) else {
         let used = tape::bad_line(place, out, used);

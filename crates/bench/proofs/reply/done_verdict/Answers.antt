@@ -1,6 +1,7 @@
 -- What is left to show of `bench::reply::done_verdict`: its checks of length and repeated bytes are those of `content`.
 use Rattle.std.proofs.Common.{◌∙◌, sym, ap}
 use Rattle.meaning.specs.Frames.{command_byte}
+use Rattle.std.specs.Prelude.{Some}
 use Rattle.std.specs.Result.{result_err}
 use Rattle.std.proofs.lemmas.Option.{same_Some}
 use Rattle.std.proofs.lemmas.Result.{err_from_is_err_and}
@@ -31,7 +32,7 @@ returns-then-not-same c =
     let by = ap row_of (sym c.in_ok-row.ensures.ok_part) ∙ c.row_of.ensures in
     let right = right_by_row c.in_ok-row.row c.args.request.now c.args.reply.now _ _ _ by
     c.data_part-asked.ensures.value c.data_part-answered.ensures.value c.length_fits.ensures in
-    let repeats = repeated_by_row c.in_ok-row.row c.args.request.now c.args.reply.now _ _ _ _ _ by
+    let repeats = repeated_by_row (Some c.in_ok-row.row) c.args.request.now c.args.reply.now _ _ _ _ _ by
     c.data_part-asked.ensures.value c.data_part-answered.ensures.value c.front-2.ensures.value c.front.ensures.value c.same.ensures in
     sym (ap without_data (not-repeated _ _ c.requires.ordinary (right ∙ c.if-not-length_fits.false) (repeats ∙ c.if-not-same.true)))
 
@@ -41,7 +42,7 @@ returns-then-reply-lt128 c =
     let by = ap row_of (sym c.in_ok-row.ensures.ok_part) ∙ c.row_of.ensures in
     let right = right_by_row c.in_ok-row.row c.args.request.now c.args.reply.now _ _ _ by
     c.data_part-asked.ensures.value c.data_part-answered.ensures.value c.length_fits.ensures in
-    let repeats = repeated_by_row c.in_ok-row.row c.args.request.now c.args.reply.now _ _ _ _ _ by
+    let repeats = repeated_by_row (Some c.in_ok-row.row) c.args.request.now c.args.reply.now _ _ _ _ _ by
     c.data_part-asked.ensures.value c.data_part-answered.ensures.value c.front-2.ensures.value c.front.ensures.value c.same.ensures in
     sym (ap without_data (done-calm _ _ c.requires.ordinary (right ∙ c.if-not-length_fits.false) (repeats ∙ c.if-not-same.false) c.if-reply-lt128.true))
 
@@ -51,6 +52,6 @@ returns c =
     let by = ap row_of (sym c.in_ok-row.ensures.ok_part) ∙ c.row_of.ensures in
     let right = right_by_row c.in_ok-row.row c.args.request.now c.args.reply.now _ _ _ by
     c.data_part-asked.ensures.value c.data_part-answered.ensures.value c.length_fits.ensures in
-    let repeats = repeated_by_row c.in_ok-row.row c.args.request.now c.args.reply.now _ _ _ _ _ by
+    let repeats = repeated_by_row (Some c.in_ok-row.row) c.args.request.now c.args.reply.now _ _ _ _ _ by
     c.data_part-asked.ensures.value c.data_part-answered.ensures.value c.front-2.ensures.value c.front.ensures.value c.same.ensures in
     sym (ap without_data (done-warned _ _ c.requires.ordinary (right ∙ c.if-not-length_fits.false) (repeats ∙ c.if-not-same.false) c.if-reply-lt128.false))
