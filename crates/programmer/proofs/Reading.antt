@@ -23,10 +23,11 @@ use Rattle.records.specs.declared.record.Record.{Record}
 use Rattle.records.specs.declared.record.Unread.{Unread}
 use Rattle.records.specs.declared.record.Unread.TheVariants.{More, Bad}
 use Rattle.records.proofs.Windows.{record_read, record_cut, record_whole}
-use Rattle.programmer.specs.Wishes.{Field, Wish, Checked, no_field, wanted, field_in, body_of, is_field, of_its_size, first_wrong, checked_from, fields_from, wish_of}
+use Rattle.programmer.specs.Wishes.{Field, Wish, Checked, good, no_field, wanted, field_in, body_of, is_field, of_its_size, first_wrong, checked_from, fields_from, wish_of}
 use Rattle.programmer.specs.Reading.{RecordLies, RecordStands, FieldLies, field_as, Finds}
 use Rattle.programmer.specs.Promises.{FieldsFit}
-use Rattle.programmer.specs.declared.wish.TapeFault.TheVariants.{BadRecord}
+use Rattle.programmer.specs.declared.wish.TapeFault.{TapeFault}
+use Rattle.programmer.specs.declared.wish.TapeFault.TheVariants.{BadRecord, WrongSize}
 use Rattle.programmer.specs.declared.wish.Wanted.{Wanted}
 
 -- a length of two bytes is no more than they can say
@@ -121,6 +122,20 @@ module _ (s : List ℕ) (at : ℕ) (w : Checked) where
     pub bad_here : (left : ℕ) → 0 < left → is_field (record_at (drop at s)) ≡ false → Err (BadRecord at) ≡ checked_from left w at (drop at s)
     bad_here zero h e = absurd (omega arith)
     bad_here (suc k) h e = sym (opened (suc k) k refl ∙ rw e)
+
+-- a field's record with no wrong size before it, and one past the first wrong size
+module _ (s : List ℕ) (at : ℕ) (more : at < length s) (left rest : ℕ) (one : left ≡ suc rest) (e : Record) (h : FieldLies s at e) where
+  pub sized_more : of_its_size e.body.now ≡ true → checked_from rest good e.next.at (drop e.next.at s) ≡ checked_from left good at (drop at s)
+  unfolding first_wrong
+  sized_more f = rw f at (fault_more s at good more left rest one e h)
+
+  pub wrong_here : of_its_size e.body.now ≡ false → checked_from rest (Err (WrongSize at)) e.next.at (drop e.next.at s) ≡ checked_from left good at (drop at s)
+  unfolding first_wrong
+  wrong_here f = rw f at (fault_more s at good more left rest one e h)
+
+  pub wrong_more : (x : TapeFault) → checked_from rest (Err x) e.next.at (drop e.next.at s) ≡ checked_from left (Err x) at (drop at s)
+  unfolding first_wrong
+  wrong_more x = fault_more s at (Err x) more left rest one e h
 
 -- one wanted field more, or none
 pub none_allowed : (t : List ℕ) (left : ℕ) → left ≡ 0 → fields_from left t ≡ []

@@ -1,5 +1,5 @@
 // The label tape, checked and read (02, Req 04).
-ghost use Rattle.std.specs.Prelude.{◌≡◌, ◌≤◌, take, drop, Ok};
+ghost use Rattle.std.specs.Prelude.{◌≡◌, ◌≤◌, take, drop, Ok, Err};
 ghost use Rattle.std.specs.Iterator.{YieldsFirstBy, item_count};
 ghost use Rattle.meaning.specs.Fields.{bytes_of, blocks};
 ghost use Rattle.records.specs.Records.{record_at};
@@ -77,42 +77,56 @@ fn is_sized(body: &[u8]) -> bool
     body.len() == 1 + 16 * usize::from(blocks)
 }
 
-// The first wrong size is remembered.
-#[tactic(auto, unfolding(crate::specs::Wishes::first_wrong))]
-fn first_wrong(wrong: Result<(), TapeFault>, fits: bool, at: usize) -> Result<(), TapeFault>
-    ensures { result ≡ specs.first_wrong wrong fits at }
+// Past a record of a wrong size, the first: a bad record tells more, another wrong size does not. `many` fields may still come.
+#[tactic(auto, using(crate::proofs::Reading::fault_end, crate::proofs::Reading::none_left, crate::proofs::Reading::bad_here, crate::proofs::Reading::wrong_more))]
+fn past_wrong(tape: &[u8], wrong: TapeFault, from: usize, many: usize) -> Result<(), TapeFault>
+    requires { many ≤ 256 }
+    ensures { result ≡ checked_from many (Err wrong) from (drop from tape.now) }
 {
-    if fits {
-        return wrong;
-    }
-    wrong.and(Err(TapeFault::WrongSize { at }))
-}
-
-// The records behind the codes.
-#[tactic(auto, using(crate::proofs::Reading::fault_end, crate::proofs::Reading::none_left, crate::proofs::Reading::bad_here, crate::proofs::Reading::fault_more))]
-fn check_fields(tape: &[u8]) -> Result<(), TapeFault>
-    ensures { result ≡ checked_from 256 (Ok tt) 8 (drop 8 tape.now) }
-{
-    let mut wrong = Ok(());
-    let mut at = 8;
-    for _ in 0..MOST_FIELDS {
+    let mut at = from;
+    for _ in 0..many {
         if tape.len() <= at {
-            return wrong;
+            return Err(wrong);
         }
         let Some(record) = field_here(tape, at) else {
             return Err(TapeFault::BadRecord { at });
         };
-        wrong = first_wrong(wrong, is_sized(record.body), at);
         at = record.next.at;
     }
     if at < tape.len() {
         return Err(TapeFault::BadRecord { at });
     }
-    wrong
+    Err(wrong)
 }
 
-// "The whole tape is checked before the first request".
+// The records behind the codes. No wrong size is carried along: of a good tape there is none.
+#[tactic(auto, using(crate::proofs::Reading::fault_end, crate::proofs::Reading::none_left, crate::proofs::Reading::bad_here, crate::proofs::Reading::sized_more, crate::proofs::Reading::wrong_here))]
+fn check_fields(tape: &[u8]) -> Result<(), TapeFault>
+    ensures { result ≡ checked_from 256 (Ok tt) 8 (drop 8 tape.now) }
+{
+    let mut at = 8;
+    for before in 0..MOST_FIELDS {
+        if tape.len() <= at {
+            return Ok(());
+        }
+        let Some(record) = field_here(tape, at) else {
+            return Err(TapeFault::BadRecord { at });
+        };
+        if !is_sized(record.body) {
+            let many = MOST_FIELDS - 1 - before;
+            return past_wrong(tape, TapeFault::WrongSize { at }, record.next.at, many);
+        }
+        at = record.next.at;
+    }
+    if at < tape.len() {
+        return Err(TapeFault::BadRecord { at });
+    }
+    Ok(())
+}
+
+// "The whole tape is checked before the first request". Inlined: as a call it costs two instructions a field more, and stack.
 #[tactic(auto, unfolding(crate::specs::Wishes::checked_tape))]
+#[inline(always)]
 pub fn check(tape: &[u8]) -> Result<(), TapeFault>
     ensures { result ≡ checked_tape tape.now }
 {

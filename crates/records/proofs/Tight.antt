@@ -2,8 +2,8 @@
 use Prim.Native.Nat.{ℕ, ◌+◌}
 use mathlib.Core.Path.{◌≡◌, refl, sym, ap, ◌∙◌}
 use mathlib.Core.List.{List}
-use Rattle.std.specs.Prelude.{Result, Ok, Err, IfOk}
-use Rattle.records.specs.Reader.{Whole, read_as, read_at}
+use Rattle.std.specs.Prelude.{Result, Ok, Err}
+use Rattle.records.specs.Reader.{Whole, read_as, read_at, LiesIn}
 use Rattle.records.specs.declared.record.Record.{Record}
 use Rattle.records.specs.declared.record.Unread.{Unread}
 
@@ -11,10 +11,6 @@ use Rattle.records.specs.declared.record.Unread.{Unread}
 abbrev read_back : ℕ × ℕ → Result Whole Unread → Result Record Unread
 read_back place (Ok w) = Ok (record { kind = w.kind; start = w.start; body = record { ref_ptr = (place.0, w.start + place.1); now = w.body }; next = record { at = w.next } })
 read_back place (Err e) = Err e
-
--- the body lies in the window, where the answer says
-abbrev pub LiesIn : ℕ × ℕ → Result Record Unread → Type 0
-LiesIn place a = IfOk a (λ (r : Record). r.body.ref_ptr ≡ (place.0, r.start + place.1))
 
 read_back_lem : (place : ℕ × ℕ) (a : Result Record Unread) → LiesIn place a → read_back place (read_as a) ≡ a
 read_back_lem place (Ok r) p = rw (sym p) refl

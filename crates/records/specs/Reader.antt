@@ -1,5 +1,5 @@
 -- What the reader answers. Assumes nothing.
-use Rattle.std.specs.Prelude.{ℕ, ◌+◌, ◌-◌, List, length, ltb, Result, Ok, Err}
+use Rattle.std.specs.Prelude.{ℕ, ◌+◌, ◌-◌, ◌≡◌, List, length, ltb, Result, Ok, Err, IfOk}
 use Rattle.std.specs.Result.{result_map_both}
 use Rattle.meaning.specs.Bytes.{pick, part, little}
 use Rattle.records.specs.Records.{length_at, whole_length}
@@ -16,6 +16,10 @@ pub record Whole : Type 0 where
 
 abbrev pub read_as : Result Record Unread → Result Whole Unread
 read_as r = result_map_both (λ (w : Record). record { kind = w.kind; start = w.start; body = w.body.now; next = w.next.at }) (λ (e : Unread). e) r
+
+-- the body lies in the window, which stands at a place of memory, where the answer says
+abbrev pub LiesIn : ℕ × ℕ → Result Record Unread → Type 0
+LiesIn place r = IfOk r (λ (w : Record). w.body.ref_ptr ≡ (place.0, w.start + place.1))
 
 -- what stands at the front of t, which begins at a place of the window: More where the window ends before the record does, Bad where
 -- no record begins so: its length is too short for a kind, or is over the longest that the reader's kinds have

@@ -1,6 +1,6 @@
 // The reader of records: length (2 bytes, little-endian, counting what follows), kind (2 bytes), body. It knows no kinds.
-ghost use Rattle.std.specs.Prelude.{◌≡◌, ◌+◌, drop, IfOk};
-ghost use Rattle.records.specs.Reader.{read_as, read_at};
+ghost use Rattle.std.specs.Prelude.{◌≡◌, drop};
+ghost use Rattle.records.specs.Reader.{read_as, read_at, LiesIn};
 
 // The place of the next record in the part of the tape that is at hand. It goes beside the part and holds no slice of it: the part is filled anew between two reads.
 #[derive(Clone, Copy)]
@@ -28,7 +28,7 @@ impl Cursor {
     // A length over the longest that the caller's kinds have is bad at once, so that no more than that has to be at hand.
     pub fn read(self, s: &[u8], longest: u16) -> Result<Record<'_>, Unread>
         ensures value { read_as result ≡ read_at longest self.at (drop self.at s.now) }
-        ensures place { IfOk result (λ r. r.body.ref_ptr ≡ (s.entry.ref_ptr.0, r.start + s.entry.ref_ptr.1)) }
+        ensures place { LiesIn s.entry.ref_ptr result }
     {
         let at = self.at;
         if s.len() < at {
