@@ -12,8 +12,12 @@ abbrev read_back : ℕ × ℕ → Result Whole Unread → Result Record Unread
 read_back place (Ok w) = Ok (record { kind = w.kind; start = w.start; body = record { ref_ptr = (place.0, w.start + place.1); now = w.body }; next = record { at = w.next } })
 read_back place (Err e) = Err e
 
+-- a record whose body lies at another place
+abbrev placed : Record → ℕ × ℕ → Record
+placed r place = record { kind = r.kind; start = r.start; body = record { ref_ptr = place; now = r.body.now }; next = r.next }
+
 read_back_lem : (place : ℕ × ℕ) (a : Result Record Unread) → LiesIn place a → read_back place (read_as a) ≡ a
-read_back_lem place (Ok r) p = rw (sym p) refl
+read_back_lem place (Ok r) p = ap (λ (q : ℕ × ℕ). Ok (placed r q)) (sym p)
 read_back_lem place (Err e) p = refl
 
 -- by both clauses of `read`
