@@ -15,7 +15,7 @@ use Rattle.meaning.specs.Frames.{command_byte, data_of}
 use Rattle.meaning.specs.Bench.{in_range, allowed, address_ok, address_for, request, writes, written, judge, right_address, bare, refusal, done, failed, bad, branch, warning, error_reply, right_length, repeated, content}
 use Rattle.meaning.proofs.Steps.{Named, named}
 use Rattle.meaning.proofs.Wire.{length-sealed, writes_well}
-use Rattle.wire.specs.Table.{length_of, row_of}
+use Rattle.wire.specs.Table.{row_of}
 use Rattle.wire.specs.declared.table.Row.{Row}
 use Rattle.bench.specs.Outcomes.{written_of}
 use Rattle.bench.specs.declared.request.Unwritten.TheVariants.{R4, R5}
@@ -31,10 +31,10 @@ unfolding address_ok
 address_small n e k = leb-true n 31 (either_cases (leb n 31) (eqb n 255) e (ne_eqb n 255 k))
 
 -- the length of a request's data is right by the code's row just where it is by the meaning's
-pub fits-asked : (r : Row) (c : ℕ) (d : List ℕ) (b : Bool) → row_of (Some r) ≡ row (command_of c)
-    → ((x : List ℕ) → length x ≡ length d → b ≡ length_fits (length_of r.request) d x) → asked (command_of c) d ≡ b
+pub fits-asked : (r : Option Row) (c : ℕ) (d : List ℕ) (b : Bool) → row_of r ≡ row (command_of c) → b ≡ length_fits (row_of r).request d d
+    → asked (command_of c) d ≡ b
 unfolding asked
-fits-asked r c d b e h = ap (λ (w : meaning.Row). length_fits w.request d d) (sym e) ∙ sym (h d refl)
+fits-asked r c d b e h = ap (λ (w : meaning.Row). length_fits w.request d d) (sym e) ∙ sym h
 
 -- .. and of an unknown command none is
 pub none-allowed : (c : ℕ) (d : List ℕ) → row_of None ≡ row (command_of c) → allowed (command_of c) d ≡ false
@@ -107,7 +107,7 @@ module _ (q r : List ℕ) (e : error_reply q r ≡ true) where
   error_warned n h = error-told true n (le-leb 128 (arg r 1) h)
 
 -- B5 and B6 by the code's row
-pub fits-reply : (r : Row) (q p : List ℕ) (b : Bool) → row_of (Some r) ≡ row (command_of (command_byte q)) → b ≡ length_fits (length_of r.reply) (data_of q) (data_of p)
+pub fits-reply : (r : Option Row) (q p : List ℕ) (b : Bool) → row_of r ≡ row (command_of (command_byte q)) → b ≡ length_fits (row_of r).reply (data_of q) (data_of p)
     → right_length q p ≡ b
 unfolding right_length
 fits-reply r q p b e h = ap (λ (w : meaning.Row). length_fits w.reply (data_of q) (data_of p)) (sym e) ∙ sym h
@@ -118,10 +118,10 @@ unfolding repeated
 fits-repeated r q p b e h = ap (λ (w : meaning.Row). same (take w.repeats (data_of p)) (take w.repeats (data_of q))) (sym e) ∙ sym h
 
 -- .. where the code looks at parts x and y that are the data of request and reply, and at fronts u and v of them
-pub right_by_row : (r : Row) (q p x y : List ℕ) (b : Bool) → row_of (Some r) ≡ row (command_of (command_byte q)) → x ≡ data_of q → y ≡ data_of p
-    → ((d : List ℕ) → length d ≡ length y → b ≡ length_fits (length_of r.reply) x d) → right_length q p ≡ b
+pub right_by_row : (r : Option Row) (q p x y : List ℕ) (b : Bool) → row_of r ≡ row (command_of (command_byte q)) → x ≡ data_of q → y ≡ data_of p
+    → ((d : List ℕ) → length d ≡ length y → b ≡ length_fits (row_of r).reply x d) → right_length q p ≡ b
 right_by_row r q p x y b e f g h =
-    fits-reply r q p b e (h (data_of p) (ap (λ (d : List ℕ). length d) (sym g)) ∙ ap (λ (d : List ℕ). length_fits (length_of r.reply) d (data_of p)) f)
+    fits-reply r q p b e (h (data_of p) (ap (λ (d : List ℕ). length d) (sym g)) ∙ ap (λ (d : List ℕ). length_fits (row_of r).reply d (data_of p)) f)
 
 pub repeated_by_row : (r : Option Row) (q p x y u v : List ℕ) (b : Bool) → row_of r ≡ row (command_of (command_byte q)) → x ≡ data_of q → y ≡ data_of p
     → u ≡ take (row_of r).repeats x → v ≡ take (row_of r).repeats y → b ≡ same v u → repeated q p ≡ b

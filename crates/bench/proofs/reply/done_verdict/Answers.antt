@@ -22,7 +22,7 @@ pub returns-then-not-length_fits : goal.returns-then-not-length_fits
 unfolding command_byte
 returns-then-not-length_fits c =
     let by = ap row_of (sym c.in_ok-row.ensures.ok_part) ∙ c.row_of.ensures in
-    let right = right_by_row _ c.args.request.now c.args.reply.now _ _ _ by
+    let right = right_by_row (Some c.in_ok-row.row) c.args.request.now c.args.reply.now _ _ _ by
     c.data_part-asked.ensures.value c.data_part-answered.ensures.value c.length_fits.ensures in
     sym (ap without_data (wrong_length _ _ c.requires.ordinary (right ∙ c.if-not-length_fits.true)))
 
@@ -30,7 +30,7 @@ pub returns-then-not-same : goal.returns-then-not-same
 unfolding command_byte
 returns-then-not-same c =
     let by = ap row_of (sym c.in_ok-row.ensures.ok_part) ∙ c.row_of.ensures in
-    let right = right_by_row c.in_ok-row.row c.args.request.now c.args.reply.now _ _ _ by
+    let right = right_by_row (Some c.in_ok-row.row) c.args.request.now c.args.reply.now _ _ _ by
     c.data_part-asked.ensures.value c.data_part-answered.ensures.value c.length_fits.ensures in
     let repeats = repeated_by_row (Some c.in_ok-row.row) c.args.request.now c.args.reply.now _ _ _ _ _ by
     c.data_part-asked.ensures.value c.data_part-answered.ensures.value c.front-2.ensures.value c.front.ensures.value c.same.ensures in
@@ -40,7 +40,7 @@ pub returns-then-reply-lt128 : goal.returns-then-reply-lt128
 unfolding command_byte
 returns-then-reply-lt128 c =
     let by = ap row_of (sym c.in_ok-row.ensures.ok_part) ∙ c.row_of.ensures in
-    let right = right_by_row c.in_ok-row.row c.args.request.now c.args.reply.now _ _ _ by
+    let right = right_by_row (Some c.in_ok-row.row) c.args.request.now c.args.reply.now _ _ _ by
     c.data_part-asked.ensures.value c.data_part-answered.ensures.value c.length_fits.ensures in
     let repeats = repeated_by_row (Some c.in_ok-row.row) c.args.request.now c.args.reply.now _ _ _ _ _ by
     c.data_part-asked.ensures.value c.data_part-answered.ensures.value c.front-2.ensures.value c.front.ensures.value c.same.ensures in
@@ -50,7 +50,7 @@ pub returns : goal.returns
 unfolding command_byte
 returns c =
     let by = ap row_of (sym c.in_ok-row.ensures.ok_part) ∙ c.row_of.ensures in
-    let right = right_by_row c.in_ok-row.row c.args.request.now c.args.reply.now _ _ _ by
+    let right = right_by_row (Some c.in_ok-row.row) c.args.request.now c.args.reply.now _ _ _ by
     c.data_part-asked.ensures.value c.data_part-answered.ensures.value c.length_fits.ensures in
     let repeats = repeated_by_row (Some c.in_ok-row.row) c.args.request.now c.args.reply.now _ _ _ _ _ by
     c.data_part-asked.ensures.value c.data_part-answered.ensures.value c.front-2.ensures.value c.front.ensures.value c.same.ensures in

@@ -1,4 +1,5 @@
 -- What is left to show of `bench::request::is_allowed`: the length is right by the code's row, then the numbers are in range.
+use Rattle.std.specs.Prelude.{Some}
 use Rattle.std.proofs.lemmas.Grind.{common_steps}
 use Rattle.meaning.specs.Bytes.{both}
 use Rattle.meaning.specs.State.{between}
@@ -23,22 +24,22 @@ returns-in_default c = sym (none-allowed _ _ c.in_default.ensures)
 
 pub returns-then-not-length_fits : goal.returns-then-not-length_fits
 returns-then-not-length_fits c =
-    let right = fits-asked c.in-Some.row _ _ _ c.in-Some.ensures c.length_fits.ensures in
+    let right = fits-asked (Some c.in-Some.row) _ _ _ c.in-Some.ensures (c.length_fits.ensures _ refl) in
     sym (not-asked _ _ (right ∙ c.if-not-length_fits.true))
 
 pub returns-in-74 : goal.returns-in-74
 returns-in-74 c =
-    let right = fits-asked c.in-Some.row _ _ _ c.in-Some.ensures c.length_fits.ensures in
+    let right = fits-asked (Some c.in-Some.row) _ _ _ c.in-Some.ensures (c.length_fits.ensures _ refl) in
     let e = rw (c.new.ensures.start, c.new.ensures.end, c.new.ensures.exhausted) at c.contains.ensures.value in
     sym (asked_well _ _ _ (right ∙ c.if-not-length_fits.false) (in_range_4a _ _ _ c.in-74.is c.byte_at.ensures ∙ between_told c.byte_at.result ∙ sym e))
 
 pub returns-in-79 : goal.returns-in-79
 returns-in-79 c =
-    let right = fits-asked c.in-Some.row _ _ _ c.in-Some.ensures c.length_fits.ensures in
+    let right = fits-asked (Some c.in-Some.row) _ _ _ c.in-Some.ensures (c.length_fits.ensures _ refl) in
     sym (asked_well _ _ _ (right ∙ c.if-not-length_fits.false) (in_range_4f _ _ _ c.in-79.is c.byte_at-in-79.ensures))
 
 pub returns-in_default-command : goal.returns-in_default-command
 returns-in_default-command c =
-    let right = fits-asked c.in-Some.row _ _ _ c.in-Some.ensures c.length_fits.ensures in
+    let right = fits-asked (Some c.in-Some.row) _ _ _ c.in-Some.ensures (c.length_fits.ensures _ refl) in
     let e = right ∙ c.if-not-length_fits.false in
     sym (asked_well _ _ _ e (in_range_else _ _ e (search rules) (search rules)))
